@@ -19,6 +19,7 @@ pub struct Stream<T> {
 }
 
 impl<T> Stream<T> {
+    /// A reader or a writer that has not failed yet.
     pub fn new(inner: T) -> Stream<T>
         ensures { result.faults ≡ 0 }
     {
@@ -68,7 +69,10 @@ pub struct RealWorld<'a, R: Files> {
 }
 
 impl<'a, R: Files> RealWorld<'a, R> {
-    pub fn new(rt: &'a R, alloc: Global) -> RealWorld<'a, R> {
+    /// The system, of which nothing was opened yet.
+    pub fn new(rt: &'a R, alloc: Global) -> RealWorld<'a, R>
+        ensures { ⟦<RealWorld<'a, R> as World>⟧.state result ≡ record { faults = 0; lent = 0; files = []; opened = [] } }
+    {
         RealWorld {
             rt,
             back: Vec::new(alloc),
