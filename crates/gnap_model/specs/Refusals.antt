@@ -1,4 +1,4 @@
--- Why a call is refused, code by code (RFC 9635, section 3.6; RFC 9767, section 3.4): what holds of the call and of the notes before it where it is
+-- Why a call is refused, code by code (RFC 9635, section 3.6; RFC 9767, section 3.5): what holds of the call and of the notes before it where it is
 -- answered with an error. The trail has the newest note first.
 use Rattle.std.specs.Prelude.{ℕ, ◌≡◌, ◌≢◌, ◌≤◌, ◌<◌, ◌+◌, ◌⊎◌, List, [], length, is_some, IsTrue, IsFalse}
 use Rattle.std.specs.declared.option.Option.{Option}
