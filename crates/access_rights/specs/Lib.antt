@@ -1,0 +1,2 @@
+pub use Rattle.gnap_model.specs.Rights
+pub mod Inclusion

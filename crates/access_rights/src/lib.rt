@@ -1,0 +1,12 @@
+//! Access rights of GNAP (RFC 9635, section 8): whether rights cover others, which of them a resource server serves, and rights as JSON.
+//!
+//! `covers` is inclusion of the sets of atoms, by the law `covers_is_inclusion`. Each reader gives exactly what its definition in `specs/` gives, up to
+//! want of memory, and each printer the value that stands for what it is handed. Nothing here keeps a state.
+#![tactic(auto)]
+
+pub mod inclusion;
+pub mod served;
+
+pub use gnap_model::rights::{Names, Right, RightObject, Rights, Texts};
+pub use inclusion::covers;
+pub use served::{served_part, serves};
