@@ -61,19 +61,23 @@ pub grant_is : (notes : List Note) → next_grant (reverse notes) ≡ count_by i
 grant_is notes = ap (λ n. n + 1) (sum_by-reverse _ notes)
 
 -- The counts of a list that lies in memory fit.
-pub joined_count : (p : Note → Bool) (notes more all : List Note) → all ≡ notes ++ more → length all < 2 ^ 57
-    → count_by p notes + count_by p more < 2 ^ 57
-joined_count p notes more all is few =
+pub joined_count : (p : Note → Bool) (notes more part all : List Note) (n k : ℕ)
+    → n ≡ count_by p notes → k ≡ count_by p part → part ≡ more → all ≡ notes ++ more → length all < 2 ^ 57
+    → n + k < 2 ^ 57
+joined_count p notes more part all n k is_n is_k same is few =
     let parts = sum_by-append (λ note. cond (p note) 1 0) notes more in
     let le = count_by-le-length p all in
-    let same = ap (count_by p) is in omega arith
+    let whole = ap (count_by p) is in
+    let other = ap (count_by p) same in omega arith
 
-pub joined_values : (notes more all : List Note) → all ≡ notes ++ more → length all < 2 ^ 57
-    → value_count notes + value_count more < 2 ^ 58
-joined_values notes more all is few =
+pub joined_values : (notes more part all : List Note) (n k : ℕ)
+    → n ≡ value_count notes → k ≡ value_count part → part ≡ more → all ≡ notes ++ more → length all < 2 ^ 57
+    → n + k < 2 ^ 58
+joined_values notes more part all n k is_n is_k same is few =
     let parts = sum_by-append (λ note. length (note_values note)) notes more in
     let le = value_count-le all in
-    let same = ap value_count is in omega arith
+    let whole = ap value_count is in
+    let other = ap value_count same in omega arith
 
 pub values_in_memory : (notes all : List Note) → all ≡ notes → length all < 2 ^ 57 → value_count notes < 2 ^ 58
 values_in_memory notes all is few =

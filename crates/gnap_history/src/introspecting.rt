@@ -1,5 +1,5 @@
 //! The answer to an introspection (RFC 9767, section 3.3).
-ghost use Rattle.std.specs.Prelude.{◌≡◌, IfOk, reverse, option_map, if◌then◌else◌};
+ghost use Rattle.std.specs.Prelude.{◌≡◌, IfOk, reverse};
 ghost use Rattle.std.specs.List.{list_any, list_all};
 ghost use Rattle.gnap_model.specs.Common.{where_given};
 ghost use Rattle.gnap_model.specs.Rights.{covers as rights_cover, serves as names_serve};
@@ -13,7 +13,8 @@ ghost use Rattle.gnap_model.specs.declared.objects.ErrorCode.TheVariants.{Invali
 
 use crate::keys::server_names;
 use crate::look_ups::live_token;
-use crate::temporary::{covers, served_part, serves};
+use access_rights::inclusion::covers;
+use access_rights::served::{served_part, serves};
 use gnap_io::bytes::Bytes;
 use gnap_io::memory::{Duplicate, Mem};
 use gnap_io::seq::Seq;
@@ -86,30 +87,26 @@ fn suits(names: &Names, binding: Option<Binding>, wanted: &Option<Rights>, token
         && covers_wanted(&token.rights, wanted)
 }
 
-/// The live token is shown with the rights that the server serves, if it suits the server and what it asks.
+/// A live token is shown with the rights that the server serves, if it suits the server and what it asks.
 fn show(
+    alloc: Global,
     names: &Names,
     binding: Option<Binding>,
     wanted: &Option<Rights>,
-    token: Option<&TokenNote>,
+    token: &TokenNote,
 ) -> Result<Reply, Mem>
-    ensures { IfOk result (λ reply. (supply : _) → reply ≡ (outcome_of supply (show_token names.now binding wanted.now (option_map (λ t. t.now) token))).reply) }
+    ensures { IfOk result (λ reply. (supply : _) → reply ≡ (outcome_of supply (show_token names.now binding wanted.now (Some token.now))).reply) }
 {
-    match token {
-        Some(token) => {
-            if !suits(names, binding, wanted, token) {
-                return Ok(Reply::Inactive);
-            }
-            Ok(Reply::Active {
-                access: served_part(&token.rights, names)?,
-                iat: token.issued,
-                exp: token.until,
-                instance: token.key.copy()?,
-                bearer: token.bearer,
-            })
-        }
-        None => Ok(Reply::Inactive),
+    if !suits(names, binding, wanted, token) {
+        return Ok(Reply::Inactive);
     }
+    Ok(Reply::Active {
+        access: served_part(alloc, &token.rights, names)?,
+        iat: token.issued,
+        exp: token.until,
+        instance: token.key.copy()?,
+        bearer: token.bearer,
+    })
 }
 
 /// Answers an introspection, which has no notes.
@@ -132,5 +129,8 @@ pub fn introspect(
             code: ErrorCode::InvalidAccess,
         });
     }
-    show(names, binding, wanted, live_token(notes, now, value.as_slice()))
+    match live_token(notes, now, value.as_slice()) {
+        Some(token) => show(alloc, names, binding, wanted, token),
+        None => Ok(Reply::Inactive),
+    }
 }

@@ -7,5 +7,5 @@ pub mod keys;
 pub mod limits;
 pub mod look_ups;
 pub mod note_list;
-pub mod temporary;
+pub mod opening;
 pub mod values;
