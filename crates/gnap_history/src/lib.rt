@@ -5,6 +5,7 @@ pub mod gnap;
 pub mod introspecting;
 pub mod keys;
 pub mod limits;
+pub mod list_core;
 pub mod look_ups;
 pub mod note_list;
 pub mod opening;
