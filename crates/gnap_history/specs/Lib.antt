@@ -1,0 +1,5 @@
+pub mod AtOnce
+pub mod Counts
+pub mod Fits
+pub mod Gnap
+pub mod Rounds

@@ -1,0 +1,60 @@
+//! The limits on live grants and live tokens.
+ghost use Rattle.std.specs.Prelude.{◌≡◌, ℕ, List, length, reverse, nat_le, ◌≤◌};
+ghost use Rattle.std.specs.List.{count_by};
+ghost use Rattle.gnap_model.specs.Limits.{live_limit};
+ghost use Rattle.gnap_model.specs.Standing.{live_grants as grants_live, live_tokens as tokens_live};
+ghost use Rattle.gnap_model.specs.Begin.{pass_limit};
+
+use crate::look_ups::{is_finalized, is_live};
+use crate::note_list::NoteList;
+use gnap_model::notes::Note;
+
+/// So many grants may be live, and so many tokens.
+pub const LIVE_LIMIT: usize = 65_536;
+
+/// How many grants are live at this moment.
+fn live_grants(notes: &[Note], now: u64) -> usize
+    ensures { result ≡ grants_live (reverse notes.now) now }
+{
+    let mut count = 0;
+    for note in notes {
+        if let Note::Opened(opening) = note {
+            if !is_finalized(notes, opening.grant, now) {
+                count += 1;
+            }
+        }
+    }
+    count
+}
+
+/// How many tokens are live at this moment.
+fn live_tokens(notes: &[Note], now: u64) -> usize
+    ensures count { result ≡ length (tokens_live (reverse notes.now) now) }
+    ensures few { result ≤ length notes.now }
+{
+    let mut count = 0;
+    for note in notes {
+        if let Note::Issued(token) = note {
+            if is_live(notes, token, now) {
+                count += 1;
+            }
+        }
+    }
+    count
+}
+
+/// As many grants are live as may be. They are counted only where so many were opened.
+pub fn has_many_grants(notes: &NoteList, now: u64) -> bool
+    ensures { result ≡ nat_le live_limit (grants_live (reverse notes.now) now) }
+{
+    notes.grants() >= LIVE_LIMIT && live_grants(notes.as_slice(), now) >= LIVE_LIMIT
+}
+
+/// The live tokens and so many more are too many. They are counted only where so many were issued.
+pub fn passes_limit(notes: &NoteList, now: u64, more: usize) -> bool
+    requires { more ≤ 8 }
+    ensures { result ≡ pass_limit (tokens_live (reverse notes.now) now) more }
+{
+    notes.tokens() + more > LIVE_LIMIT
+        && live_tokens(notes.as_slice(), now) + more > LIVE_LIMIT
+}
