@@ -2,4 +2,5 @@ pub mod AtOnce
 pub mod Counts
 pub mod Fits
 pub mod Gnap
+pub mod Laws
 pub mod Rounds

@@ -6,7 +6,7 @@ ghost use Rattle.gnap_model.specs.Answer.{gnap_answer};
 ghost use Rattle.gnap_model.specs.declared.calls.Call.TheVariants.{Lapse};
 ghost use Rattle.gnap_history.specs.Gnap.{GnapFits, StandsFor};
 
-use crate::gnap::Gnap;
+use crate::grant_machine::Gnap;
 use crate::introspecting::introspect;
 use crate::note_list::NoteList;
 use crate::opening::begin;
@@ -14,7 +14,7 @@ use gnap_io::memory::Mem;
 use gnap_model::calls::{Call, Reply};
 use gnap_model::objects::Setup;
 use histories::lone::Lone;
-use histories::machine::Core;
+use histories::machine::{Core, Desk};
 use std::alloc::Global;
 
 /// Keeps the notes of the history in a list, and its greatest moment. No answer needs more of a history.
@@ -43,6 +43,14 @@ impl ListCore {
             notes: NoteList::new(alloc),
         }
     }
+}
+
+/// A desk that has seen nothing, under the rules of this setup.
+pub fn list_desk(alloc: Global, setup: Setup) -> ListDesk
+    ensures rules { ⟦<ListDesk as Desk>⟧.rules result ≡ setup }
+    ensures seen { ⟦<ListDesk as Desk>⟧.seen result [] }
+{
+    Lone::new(ListCore::new(alloc, setup))
 }
 
 /// Answers a call at the greatest moment so far, and adds its notes. An `Err` changes nothing.
