@@ -96,12 +96,13 @@ fn begin_is_copied(alloc: Global) -> Result<bool, Mem> {
         },
         not_after: Some(7),
     };
-    Ok(match call.copy()? {
+    let copied = call.copy()?;
+    Ok(match &copied {
         Call::Begin {
             request,
             not_after,
             ..
-        } => request.asks.len() == 1 && request.single && not_after == Some(7),
+        } => request.asks.len() == 1 && request.single && *not_after == Some(7),
         _ => false,
     })
 }
@@ -116,7 +117,8 @@ fn decide_is_copied(alloc: Global) -> Result<bool, Mem> {
             subject: Some(text(alloc)?),
         },
     };
-    Ok(match call.copy()? {
+    let copied = call.copy()?;
+    Ok(match &copied {
         Call::Decide { request, .. } => request.verdict == Verdict::Deny,
         _ => false,
     })
@@ -145,11 +147,13 @@ fn replies_are_copied(alloc: Global) -> Result<bool, Mem> {
             reference: [5; 32],
         }),
     };
-    let token = match rotated.copy()? {
+    let copied = rotated.copy()?;
+    let token = match &copied {
         Reply::Rotated { token } => token.manage == [2; 32] && token.rights.len() == 2,
         _ => false,
     };
-    let finish = match decided.copy()? {
+    let copied = decided.copy()?;
+    let finish = match &copied {
         Reply::Decided {
             finish: Some(finish),
         } => finish.reference == [5; 32],
