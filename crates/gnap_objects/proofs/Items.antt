@@ -1,7 +1,7 @@
 -- The items of an array that a body may have.
-use Rattle.std.proofs.Common.{◌≡◌, ◌≤◌, ℕ, false, Some, arith}
+use Rattle.std.proofs.Common.{◌≡◌, ◌≤◌, false, Some, arith}
 use Rattle.std.proofs.lemmas.Bool.{or_parts}
-use Rattle.serde_json.specs.Data.{Data, null, boolean, number, string, array, object, Items, no_items, item, depth, items_depth}
+use Rattle.serde_json.specs.Data.{Data, null, boolean, number, string, array, object, Items, no_items, item, items_depth}
 use Rattle.serde_json.specs.Find.{as_array}
 use Rattle.serde_json.specs.Read.{max_depth}
 use Rattle.serde_json.specs.Written.{has_float, items_have_float}

@@ -1,3 +1,4 @@
 pub mod Asks
 pub mod Bodies
+pub mod Given
 pub mod Items

@@ -1,5 +1,5 @@
 -- Introspections (RFC 9767, section 3.3).
-use Rattle.std.specs.Prelude.{ℕ, List, None, Result, Ok, codes}
+use Rattle.std.specs.Prelude.{None, Result, Ok, codes}
 use Rattle.serde_json.specs.Data.{Data}
 use Rattle.gnap_model.specs.declared.objects.IntrospectRequest.{IntrospectRequest}
 use Rattle.access_rights.specs.Json.{◌>>=◌}

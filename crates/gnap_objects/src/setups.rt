@@ -5,7 +5,7 @@ ghost use Rattle.serde_json.specs.View.{view, items_view};
 ghost use Rattle.gnap_objects.specs.declared.setups.SetupFault.TheVariants.{OutOfMemory};
 ghost use Rattle.access_rights.specs.Fits.{Fits};
 ghost use Rattle.access_rights.specs.Json.{IsBody};
-ghost use Rattle.gnap_objects.specs.Fits.{KeyFits};
+ghost use Rattle.gnap_objects.specs.Fits.{KeyFits, SetupFits};
 ghost use Rattle.gnap_objects.specs.Setups.{AreBodies, Gives, required, string_of, text_of, id_of, base_of, secret_of, role_of, has_key_members, rights_of, client_rights, each, names_of, server_names, has_id, key_row_of, keys_from, keys_of, object_of, setup_of, IsSetup};
 
 use crate::body::{BodyFault, read_body};
@@ -291,16 +291,10 @@ fn object_of(alloc: Global, text: &[u8]) -> Result<Value, SetupFault>
     }
 }
 
-/// The setup of the authorization server that the bytes are.
-///
-/// It is a JSON object with exactly the members `base` and `front`, addresses of servers (`forms::is_base`), and `keys`, an array of at most 4,096 keys.
-/// A key is an object with exactly these members: `id` (`forms::is_id`), which no other key has; `role`, which is `client`, `server` or `front`; `secret`,
-/// 16 to 64 bytes in base64 with padding (RFC 4648, section 4); for a client `auto` and `ask`, arrays of references to rights; for a server `serves`, an
-/// array of at most 256 strings.
 #[tactic(auto, unfolding(crate::specs::Setups::setup_of))]
-pub fn read_setup(alloc: Global, text: &[u8]) -> Result<Setup, SetupFault>
+fn setup_of(alloc: Global, text: &[u8]) -> Result<Setup, SetupFault>
     ensures value { Gives (λ s. s) result (setup_of text.now) }
-    ensures setup { IfOk result IsSetup }
+    ensures fits { IfOk result SetupFits }
 {
     let value = object_of(alloc, text)?;
     let base = base_of(alloc, &value, "base")?;
@@ -310,4 +304,17 @@ pub fn read_setup(alloc: Global, text: &[u8]) -> Result<Setup, SetupFault>
         return Err(SetupFault::NotASetup);
     }
     Ok(Setup { base, front, keys })
+}
+
+/// The setup of the authorization server that the bytes are.
+///
+/// It is a JSON object with exactly the members `base` and `front`, addresses of servers (`forms::is_base`), and `keys`, an array of at most 4,096 keys.
+/// A key is an object with exactly these members: `id` (`forms::is_id`), which no other key has; `role`, which is `client`, `server` or `front`; `secret`,
+/// 16 to 64 bytes in base64 with padding (RFC 4648, section 4); for a client `auto` and `ask`, arrays of references to rights; for a server `serves`, an
+/// array of at most 256 strings.
+pub fn read_setup(alloc: Global, text: &[u8]) -> Result<Setup, SetupFault>
+    ensures value { Gives (λ s. s) result (setup_of text.now) }
+    ensures setup { IfOk result IsSetup }
+{
+    setup_of(alloc, text)
 }

@@ -1,5 +1,5 @@
 use Rattle.std.proofs.Common.{sym}
-use Rattle.serde_json.specs.View.{view, items_view}
+use Rattle.serde_json.specs.View.{view}
 use Rattle.gnap_objects.proofs.Items.{array_bodies}
 use Rattle.gnap_objects.proofs.setups.keys_of.Goals as goal
 
