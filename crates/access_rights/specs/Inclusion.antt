@@ -1,15 +1,13 @@
 -- Inclusion of rights, dimension by dimension (RFC 9635, section 8).
 use Rattle.std.specs.Prelude.{Bool, List, [], ◌∷◌}
-use Rattle.std.specs.Bool.{Decides}
 use Rattle.std.specs.List.{list_any, list_all}
 use Rattle.std.specs.declared.option.Option.{Option}
 use Rattle.std.specs.declared.option.Option.TheVariants.{Some}
 use Rattle.gnap_model.specs.Common.{Text}
 use Rattle.gnap_model.specs.declared.rights.Right.{Right}
 use Rattle.gnap_model.specs.declared.rights.RightObject.{RightObject}
-use Rattle.gnap_model.specs.Rights.{Atom, atoms, values_of, same_atom, covers}
+use Rattle.gnap_model.specs.Rights.{Atom, atoms, values_of, same_atom}
 use Rattle.gnap_model.specs.Rights.Atom.{Parts}
-use Rattle.gnap_model.proofs.Covering.{Includes}
 
 -- the granted rights have the atom
 abbrev pub has_atom : List Right → Atom → Bool
@@ -36,7 +34,3 @@ covers_locations granted o action = list_all (λ location. covers_datatypes gran
 -- all atoms of the right are granted
 abbrev pub covers_object : List Right → RightObject → Bool
 covers_object granted o = list_all (λ action. covers_locations granted o action) (values_of o.actions)
-
--- `covers` is inclusion of the sets of atoms
-abbrev pub CoversIsInclusion : Type 0
-CoversIsInclusion = (granted wanted : List Right) → Decides (covers granted wanted) (Includes granted wanted)

@@ -4,7 +4,7 @@ ghost use Rattle.std.specs.List.{list_any, list_all};
 ghost use Rattle.gnap_model.specs.Common.{same_text, same_option};
 ghost use Rattle.gnap_model.specs.Rights.Atom.{Name};
 ghost use Rattle.gnap_model.specs.Rights.{values_of, right_atoms, same_atom, covers};
-ghost use Rattle.access_rights.specs.Inclusion.{has_atom, atom_at, covers_privileges, covers_datatypes, covers_locations, covers_object, CoversIsInclusion};
+ghost use Rattle.access_rights.specs.Inclusion.{has_atom, atom_at, covers_privileges, covers_datatypes, covers_locations, covers_object};
 
 use gnap_io::bytes::Bytes;
 use gnap_model::rights::{Right, RightObject, Rights, Texts};
@@ -21,11 +21,6 @@ pub fn covers(granted: &Rights, wanted: &Rights) -> bool
     }
     true
 }
-
-/// `covers` is inclusion of the sets of atoms.
-pub fn covers_is_inclusion()
-    ensures { CoversIsInclusion }
-{}
 
 #[tactic(auto, using(crate::proofs::Atoms::object_all))]
 fn covers_right(granted: &Rights, wanted: &Right) -> bool
