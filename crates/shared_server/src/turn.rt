@@ -61,7 +61,7 @@ pub(crate) fn call_once<C: Core, R: Wait>(
     call: &<C::M as Machine>::Call,
 ) -> Result<<C::M as Machine>::Reply, Mem>
     requires table { IsTable top.now.table_id seat.old.table_id }
-    requires may { CanDraw seat.old.me × (length seat.old.me.1 ≡ 0) × (length seat.old.me.0.own ≡ 0) × (seat.old.me.0.rules ≡ Some (C.rules top.now.key.core.value)) }
+    requires may { CanDraw seat.old.me × (seat.old.me.1 ≡ []) × (seat.old.me.0.own ≡ []) × (seat.old.me.0.rules ≡ Some (C.rules top.now.key.core.value)) }
     requires fits { C.M.law.fits call.now }
     requires no_lapse { call.now ≢ C.M.law.lapse }
     requires in_time { moment ≤ last_moment }
