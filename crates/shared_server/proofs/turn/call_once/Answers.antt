@@ -1,6 +1,6 @@
-use Rattle.std.proofs.Common.{rules, refl, arith}
+use Rattle.std.proofs.Common.{rules, refl}
 use Rattle.shared_server.proofs.Calls.{holds, out, readies, can_hand, ends_ok, ends_err}
-use Rattle.shared_server.proofs.desk.call_once.Goals as goal
+use Rattle.shared_server.proofs.turn.call_once.Goals as goal
 
 pub exchange-held-requires : goal.exchange-held-requires
 exchange-held-requires g c = (search rules, holds g.C.Core.stands g.C.Core.rules g.C.M.Machine.law (g.C.Core.rules c.args.top.now.key.core.value) _ _ c.wait_for_turn.ensures.turn)
