@@ -1,5 +1,5 @@
 -- Counts over notes: of two lists together, and from the newest note on.
-use Rattle.std.proofs.Common.{◌≡◌, ◌∙◌, ℕ, ◌+◌, ◌*◌, ◌≤◌, ◌<◌, ◌^◌, Bool, cond, List, [], ◌∷◌, ◌++◌, length, reverse, Option, Some, None, refl, sym, ap, arith, length-append}
+use Rattle.std.proofs.Common.{◌≡◌, ◌∙◌, ℕ, ◌+◌, ◌*◌, ◌≤◌, ◌<◌, ◌^◌, Bool, cond, List, [], ◌∷◌, ◌++◌, length, reverse, Option, Some, None, refl, ap, arith, length-append}
 use Rattle.std.specs.Option.{option_to_list}
 use Rattle.std.specs.List.{count_by, sum_by}
 use Rattle.std.proofs.lemmas.List.{length-reverse, reverse-append}
@@ -9,7 +9,7 @@ use Rattle.gnap_model.specs.Notes.{note_values, trail_values, first_serial}
 use Rattle.gnap_model.specs.Standing.{is_opening, next_grant}
 use Rattle.gnap_model.specs.declared.notes.Note.{Note}
 use Rattle.gnap_model.specs.declared.notes.Note.TheVariants.{Opened, Terms, Approved, Issued, Door, Pended, DecidedAs, Finalized, Wrong, Retired}
-use Rattle.gnap_history.specs.Counts.{is_issue, value_count}
+use Rattle.gnap_history.specs.Counts.{value_count}
 
 -- A sum doesn't depend on the direction.
 pub sum_by-reverse : {X : Type 0} (f : X → ℕ) (xs : List X) → sum_by f (reverse xs) ≡ sum_by f xs

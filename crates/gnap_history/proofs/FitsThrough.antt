@@ -1,5 +1,5 @@
 -- Where the calls of a history fit, so do its replies.
-use Rattle.std.proofs.Common.{◌≡◌, ◌∙◌, ℕ, ◌+◌, ◌*◌, Bool, true, false, List, [], ◌∷◌, ◌++◌, length, map, reverse, refl, sym, ap, subst, append_assoc, append-nil, Option, Some, None, inl, inr}
+use Rattle.std.proofs.Common.{◌≡◌, ℕ, ◌+◌, ◌*◌, Bool, true, false, List, [], ◌∷◌, ◌++◌, length, map, reverse, refl, sym, subst, append_assoc, append-nil, Option, Some, None}
 use Rattle.std.specs.List.{AllByRecursion, filter}
 use Rattle.std.specs.Str.{IsUtf8}
 use Rattle.std.specs.Prelude.{if◌then◌else◌, nat_le, ◌||◌}
@@ -20,14 +20,13 @@ use Rattle.gnap_model.specs.Keys.{key_of, server_names}
 use Rattle.gnap_model.specs.Standing.{live_token, live_tokens, live_grants, token_in}
 use Rattle.gnap_model.specs.Judging.{Settled, settle, suits, serves_all}
 use Rattle.gnap_model.specs.Judging.Settled.{AtOnce, ByAsking, Never}
-use Rattle.gnap_model.specs.Actions.{Action, Supply, outcome_of, drawn_value, token_for, tokens_for, token_out, terms_for, door_note, instance_of, grant_outcome}
-use Rattle.gnap_model.specs.Actions.Action.{Refuse, ShowToken, ShowInactive, OpenAtOnce, OpenAsking}
-use Rattle.gnap_model.specs.Begin.{begin, begin_by, is_past, opening, pass_limit, show_token, introspect}
-use Rattle.gnap_model.specs.Answer.{supply_of, action_of, gnap_answer}
+use Rattle.gnap_model.specs.Actions.{Action, Supply, outcome_of, tokens_for, token_out, door_note}
+use Rattle.gnap_model.specs.Actions.Action.{Refuse, ShowToken, ShowInactive, OpenAtOnce}
+use Rattle.gnap_model.specs.Begin.{begin_by, is_past, opening, pass_limit, show_token}
+use Rattle.gnap_model.specs.Answer.{supply_of, gnap_answer}
 use Rattle.gnap_model.specs.declared.calls.Call.{Call}
 use Rattle.gnap_model.specs.declared.calls.Call.TheVariants.{Begin, Introspect, Lapse, Continue, Modify, Cancel, Rotate, Revoke, Look, FindCode, Decide}
 use Rattle.gnap_model.specs.declared.calls.Reply.{Reply}
-use Rattle.gnap_model.specs.declared.calls.TokenOut.{TokenOut}
 use Rattle.gnap_model.specs.declared.notes.Note.{Note}
 use Rattle.gnap_model.specs.declared.notes.Note.TheVariants.{Opened, Terms, Approved, Issued, Door, Pended, DecidedAs, Finalized, Wrong, Retired}
 use Rattle.gnap_model.specs.declared.notes.OpeningNote.{OpeningNote}
@@ -35,11 +34,10 @@ use Rattle.gnap_model.specs.declared.notes.TokenNote.{TokenNote}
 use Rattle.gnap_model.specs.declared.objects.Ask.{Ask}
 use Rattle.gnap_model.specs.declared.objects.Binding.{Binding}
 use Rattle.gnap_model.specs.declared.objects.GrantRequest.{GrantRequest}
-use Rattle.gnap_model.specs.declared.objects.Modes.{Modes}
 use Rattle.gnap_model.specs.declared.objects.Setup.{Setup}
 use Rattle.gnap_model.specs.declared.rights.Right.{Right}
 use Rattle.gnap_model.specs.declared.objects.ErrorCode.TheVariants.{RequestDenied, InvalidAccess}
-use Rattle.gnap_history.specs.Fits.{RightsFit, RightsFitOr, AskFits, TokenFits, ReplyFits}
+use Rattle.gnap_history.specs.Fits.{RightsFit, AskFits, TokenFits, ReplyFits}
 use Rattle.gnap_history.specs.Gnap.{gnap, GnapEntry, GnapFits}
 use Rattle.gnap_history.proofs.Shown.{introspect_silent}
 

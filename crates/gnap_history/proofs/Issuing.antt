@@ -1,5 +1,5 @@
 -- The tokens for some asks: one more is issued at the end.
-use Rattle.std.proofs.Common.{◌≡◌, ◌∙◌, ℕ, suc, ◌+◌, ◌*◌, ◌<◌, List, [], ◌∷◌, ◌++◌, length, map, take, get_or, refl, sym, ap, arith, append_assoc}
+use Rattle.std.proofs.Common.{◌≡◌, ◌∙◌, ℕ, suc, ◌+◌, ◌*◌, ◌<◌, List, [], ◌∷◌, ◌++◌, length, map, take, get_or, sym, ap, arith, append_assoc}
 use Rattle.std.proofs.lemmas.List.{length-take-le, take_more, map-append}
 use Rattle.gnap_model.specs.Actions.{Supply, tokens_for, token_for}
 use Rattle.gnap_model.specs.declared.objects.Ask.{Ask}

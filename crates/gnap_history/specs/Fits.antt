@@ -1,5 +1,5 @@
 -- Texts that can be shown: a call and a reply fit where their rights do, and where their other texts are UTF-8.
-use Rattle.std.specs.Prelude.{◌≡◌, List}
+use Rattle.std.specs.Prelude.{List}
 use Rattle.std.specs.List.{AllByRecursion}
 use Rattle.std.specs.Str.{IsUtf8}
 use Rattle.std.specs.declared.option.Option.{Option}
@@ -9,12 +9,10 @@ use Rattle.gnap_model.specs.declared.rights.Right.{Right}
 use Rattle.gnap_model.specs.declared.objects.Ask.{Ask}
 use Rattle.gnap_model.specs.declared.objects.GrantRequest.{GrantRequest}
 use Rattle.gnap_model.specs.declared.calls.Call.{Call}
-use Rattle.gnap_model.specs.declared.calls.Call.TheVariants.{Begin, Introspect, Lapse}
+use Rattle.gnap_model.specs.declared.calls.Call.TheVariants.{Begin, Introspect}
 use Rattle.gnap_model.specs.declared.calls.TokenOut.{TokenOut}
 use Rattle.gnap_model.specs.declared.calls.Reply.{Reply}
 use Rattle.gnap_model.specs.declared.calls.Reply.TheVariants.{Granted, Active, Inactive, Error, Lapsed}
-use Rattle.gnap_model.specs.declared.notes.Note.{Note}
-use Rattle.gnap_model.specs.declared.notes.Note.TheVariants.{Issued}
 
 abbrev pub RightsFit : List Right → Type 0
 RightsFit rights = AllByRecursion Fits rights

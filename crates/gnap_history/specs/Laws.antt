@@ -1,6 +1,5 @@
 -- What holds of each legal history of the machine that has at most 2 ^ 58 entries.
-use Rattle.std.specs.Prelude.{◌≡◌, ◌&&◌, ℕ, List, [], ◌∷◌, ◌++◌, reverse, true}
-use Rattle.std.specs.declared.option.Option.{Option}
+use Rattle.std.specs.Prelude.{◌≡◌, ◌&&◌, List, ◌∷◌, ◌++◌, reverse, true}
 use Rattle.histories.specs.History.{now, notes_of}
 use Rattle.gnap_model.specs.Common.{Text, AreDistinct}
 use Rattle.gnap_model.specs.Keys.{key_of, server_names}

@@ -4,3 +4,5 @@ pub mod Refills
 pub mod Replies
 pub mod CallLines
 pub mod Asked
+pub mod Replays
+pub mod Replaying

@@ -1,5 +1,5 @@
-use Rattle.std.proofs.Common.{◌∙◌, ap, reverse}
-use Rattle.histories.specs.History.{Legal, now, notes_of}
+use Rattle.std.proofs.Common.{◌∙◌, ap}
+use Rattle.histories.specs.History.{now, notes_of}
 use Rattle.gnap_model.specs.Answer.{gnap_answer}
 use Rattle.gnap_model.specs.Provenance.{is_active}
 use Rattle.gnap_model.specs.declared.calls.Call.{Call}

@@ -1,4 +1,4 @@
-use Rattle.std.proofs.Common.{◌≡◌, ◌+◌, ◌++◌, ◌∷◌, [], take, reverse, refl, arith}
+use Rattle.std.proofs.Common.{◌+◌, [], take, reverse, refl, arith}
 use Rattle.gnap_model.specs.Actions.{tokens_for, token_out}
 use Rattle.gnap_model.specs.Answer.{supply_of}
 use Rattle.gnap_model.specs.declared.notes.Note.TheVariants.{Issued}

@@ -1,4 +1,3 @@
-use Rattle.std.proofs.Common.{arith}
 use Rattle.gnap_history.proofs.Counts.{grant_is}
 use Rattle.gnap_history.proofs.note_list.NoteList.next_grant.Goals as goal
 
