@@ -1,0 +1,17 @@
+//! Structured fields.
+#![tactic(auto)]
+
+mod bare;
+mod bare_reading;
+mod fault;
+mod item;
+mod item_reading;
+mod letters;
+mod named;
+mod reading;
+
+pub use bare::Bare;
+pub use fault::FieldFault;
+pub use item::{Dictionary, InnerList, Item, Items, List, Member, Params};
+pub use named::Named;
+pub use reading::{read_dictionary, read_item, read_list};
