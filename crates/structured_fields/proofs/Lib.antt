@@ -5,3 +5,5 @@ pub mod Numbers
 pub mod Base64
 pub mod Strings
 pub mod Bares
+pub mod Items
+pub mod Loop
