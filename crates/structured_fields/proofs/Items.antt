@@ -249,7 +249,7 @@ item_takes t x fits e =
       is = record { bare_text = first.text; params_text = second.text; is = refl; bare = first.is; params = second.are };
     })
 
-params_follow : (text rest : List ℕ) (ps : List (List ℕ × Bare)) → AreParams text ps → first_is is_close rest ≡ true → first_is is_end (text ++ rest) ≡ true
+pub params_follow : (text rest : List ℕ) (ps : List (List ℕ × Bare)) → AreParams text ps → first_is is_close rest ≡ true → first_is is_end (text ++ rest) ≡ true
 params_follow text rest ps are h = groups_follow are.0 text rest are.1 (closes_follows rest h)
 
 pub item_again : (text rest : List ℕ) (v : Item) → IsItem text v → first_is is_close rest ≡ true → item_at (text ++ rest) ≡ Some (v, rest)

@@ -7,3 +7,7 @@ pub mod Strings
 pub mod Bares
 pub mod Items
 pub mod Loop
+pub mod Opens
+pub mod Inner
+pub mod Members
+pub mod Whole
