@@ -11,3 +11,5 @@ pub mod Opens
 pub mod Inner
 pub mod Members
 pub mod Whole
+pub mod Ranges
+pub mod Read
