@@ -13,3 +13,4 @@ pub mod Members
 pub mod Whole
 pub mod Ranges
 pub mod Read
+pub mod Written
