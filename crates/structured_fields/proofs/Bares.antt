@@ -1,18 +1,18 @@
 -- Bare items and keys.
-use Rattle.std.proofs.Common.{◌≡◌, ℕ, zero, suc, ◌+◌, ◌≤◌, ◌<◌, ◌==◌, Bool, true, false, not, cond, ◌&&◌, ◌||◌, ◌⊎◌, inl, inr, List, [], ◌∷◌, ◌++◌, length, get_or, take, drop, Option, Some, None, refl, sym, ap, subst, ◌∙◌, arith, append_assoc, true≢false, ℤ}
+use Rattle.std.proofs.Common.{◌≡◌, ℕ, suc, ◌+◌, ◌≤◌, ◌==◌, Bool, true, false, cond, ◌||◌, inl, inr, List, [], ◌∷◌, ◌++◌, length, drop, Option, Some, None, refl, sym, ap, subst, ◌∙◌, arith, append_assoc, ℤ}
 use Rattle.std.specs.Option.{option_map}
 use Rattle.std.specs.List.{prefix_len, list_all, flat_map}
 use Rattle.std.proofs.lemmas.Bool.Decides.{nat_tests}
-use Rattle.std.proofs.lemmas.List.{get_or-drop, get_or-take}
+use Rattle.std.proofs.lemmas.List.{get_or-drop}
 use Rattle.base64.specs.GeneralPurpose.{encode_of, IsBytes}
 use Rattle.base64.specs.Engines.{standard, standard_no_pad}
 use Rattle.base64.proofs.EngineFacts.{front_bytes}
 use Rattle.structured_fields.specs.declared.bare.Bare.{Bare}
 use Rattle.structured_fields.specs.declared.bare.Bare.TheVariants.{Integer, Decimal, Str, Token, Binary, Boolean}
-use Rattle.structured_fields.specs.Letters.{is_digit, is_letter, is_lower, is_key_start, is_key_byte, is_key, is_token_start, is_token_byte, is_token, sign}
-use Rattle.structured_fields.specs.Grammar.{IsBare, IsInteger, IsDecimal, IsString, IsBinary, boolean_text, in_string, AreDigits}
-use Rattle.structured_fields.specs.Reading.{front, behind, begins, is_not_colon, key_at, string_rest, decoded, binary_rest, boolean_rest, number_at, unsigned_at, bare_at}
-use Rattle.structured_fields.proofs.Fronts.{run_again, front_again, behind_again, parts, chosen, given, both, neither, passes, fails, some_is, begun, ends, ends_key, stops}
+use Rattle.structured_fields.specs.Letters.{is_digit, is_letter, is_key_start, is_key_byte, is_key, is_token_start, is_token_byte, is_token, sign}
+use Rattle.structured_fields.specs.Grammar.{IsBare, IsInteger, IsDecimal, IsString, IsBinary, boolean_text, in_string}
+use Rattle.structured_fields.specs.Reading.{front, behind, begins, is_not_colon, key_at, string_rest, decoded, binary_rest, boolean_rest, number_at, bare_at}
+use Rattle.structured_fields.proofs.Fronts.{front_again, behind_again, parts, chosen, given, both, some_is, begun, ends, stops}
 use Rattle.structured_fields.proofs.Runs.{front_all}
 use Rattle.structured_fields.proofs.Numbers.{TakesBare, number_takes, integer_again, decimal_text_again, first_digit}
 use Rattle.structured_fields.proofs.Base64.{padded_again, bare_again, decoded_takes, no_colon}
@@ -112,21 +112,21 @@ boolean_takes c t x q e =
     elim (chosen (begins 48 t) (Some (Boolean false, drop 1 t)) (cond (begins 49 t) (Some (Boolean true, drop 1 t)) None) (Some x) e) [
       | inl p ↦ subst (TakesBare (c ∷ t)) (some_is (Boolean false, drop 1 t) x p.1) (record { text = 63 ∷ 48 ∷ []; parts = ap (λ (b : ℕ). b ∷ t) k ∙ ap (λ (r : List ℕ). 63 ∷ r) (begun 48 t p.0); is = refl })
       | inr p ↦ let g = given (begins 49 t) (Some (Boolean true, drop 1 t)) x p.1 in
-        subst (TakesBare (c ∷ t)) (some_is (Boolean true, drop 1 t) x g.1) (record { text = 63 ∷ 49 ∷ []; parts = ap (λ (b : ℕ). b ∷ t) k ∙ ap (λ (r : List ℕ). 63 ∷ r) (begun 49 t g.0); is = refl })
+          subst (TakesBare (c ∷ t)) (some_is (Boolean true, drop 1 t) x g.1) (record { text = 63 ∷ 49 ∷ []; parts = ap (λ (b : ℕ). b ∷ t) k ∙ ap (λ (r : List ℕ). 63 ∷ r) (begun 49 t g.0); is = refl })
     ]
 
 token_takes : (c : ℕ) (t : List ℕ) (x : Bare × List ℕ) → bare_rest c t ≡ Some x → TakesBare (c ∷ t) x
 token_takes c t x e =
     elim (chosen (is_token_start c) (Some (Token (front is_token_byte (c ∷ t)), behind is_token_byte (c ∷ t))) (number_at (c ∷ t)) (Some x) e) [
       | inl p ↦
-        let b : is_token_byte c ≡ true = token_start_is c p.0 in
-        let one : 1 + prefix_len is_token_byte t ≡ suc (prefix_len is_token_byte t) = omega arith in
-        let at : front is_token_byte (c ∷ t) ≡ c ∷ front is_token_byte t = rw (b, one) refl in
-        subst (TakesBare (c ∷ t)) (some_is (Token (front is_token_byte (c ∷ t)), behind is_token_byte (c ∷ t)) x p.1) (record {
-          text = front is_token_byte (c ∷ t);
-          parts = parts is_token_byte (c ∷ t);
-          is = (ap is_token at ∙ rw (p.0, front_all is_token_byte t) refl, refl);
-        })
+          let b : is_token_byte c ≡ true = token_start_is c p.0 in
+          let one : 1 + prefix_len is_token_byte t ≡ suc (prefix_len is_token_byte t) = omega arith in
+          let at : front is_token_byte (c ∷ t) ≡ c ∷ front is_token_byte t = rw (b, one) refl in
+          subst (TakesBare (c ∷ t)) (some_is (Token (front is_token_byte (c ∷ t)), behind is_token_byte (c ∷ t)) x p.1) (record {
+            text = front is_token_byte (c ∷ t);
+            parts = parts is_token_byte (c ∷ t);
+            is = (ap is_token at ∙ rw (p.0, front_all is_token_byte t) refl, refl);
+          })
       | inr p ↦ number_takes (c ∷ t) x p.1
     ]
 

@@ -1,5 +1,5 @@
 -- What a map of copied keys shows, as a list under names.
-use Rattle.std.proofs.Common.{◌≡◌, ℕ, zero, suc, ◌+◌, Bool, true, false, cond, List, [], ◌∷◌, ◌++◌, take, fold, slice_get, Option, Some, None, map, refl, sym, ap, subst, ◌∙◌, arith, append_assoc, true≢false}
+use Rattle.std.proofs.Common.{◌≡◌, ℕ, zero, suc, ◌+◌, Bool, true, false, cond, List, [], ◌∷◌, ◌++◌, take, fold, slice_get, Some, None, refl, sym, ap, subst, ◌∙◌, arith, append_assoc, true≢false}
 use Rattle.std.specs.Str.{bytes_eq}
 use Rattle.std.specs.Global.{Vec}
 use Rattle.std.specs.Option.{option_map}
@@ -54,7 +54,6 @@ turned a b h = by (bytes_eq b a) refl
     by : (r : Bool) → bytes_eq b a ≡ r → r ≡ false
     by false e = refl
     by true e = absurd (true≢false (sym ((bytes_eq-Decides a b).1 (sym ((bytes_eq-Decides b a).0 e))) ∙ h))
-
 
 module _ {V : Type 0} where
   -- what stands at a name once one was set

@@ -1,5 +1,5 @@
 -- Inner lists.
-use Rattle.std.proofs.Common.{◌≡◌, ℕ, zero, suc, ◌+◌, ◌≤◌, ◌<◌, ◌==◌, Bool, true, false, not, cond, ◌||◌, List, [], ◌∷◌, ◌++◌, length, replicate, drop, Option, Some, None, refl, sym, ap, subst, ◌∙◌, arith, append_assoc, true≢false, inl, inr}
+use Rattle.std.proofs.Common.{◌≡◌, ℕ, zero, suc, ◌+◌, ◌≤◌, ◌<◌, true, false, not, cond, List, [], ◌∷◌, ◌++◌, length, replicate, drop, Option, Some, None, refl, sym, ap, subst, ◌∙◌, arith, append_assoc, true≢false, inl, inr}
 use Rattle.std.specs.List.{prefix_len}
 use Rattle.std.proofs.lemmas.List.{length-append, append-nil, replicate-append-replicate}
 use Rattle.base64.specs.GeneralPurpose.{IsBytes}
@@ -7,12 +7,12 @@ use Rattle.structured_fields.specs.declared.bare.Bare.{Bare}
 use Rattle.structured_fields.specs.declared.item.Item.{Item}
 use Rattle.structured_fields.specs.declared.item.InnerList.{InnerList}
 use Rattle.structured_fields.specs.Letters.{is_space}
-use Rattle.structured_fields.specs.Grammar.{IsItem, IsGap, IsInner, AreFurther, AreSeparated}
+use Rattle.structured_fields.specs.Grammar.{IsItem, IsGap, IsInner, AreSeparated}
 use Rattle.structured_fields.specs.Reading.{◌>>=◌, behind, begins, item_at, params_at, is_item_end, items_from, items_at, inner_at}
-use Rattle.structured_fields.proofs.Fronts.{behind_again, chosen, given, some_is, begun, stops}
+use Rattle.structured_fields.proofs.Fronts.{behind_again, chosen, given, some_is, begun}
 use Rattle.structured_fields.proofs.Bares.{rest_bytes}
 use Rattle.structured_fields.proofs.Items.{bind_some, spaced, are_spaces, is_close, first_is, item_takes, item_again, params_at_takes, params_at_again}
-use Rattle.structured_fields.proofs.Opens.{Opens, is_plain, opens_more, opens_begins, opens_stops, opens_to, opens_some, plain_no_space, item_opens, count_separated}
+use Rattle.structured_fields.proofs.Opens.{is_plain, opens_more, opens_begins, opens_stops, opens_to, opens_some, plain_no_space, item_opens, count_separated}
 
 abbrev pub spaces : ℕ → List ℕ
 spaces n = replicate n 32
@@ -43,11 +43,14 @@ module _ (held : List Item) (t rest : List ℕ) (b : ℕ) (x : Item) (y : List I
   joined : (items : List Item) (before after : ℕ) (text : List ℕ) → rest ≡ spaces before ++ (text ++ (spaces after ++ 41 ∷ y.1))
       → AreSeparated IsGap IsItem text items → y.0 ≡ (held ++ x ∷ []) ++ items → TakesItems held t y
   joined [] before after text parts are value = record {
-      before = b; after = before + after; text = first; items = x ∷ [];
-      parts = whole ∙ ap (λ (u : List ℕ). spaces b ++ (first ++ u)) (parts ∙ ap (λ (u : List ℕ). spaces before ++ (u ++ (spaces after ++ 41 ∷ y.1))) are ∙ spaces_more before after (41 ∷ y.1));
-      are = (first, [], sym (append-nil first), is, refl);
-      value = value ∙ append_assoc held (x ∷ []) [];
-    }
+    before = b;
+    after = before + after;
+    text = first;
+    items = x ∷ [];
+    parts = whole ∙ ap (λ (u : List ℕ). spaces b ++ (first ++ u)) (parts ∙ ap (λ (u : List ℕ). spaces before ++ (u ++ (spaces after ++ 41 ∷ y.1))) are ∙ spaces_more before after (41 ∷ y.1));
+    are = (first, [], sym (append-nil first), is, refl);
+    value = value ∙ append_assoc held (x ∷ []) [];
+  }
   joined (z ∷ items) zero after text parts are value =
       let q : List ℕ = spaces after ++ 41 ∷ y.1 in
       let opened : rest ≡ are.0 ++ (are.1 ++ q) = parts ∙ ap (λ (u : List ℕ). u ++ q) are.2 ∙ append_assoc are.0 are.1 q in
@@ -55,7 +58,10 @@ module _ (held : List Item) (t rest : List ℕ) (b : ℕ) (x : Item) (y : List I
   joined (z ∷ items) (suc k) after text parts are value =
       let q : List ℕ = spaces after ++ 41 ∷ y.1 in
       record {
-        before = b; after = after; text = first ++ (spaces (suc k) ++ text); items = x ∷ z ∷ items;
+        before = b;
+        after = after;
+        text = first ++ (spaces (suc k) ++ text);
+        items = x ∷ z ∷ items;
         parts = whole ∙ ap (λ (u : List ℕ). spaces b ++ u) (ap (λ (u : List ℕ). first ++ u) (parts ∙ sym (append_assoc (spaces (suc k)) text q)) ∙ sym (append_assoc first (spaces (suc k) ++ text) q));
         are = (first, spaces (suc k) ++ text, refl, is, (spaces (suc k), are.0, are.1, ap (λ (u : List ℕ). spaces (suc k) ++ u) are.2, (k, refl), are.3, are.4));
         value = value ∙ append_assoc held (x ∷ []) (z ∷ items);
@@ -70,18 +76,21 @@ items_take (suc n) held t y fits e =
     let s : t ≡ spaces b ++ u = spaced t in
     elim (chosen (begins 41 u) (Some (held, drop 1 u)) (item_at u >>= λ x. cond (is_item_end x.1) (items_from n (held ++ x.0 ∷ []) x.1) None) (Some y) e) [
       | inl p ↦ subst (TakesItems held t) (some_is (held, drop 1 u) y p.1) (record {
-          before = b; after = 0; text = []; items = [];
-          parts = s ∙ ap (λ (r : List ℕ). spaces b ++ r) (begun 41 u p.0);
-          are = refl;
-          value = sym (append-nil held);
-        })
+        before = b;
+        after = 0;
+        text = [];
+        items = [];
+        parts = s ∙ ap (λ (r : List ℕ). spaces b ++ r) (begun 41 u p.0);
+        are = refl;
+        value = sym (append-nil held);
+      })
       | inr p ↦
-        let a = bind_some (item_at u) (λ x. cond (is_item_end x.1) (items_from n (held ++ x.0 ∷ []) x.1) None) y p.1 in
-        let g = given (is_item_end a.0.1) (items_from n (held ++ a.0.0 ∷ []) a.0.1) y a.2 in
-        let u_fits = rest_bytes (spaces b) u (subst IsBytes s fits) in
-        let i = item_takes u a.0 u_fits a.1 in
-        let r = items_take n (held ++ a.0.0 ∷ []) a.0.1 y (rest_bytes i.text a.0.1 (subst IsBytes i.parts u_fits)) g.1 in
-        joined held t a.0.1 b a.0.0 y i.text (s ∙ ap (λ (w : List ℕ). spaces b ++ w) i.parts) i.is g.0 r.items r.before r.after r.text r.parts r.are r.value
+          let a = bind_some (item_at u) (λ x. cond (is_item_end x.1) (items_from n (held ++ x.0 ∷ []) x.1) None) y p.1 in
+          let g = given (is_item_end a.0.1) (items_from n (held ++ a.0.0 ∷ []) a.0.1) y a.2 in
+          let u_fits = rest_bytes (spaces b) u (subst IsBytes s fits) in
+          let i = item_takes u a.0 u_fits a.1 in
+          let r = items_take n (held ++ a.0.0 ∷ []) a.0.1 y (rest_bytes i.text a.0.1 (subst IsBytes i.parts u_fits)) g.1 in
+          joined held t a.0.1 b a.0.0 y i.text (s ∙ ap (λ (w : List ℕ). spaces b ++ w) i.parts) i.is g.0 r.items r.before r.after r.text r.parts r.are r.value
     ]
 
 pub record TakesInner (t : List ℕ) (x : InnerList × List ℕ) : Type 0 where
@@ -166,8 +175,11 @@ inner_again text rest v i h =
     let whole : text ++ rest ≡ 40 ∷ t = ap (λ (u : List ℕ). u ++ rest) i.is ∙ ap (λ (u : List ℕ). 40 ∷ u) (sym (regrouped (spaces i.before) i.items_text (spaces i.after) i.params_text rest)) in
     let few : length v.items ≤ length i.items_text = count_separated IsGap IsItem (λ text x is. opens_some is_plain text (item_opens text x is)) v.items i.items_text i.items in
     let long : length t ≡ length (spaces i.before) + (length i.items_text + (length (spaces i.after) + suc (length q))) =
-      length-append (spaces i.before) (i.items_text ++ tail) ∙ ap (λ (n : ℕ). length (spaces i.before) + n) (length-append i.items_text tail ∙ ap (λ (n : ℕ). length i.items_text + n) (length-append (spaces i.after) (41 ∷ q))) in
+    length-append (spaces i.before) (i.items_text ++ tail) ∙ ap (λ (n : ℕ). length (spaces i.before) + n) (length-append i.items_text tail ∙ ap (λ (n : ℕ). length i.items_text + n) (length-append (spaces i.after) (41 ∷ q))) in
     let items : items_at t ≡ Some (v.items, q) = items_again v.items (length t) [] i.before i.after i.items_text q i.items (omega arith) in
-    let params : params_at q ≡ Some (v.params, rest) = params_at_again i.params_text rest v.params i.params h in
-    (t, whole, ap (λ (o : Option (List Item × List ℕ)). o >>= λ l. params_at l.1 >>= λ p. Some (record { items = l.0; params = p.0 }, p.1)) items
-      ∙ ap (λ (o : Option (List (List ℕ × Bare) × List ℕ)). o >>= λ p. Some (record { items = v.items; params = p.0 }, p.1)) params)
+    let params : params_at q ≡ Some (v.params, rest) = params_at_again i.params_text rest v.params i.params h in (
+      t,
+      whole,
+      ap (λ (o : Option (List Item × List ℕ)). o >>= λ l. params_at l.1 >>= λ p. Some (record { items = l.0; params = p.0 }, p.1)) items
+          ∙ ap (λ (o : Option (List (List ℕ × Bare) × List ℕ)). o >>= λ p. Some (record { items = v.items; params = p.0 }, p.1)) params,
+    )

@@ -1,9 +1,8 @@
 -- Parameters and items.
-use Rattle.std.proofs.Common.{◌≡◌, ℕ, zero, suc, ◌+◌, ◌≤◌, ◌<◌, ◌==◌, Bool, true, false, not, cond, ◌&&◌, ◌||◌, ◌⊎◌, inl, inr, List, [], ◌∷◌, ◌++◌, length, replicate, take, drop, fold, Option, Some, None, refl, sym, ap, subst, ◌∙◌, arith, append_assoc, true≢false}
-use Rattle.std.specs.Prelude.{option_and_then}
+use Rattle.std.proofs.Common.{◌≡◌, ℕ, zero, suc, ◌+◌, ◌≤◌, ◌==◌, Bool, true, false, not, cond, ◌||◌, ◌⊎◌, inl, inr, List, [], ◌∷◌, ◌++◌, length, replicate, drop, Option, Some, None, refl, sym, ap, subst, ◌∙◌, arith, append_assoc}
 use Rattle.std.specs.List.{prefix_len, list_all, list_any}
 use Rattle.std.proofs.lemmas.Bool.Decides.{nat_tests}
-use Rattle.std.proofs.lemmas.List.{length-append, append-nil, nil_from_length}
+use Rattle.std.proofs.lemmas.List.{length-append}
 use Rattle.std.proofs.lemmas.Bool.{eqb-true}
 use Rattle.std.proofs.lemmas.List.Folds.{length-prefix_len}
 use Rattle.base64.specs.GeneralPurpose.{IsBytes}
@@ -12,11 +11,10 @@ use Rattle.structured_fields.specs.declared.bare.Bare.{Bare}
 use Rattle.structured_fields.specs.declared.bare.Bare.TheVariants.{Boolean}
 use Rattle.structured_fields.specs.declared.item.Item.{Item}
 use Rattle.structured_fields.specs.Letters.{is_space, is_key, is_key_start, is_token_byte, is_key_byte}
-use Rattle.structured_fields.specs.Grammar.{IsBare, IsValue, IsGroup, AreGroups, in_order, AreParams, IsItem, IsItemText}
-use Rattle.structured_fields.specs.Reading.{◌>>=◌, front, behind, begins, key_at, bare_at, value_of, group_at, params_from, params_at, item_at, item_of, number_at, unsigned_at}
-use Rattle.structured_fields.proofs.Fronts.{run_again, front_again, behind_again, parts, chosen, given, both, neither, passes, fails, some_is, begun, ends, ends_key, stops}
+use Rattle.structured_fields.specs.Grammar.{IsValue, IsGroup, AreGroups, AreParams, IsItem}
+use Rattle.structured_fields.specs.Reading.{◌>>=◌, front, behind, begins, key_at, bare_at, value_of, group_at, params_from, params_at, item_at}
+use Rattle.structured_fields.proofs.Fronts.{behind_again, parts, chosen, both, passes, fails, some_is, begun, ends, ends_key, stops}
 use Rattle.structured_fields.proofs.Runs.{front_all}
-use Rattle.structured_fields.proofs.Numbers.{TakesBare}
 use Rattle.structured_fields.proofs.Entries.{over}
 use Rattle.structured_fields.proofs.Bares.{rest_bytes, key_takes, key_again, bare_takes, bare_text_again}
 
@@ -97,9 +95,9 @@ unfolding value_of
 value_takes t x fits e =
     elim (chosen (begins 61 t) (bare_at (drop 1 t)) (Some (Boolean true, t)) (Some x) e) [
       | inl p ↦
-        let whole = begun 61 t p.0 in
-        let b = bare_takes (drop 1 t) x (rest_bytes (61 ∷ []) (drop 1 t) (subst IsBytes whole fits)) p.1 in
-        record { text = 61 ∷ b.text; parts = whole ∙ ap (λ (r : List ℕ). 61 ∷ r) b.parts; is = (refl, b.is) }
+          let whole = begun 61 t p.0 in
+          let b = bare_takes (drop 1 t) x (rest_bytes (61 ∷ []) (drop 1 t) (subst IsBytes whole fits)) p.1 in
+          record { text = 61 ∷ b.text; parts = whole ∙ ap (λ (r : List ℕ). 61 ∷ r) b.parts; is = (refl, b.is) }
       | inr p ↦ subst (TakesValue t) (some_is (Boolean true, t) x p.1) (record { text = []; parts = refl; is = refl })
     ]
 
@@ -155,7 +153,7 @@ group_again text name v rest g h =
     let key : key_at (behind is_space t) ≡ Some (name, g.rest ++ rest) = ap key_at left ∙ key_again name (g.rest ++ rest) g.key (value_ends g.rest rest v g.value h) in
     let value : value_of (g.rest ++ rest) ≡ Some (v, rest) = value_again g.rest rest v g.value h in
     let read : group_at t ≡ Some ((name, v), rest) =
-      ap (λ (o : Option (List ℕ × List ℕ)). o >>= λ k. value_of k.1 >>= λ w. Some ((k.0, w.0), w.1)) key ∙ ap (λ (o : Option (Bare × List ℕ)). o >>= λ w. Some ((name, w.0), w.1)) value in
+    ap (λ (o : Option (List ℕ × List ℕ)). o >>= λ k. value_of k.1 >>= λ w. Some ((k.0, w.0), w.1)) key ∙ ap (λ (o : Option (Bare × List ℕ)). o >>= λ w. Some ((name, w.0), w.1)) value in
     (t, regrouped, read)
 
 -- ---- parameters
@@ -173,19 +171,19 @@ params_take zero ps t x fits e = subst (TakesGroups ps t) (some_is (ps, t) x e) 
 params_take (suc n) ps t x fits e =
     elim (chosen (begins 59 t) (group_at (drop 1 t) >>= λ g. params_from n (with_value ps g.0.0 g.0.1) g.1) (Some (ps, t)) (Some x) e) [
       | inl p ↦
-        let whole = begun 59 t p.0 in
-        let bytes = rest_bytes (59 ∷ []) (drop 1 t) (subst IsBytes whole fits) in
-        let b = bind_some (group_at (drop 1 t)) (λ g. params_from n (with_value ps g.0.0 g.0.1) g.1) x p.1 in
-        let g = group_takes (drop 1 t) b.0 bytes b.1 in
-        let all = whole ∙ g.parts in
-        let r = params_take n (with_value ps b.0.0.0 b.0.0.1) b.0.1 x (rest_bytes g.text b.0.1 (subst IsBytes all fits)) b.2 in
-        record {
-          text = g.text ++ r.text;
-          groups = b.0.0 ∷ r.groups;
-          parts = all ∙ ap (λ (u : List ℕ). g.text ++ u) r.parts ∙ sym (append_assoc g.text r.text x.1);
-          are = (g.text, r.text, refl, g.is, r.are);
-          value = r.value;
-        }
+          let whole = begun 59 t p.0 in
+          let bytes = rest_bytes (59 ∷ []) (drop 1 t) (subst IsBytes whole fits) in
+          let b = bind_some (group_at (drop 1 t)) (λ g. params_from n (with_value ps g.0.0 g.0.1) g.1) x p.1 in
+          let g = group_takes (drop 1 t) b.0 bytes b.1 in
+          let all = whole ∙ g.parts in
+          let r = params_take n (with_value ps b.0.0.0 b.0.0.1) b.0.1 x (rest_bytes g.text b.0.1 (subst IsBytes all fits)) b.2 in
+          record {
+            text = g.text ++ r.text;
+            groups = b.0.0 ∷ r.groups;
+            parts = all ∙ ap (λ (u : List ℕ). g.text ++ u) r.parts ∙ sym (append_assoc g.text r.text x.1);
+            are = (g.text, r.text, refl, g.is, r.are);
+            value = r.value;
+          }
       | inr p ↦ subst (TakesGroups ps t) (some_is (ps, t) x p.1) (record { text = []; groups = []; parts = refl; are = refl; value = refl })
     ]
 

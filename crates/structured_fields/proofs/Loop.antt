@@ -1,13 +1,12 @@
 -- Reading parameters, items and members one after the other, as the loops do.
-use Rattle.std.proofs.Common.{◌≡◌, ℕ, zero, suc, ◌+◌, ◌-◌, ◌<◌, Bool, true, false, List, [], cond, ◌∷◌, ◌++◌, length, drop, Option, Some, None, refl, sym, ap, ◌∙◌, arith}
+use Rattle.std.proofs.Common.{◌≡◌, ℕ, zero, suc, ◌+◌, ◌-◌, ◌<◌, true, false, List, [], ◌∷◌, ◌++◌, length, drop, Option, Some, None, refl, sym, ◌∙◌, arith}
 use Rattle.structured_fields.specs.Named.{with_value}
 use Rattle.structured_fields.specs.declared.bare.Bare.{Bare}
 use Rattle.structured_fields.specs.declared.fault.FieldFault.{FieldFault}
 use Rattle.structured_fields.specs.declared.fault.FieldFault.TheVariants.{NotInGrammar, OutOfMemory}
-use Rattle.structured_fields.specs.Reading.{◌>>=◌, Fails, begins, group_at, params_from, params_at, behind, item_at, is_item_end, items_from, items_at, next_at, members_from}
+use Rattle.structured_fields.specs.Reading.{Fails, begins, group_at, params_from, params_at, behind, item_at, is_item_end, items_from, items_at, next_at, members_from}
 use Rattle.structured_fields.specs.declared.item.Item.{Item}
 use Rattle.structured_fields.specs.Letters.{is_space}
-
 
 pub start : (t : List ℕ) → params_from (length t - 0) [] t ≡ params_at t
 unfolding params_at

@@ -1,8 +1,8 @@
 -- Members and entries, and members with commas between them: a list's, and a dictionary's entries.
-use Rattle.std.proofs.Common.{◌≡◌, ℕ, zero, suc, ◌+◌, ◌≤◌, ◌<◌, ◌==◌, Bool, true, false, not, cond, ◌||◌, ◌⊎◌, inl, inr, List, [], ◌∷◌, ◌++◌, length, replicate, drop, fold, Option, Some, None, refl, sym, ap, subst, ◌∙◌, arith, append_assoc}
+use Rattle.std.proofs.Common.{◌≡◌, ℕ, zero, suc, ◌<◌, ◌==◌, true, false, not, cond, ◌⊎◌, inl, inr, List, [], ◌∷◌, ◌++◌, length, drop, fold, Option, Some, None, refl, sym, ap, subst, ◌∙◌, arith, append_assoc}
 use Rattle.std.specs.Option.{option_map, option_map_or}
-use Rattle.std.specs.List.{prefix_len, list_all}
-use Rattle.std.proofs.lemmas.List.{length-append, append-nil, nil_from_length}
+use Rattle.std.specs.List.{list_all}
+use Rattle.std.proofs.lemmas.List.{append-nil, nil_from_length}
 use Rattle.std.proofs.lemmas.Bool.{eqb-true}
 use Rattle.std.proofs.Math.Dec.{eqb-suc-zero}
 use Rattle.std.proofs.lemmas.Bool.Decides.{nat_tests}
@@ -14,12 +14,12 @@ use Rattle.structured_fields.specs.declared.item.InnerList.{InnerList}
 use Rattle.structured_fields.specs.declared.item.Member.{Member}
 use Rattle.structured_fields.specs.declared.item.Member.TheVariants.{Item as Single, Inner}
 use Rattle.structured_fields.specs.Letters.{is_ows, is_key, is_key_start, is_key_byte}
-use Rattle.structured_fields.specs.Grammar.{AreParams, IsComma, AreFurther, AreSeparated, IsMember, IsGiven, IsBareTrue, IsEntry}
+use Rattle.structured_fields.specs.Grammar.{IsComma, AreSeparated, IsMember, IsGiven, IsBareTrue, IsEntry}
 use Rattle.structured_fields.specs.Reading.{◌>>=◌, front, behind, begins, key_at, params_at, item_at, inner_at, member_at, entry_value_at, entry_at, next_at, members_from}
-use Rattle.structured_fields.proofs.Fronts.{behind_again, parts, chosen, given, both, fails, some_is, begun, ends_key, stops}
+use Rattle.structured_fields.proofs.Fronts.{behind_again, parts, chosen, given, both, some_is, begun, ends_key, stops}
 use Rattle.structured_fields.proofs.Runs.{front_all}
 use Rattle.structured_fields.proofs.Bares.{rest_bytes, mapped, key_takes, key_again}
-use Rattle.structured_fields.proofs.Items.{bind_some, is_end, is_close, first_is, follows_ends, follows_no_value, closes_follows, item_takes, item_again, params_at_takes, params_at_again, params_follow}
+use Rattle.structured_fields.proofs.Items.{bind_some, is_close, first_is, follows_ends, follows_no_value, item_takes, item_again, params_at_takes, params_at_again, params_follow}
 use Rattle.structured_fields.proofs.Opens.{Opens, is_plain, opens_more, opens_begins, opens_stops, opens_to, plain_no_ows, item_opens}
 use Rattle.structured_fields.proofs.Inner.{inner_takes, inner_again}
 
@@ -35,14 +35,14 @@ unfolding member_at
 member_takes t x fits e =
     elim (chosen (begins 40 t) (option_map (λ y. (Inner y.0, y.1)) (inner_at (drop 1 t))) (option_map (λ y. (Single y.0, y.1)) (item_at t)) (Some x) e) [
       | inl p ↦
-        let whole = begun 40 t p.0 in
-        let m = mapped (λ (y : InnerList × List ℕ). (Inner y.0, y.1)) (inner_at (drop 1 t)) x p.1 in
-        let i = inner_takes (drop 1 t) m.0 (rest_bytes (40 ∷ []) (drop 1 t) (subst IsBytes whole fits)) m.1 in
-        subst (TakesMember IsMember t) m.2 (record { text = i.text; parts = whole ∙ i.parts; is = i.is })
+          let whole = begun 40 t p.0 in
+          let m = mapped (λ (y : InnerList × List ℕ). (Inner y.0, y.1)) (inner_at (drop 1 t)) x p.1 in
+          let i = inner_takes (drop 1 t) m.0 (rest_bytes (40 ∷ []) (drop 1 t) (subst IsBytes whole fits)) m.1 in
+          subst (TakesMember IsMember t) m.2 (record { text = i.text; parts = whole ∙ i.parts; is = i.is })
       | inr p ↦
-        let m = mapped (λ (y : Item × List ℕ). (Single y.0, y.1)) (item_at t) x p.1 in
-        let i = item_takes t m.0 fits m.1 in
-        subst (TakesMember IsMember t) m.2 (record { text = i.text; parts = i.parts; is = i.is })
+          let m = mapped (λ (y : Item × List ℕ). (Single y.0, y.1)) (item_at t) x p.1 in
+          let i = item_takes t m.0 fits m.1 in
+          subst (TakesMember IsMember t) m.2 (record { text = i.text; parts = i.parts; is = i.is })
     ]
 
 pub member_again : (text rest : List ℕ) (m : Member) → IsMember text m → first_is is_close rest ≡ true → member_at (text ++ rest) ≡ Some (m, rest)
@@ -66,13 +66,13 @@ unfolding entry_value_at
 entry_value_takes t x fits e =
     elim (chosen (begins 61 t) (member_at (drop 1 t)) (option_map (λ p. (Single (record { bare = Boolean true; params = p.0 }), p.1)) (params_at t)) (Some x) e) [
       | inl p ↦
-        let whole = begun 61 t p.0 in
-        let m = member_takes (drop 1 t) x (rest_bytes (61 ∷ []) (drop 1 t) (subst IsBytes whole fits)) p.1 in
-        record { text = 61 ∷ m.text; parts = whole ∙ ap (λ (r : List ℕ). 61 ∷ r) m.parts; is = inl (record { member_text = m.text; is = refl; member = m.is }) }
+          let whole = begun 61 t p.0 in
+          let m = member_takes (drop 1 t) x (rest_bytes (61 ∷ []) (drop 1 t) (subst IsBytes whole fits)) p.1 in
+          record { text = 61 ∷ m.text; parts = whole ∙ ap (λ (r : List ℕ). 61 ∷ r) m.parts; is = inl (record { member_text = m.text; is = refl; member = m.is }) }
       | inr p ↦
-        let m = mapped (λ (y : List (List ℕ × Bare) × List ℕ). (Single (record { bare = Boolean true; params = y.0 }), y.1)) (params_at t) x p.1 in
-        let q = params_at_takes t m.0 fits m.1 in
-        subst (TakesMember (λ text m. IsGiven text m ⊎ IsBareTrue text m) t) m.2 (record { text = q.text; parts = q.parts; is = inr (record { params = m.0.0; is = q.are; value = refl }) })
+          let m = mapped (λ (y : List (List ℕ × Bare) × List ℕ). (Single (record { bare = Boolean true; params = y.0 }), y.1)) (params_at t) x p.1 in
+          let q = params_at_takes t m.0 fits m.1 in
+          subst (TakesMember (λ text m. IsGiven text m ⊎ IsBareTrue text m) t) m.2 (record { text = q.text; parts = q.parts; is = inr (record { params = m.0.0; is = q.are; value = refl }) })
     ]
 
 entry_value_again : (text rest : List ℕ) (m : Member) → IsGiven text m ⊎ IsBareTrue text m → first_is is_close rest ≡ true → entry_value_at (text ++ rest) ≡ Some (m, rest)
@@ -161,18 +161,22 @@ next_takes t next e =
     let split : t ≡ before ++ left = parts is_ows t in
     elim (chosen (length left == 0) (Some None) (cond (begins 44 left) (Some (Some (behind is_ows (drop 1 left)))) None) (Some next) e) [
       | inl p ↦
-        let nothing : left ≡ [] = nil_from_length left (eqb-true (length left) 0 p.0) in
-        let all : t ≡ before = split ∙ ap (λ (u : List ℕ). before ++ u) nothing ∙ append-nil before in
-        inl (sym (some_is None next p.1), ap (list_all is_ows) all ∙ front_all is_ows t)
+          let nothing : left ≡ [] = nil_from_length left (eqb-true (length left) 0 p.0) in
+          let all : t ≡ before = split ∙ ap (λ (u : List ℕ). before ++ u) nothing ∙ append-nil before in
+          inl (sym (some_is None next p.1), ap (list_all is_ows) all ∙ front_all is_ows t)
       | inr p ↦
-        let g = given (begins 44 left) (Some (Some (behind is_ows (drop 1 left)))) next p.1 in
-        let after : List ℕ = front is_ows (drop 1 left) in
-        let u : List ℕ = behind is_ows (drop 1 left) in
-        inr (u, sym (some_is (Some u) next g.1), record {
-          between = before ++ 44 ∷ after;
-          parts = split ∙ ap (λ (r : List ℕ). before ++ r) (begun 44 left g.0 ∙ ap (λ (r : List ℕ). 44 ∷ r) (parts is_ows (drop 1 left))) ∙ sym (append_assoc before (44 ∷ after) u);
-          is = record { before = before; after = after; is = refl; before_ows = front_all is_ows t; after_ows = front_all is_ows (drop 1 left) };
-        })
+          let g = given (begins 44 left) (Some (Some (behind is_ows (drop 1 left)))) next p.1 in
+          let after : List ℕ = front is_ows (drop 1 left) in
+          let u : List ℕ = behind is_ows (drop 1 left) in
+          inr (
+            u,
+            sym (some_is (Some u) next g.1),
+            record {
+              between = before ++ 44 ∷ after;
+              parts = split ∙ ap (λ (r : List ℕ). before ++ r) (begun 44 left g.0 ∙ ap (λ (r : List ℕ). 44 ∷ r) (parts is_ows (drop 1 left))) ∙ sym (append_assoc before (44 ∷ after) u);
+              is = record { before = before; after = after; is = refl; before_ows = front_all is_ows t; after_ows = front_all is_ows (drop 1 left) };
+            },
+          )
     ]
 
 -- ---- members with commas between them
@@ -200,20 +204,23 @@ module _ {H M : Type 0} (read : List ℕ → Option (M × List ℕ)) (add : H �
         let m = takes t a.0 fits a.1 in
         elim (next_takes rest b.0 b.1) [
           | inl p ↦
-            let e : Some (add held x) ≡ Some h = subst (λ (o : Option (List ℕ)). option_map_or (λ u. members_from read add n (add held x) u) o (Some (add held x)) ≡ Some h) p.0 b.2 in
-            record { head = x; others = []; body = m.text; tail = rest; parts = m.parts; ows = p.1; are = (m.text, [], sym (append-nil m.text), m.is, refl); value = sym (some_is (add held x) h e) }
+              let e : Some (add held x) ≡ Some h = subst (λ (o : Option (List ℕ)). option_map_or (λ u. members_from read add n (add held x) u) o (Some (add held x)) ≡ Some h) p.0 b.2 in
+              record { head = x; others = []; body = m.text; tail = rest; parts = m.parts; ows = p.1; are = (m.text, [], sym (append-nil m.text), m.is, refl); value = sym (some_is (add held x) h e) }
           | inr p ↦
-            let e : members_from read add n (add held x) p.0 ≡ Some h = subst (λ (o : Option (List ℕ)). option_map_or (λ u. members_from read add n (add held x) u) o (Some (add held x)) ≡ Some h) p.1 b.2 in
-            let k = p.2 in
-            let fits_rest = rest_bytes m.text rest (subst IsBytes m.parts fits) in
-            let r = members_take n (add held x) p.0 h (rest_bytes k.between p.0 (subst IsBytes k.parts fits_rest)) e in
-            record {
-              head = x; others = r.head ∷ r.others; body = m.text ++ (k.between ++ r.body); tail = r.tail;
-              parts = m.parts ∙ ap (λ (u : List ℕ). m.text ++ u) (k.parts ∙ ap (λ (u : List ℕ). k.between ++ u) r.parts ∙ sym (append_assoc k.between r.body r.tail)) ∙ sym (append_assoc m.text (k.between ++ r.body) r.tail);
-              ows = r.ows;
-              are = (m.text, k.between ++ r.body, refl, m.is, (k.between, r.are.0, r.are.1, ap (λ (u : List ℕ). k.between ++ u) r.are.2, k.is, r.are.3, r.are.4));
-              value = r.value;
-            }
+              let e : members_from read add n (add held x) p.0 ≡ Some h = subst (λ (o : Option (List ℕ)). option_map_or (λ u. members_from read add n (add held x) u) o (Some (add held x)) ≡ Some h) p.1 b.2 in
+              let k = p.2 in
+              let fits_rest = rest_bytes m.text rest (subst IsBytes m.parts fits) in
+              let r = members_take n (add held x) p.0 h (rest_bytes k.between p.0 (subst IsBytes k.parts fits_rest)) e in
+              record {
+                head = x;
+                others = r.head ∷ r.others;
+                body = m.text ++ (k.between ++ r.body);
+                tail = r.tail;
+                parts = m.parts ∙ ap (λ (u : List ℕ). m.text ++ u) (k.parts ∙ ap (λ (u : List ℕ). k.between ++ u) r.parts ∙ sym (append_assoc k.between r.body r.tail)) ∙ sym (append_assoc m.text (k.between ++ r.body) r.tail);
+                ows = r.ows;
+                are = (m.text, k.between ++ r.body, refl, m.is, (k.between, r.are.0, r.are.1, ap (λ (u : List ℕ). k.between ++ u) r.are.2, k.is, r.are.3, r.are.4));
+                value = r.value;
+              }
         ]
 
   module _ (again : (text rest : List ℕ) (m : M) → Is text m → first_is is_close rest ≡ true → read (text ++ rest) ≡ Some (m, rest))
@@ -232,8 +239,8 @@ module _ {H M : Type 0} (read : List ℕ → Option (M × List ℕ)) (add : H �
         let next : List ℕ = body ++ tail in
         let rest : List ℕ = c.before ++ 44 ∷ (c.after ++ next) in
         let whole : text ++ tail ≡ are.0 ++ rest =
-          ap (λ (u : List ℕ). u ++ tail) (are.2 ∙ ap (λ (u : List ℕ). are.0 ++ u) (f.3 ∙ ap (λ (u : List ℕ). u ++ body) c.is)) ∙ append_assoc are.0 ((c.before ++ 44 ∷ c.after) ++ body) tail
-          ∙ ap (λ (u : List ℕ). are.0 ++ u) (append_assoc (c.before ++ 44 ∷ c.after) body tail ∙ append_assoc c.before (44 ∷ c.after) next) in
+        ap (λ (u : List ℕ). u ++ tail) (are.2 ∙ ap (λ (u : List ℕ). are.0 ++ u) (f.3 ∙ ap (λ (u : List ℕ). u ++ body) c.is)) ∙ append_assoc are.0 ((c.before ++ 44 ∷ c.after) ++ body) tail
+        ∙ ap (λ (u : List ℕ). are.0 ++ u) (append_assoc (c.before ++ 44 ∷ c.after) body tail ∙ append_assoc c.before (44 ∷ c.after) next) in
         let one = again are.0 rest m are.3 (comma_closes c.before (c.after ++ next) c.before_ows) in
         let starts : stops is_ows next ≡ true = opens_stops is_ows next (subst (Opens (λ c. not (is_ows c))) (sym (append_assoc f.1 f.2 tail)) (opens_more (λ c. not (is_ows c)) f.1 (f.2 ++ tail) (opens f.1 k f.5))) in
         let comma = next_again c.before c.after next c.before_ows c.after_ows starts in

@@ -1,5 +1,5 @@
 -- Numbers: what is read is a number's text, and a number's text is read.
-use Rattle.std.proofs.Common.{◌≡◌, ℕ, zero, suc, ◌+◌, ◌*◌, ◌^◌, ◌≤◌, ◌<◌, ◌-◌, ◌==◌, Bool, true, false, not, cond, ◌&&◌, ◌||◌, ◌⊎◌, inl, inr, List, [], ◌∷◌, ◌++◌, length, take, drop, get_or, Option, Some, None, refl, sym, ap, subst, ◌∙◌, arith, append_assoc, ℤ}
+use Rattle.std.proofs.Common.{◌≡◌, ℕ, ◌≤◌, Bool, true, false, cond, ◌&&◌, inl, inr, List, [], ◌∷◌, ◌++◌, length, drop, Option, Some, None, refl, sym, ap, subst, ◌∙◌, arith, append_assoc, ℤ}
 use Rattle.std.specs.List.{prefix_len, list_all}
 use Rattle.std.proofs.lemmas.Bool.Decides.{nat_tests}
 use Rattle.std.proofs.lemmas.List.Folds.{length-prefix_len}
@@ -9,7 +9,7 @@ use Rattle.structured_fields.specs.Letters.{is_digit, number, signed, sign}
 use Rattle.structured_fields.specs.Grammar.{AreDigits, IsInteger, IsDecimal, IsBare}
 use Rattle.structured_fields.specs.Reading.{front, behind, begins, within, thousandths, decimal_at, unsigned_at, number_at}
 use Rattle.structured_fields.proofs.Runs.{digits_all}
-use Rattle.structured_fields.proofs.Fronts.{run_again, front_again, behind_again, parts, chosen, given, both, some_is, begun, ends, ends_digit, ends_point, stops}
+use Rattle.structured_fields.proofs.Fronts.{run_again, front_again, behind_again, parts, chosen, given, both, some_is, begun, ends, ends_digit, ends_point}
 
 within_is : (n most : ℕ) → 1 ≤ n → n ≤ most → within n most ≡ true
 within_is n most low high = grind (arith, nat_tests)
@@ -92,35 +92,35 @@ unsigned_takes negative t x e =
     let n : length (front is_digit t) ≡ prefix_len is_digit t = length-prefix_len is_digit t in
     elim (chosen (begins 46 left) (decimal_at negative whole (drop 1 left)) (cond (within (prefix_len is_digit t) 15) (Some y) None) (Some x) e) [
       | inl p ↦
-        let d = decimal_takes negative whole (drop 1 left) x (digits_all t) p.1 in
-        let apart : t ≡ whole ++ (46 ∷ (d.part ++ x.1)) = parts is_digit t ∙ ap (λ (r : List ℕ). whole ++ r) (begun 46 left p.0 ∙ ap (λ (r : List ℕ). 46 ∷ r) d.parts) in
-        record {
-          text = whole ++ 46 ∷ d.part;
-          parts = apart ∙ sym (append_assoc whole (46 ∷ d.part) x.1);
-          is = subst (IsBare (sign negative ++ (whole ++ 46 ∷ d.part))) (sym d.is) (record {
-            negative = negative;
-            whole = whole;
-            part = d.part;
-            whole_fits = d.whole_fits;
-            part_fits = d.part_fits;
-            is = sym (append_assoc (sign negative) whole (46 ∷ d.part));
-            value = refl;
-          });
-        }
+          let d = decimal_takes negative whole (drop 1 left) x (digits_all t) p.1 in
+          let apart : t ≡ whole ++ (46 ∷ (d.part ++ x.1)) = parts is_digit t ∙ ap (λ (r : List ℕ). whole ++ r) (begun 46 left p.0 ∙ ap (λ (r : List ℕ). 46 ∷ r) d.parts) in
+          record {
+            text = whole ++ 46 ∷ d.part;
+            parts = apart ∙ sym (append_assoc whole (46 ∷ d.part) x.1);
+            is = subst (IsBare (sign negative ++ (whole ++ 46 ∷ d.part))) (sym d.is) (record {
+              negative = negative;
+              whole = whole;
+              part = d.part;
+              whole_fits = d.whole_fits;
+              part_fits = d.part_fits;
+              is = sym (append_assoc (sign negative) whole (46 ∷ d.part));
+              value = refl;
+            });
+          }
       | inr p ↦
-        let g = given (within (prefix_len is_digit t) 15) (Some y) x p.1 in
-        let a = within_bounds (prefix_len is_digit t) 15 g.0 in
-        subst (TakesNumber negative t) (some_is y x g.1) (record {
-          text = whole;
-          parts = parts is_digit t;
-          is = record {
-            negative = negative;
-            digits = whole;
-            fits = record { all = digits_all t; least_len = omega arith; most_len = omega arith };
-            is = refl;
-            value = refl;
-          };
-        })
+          let g = given (within (prefix_len is_digit t) 15) (Some y) x p.1 in
+          let a = within_bounds (prefix_len is_digit t) 15 g.0 in
+          subst (TakesNumber negative t) (some_is y x g.1) (record {
+            text = whole;
+            parts = parts is_digit t;
+            is = record {
+              negative = negative;
+              digits = whole;
+              fits = record { all = digits_all t; least_len = omega arith; most_len = omega arith };
+              is = refl;
+              value = refl;
+            };
+          })
     ]
 
 pub record TakesBare (t : List ℕ) (x : Bare × List ℕ) : Type 0 where
@@ -133,8 +133,8 @@ unfolding number_at
 number_takes t x e =
     elim (chosen (begins 45 t) (unsigned_at true (drop 1 t)) (unsigned_at false t) (Some x) e) [
       | inl p ↦
-        let n = unsigned_takes true (drop 1 t) x p.1 in
-        record { text = 45 ∷ n.text; parts = begun 45 t p.0 ∙ ap (λ (r : List ℕ). 45 ∷ r) n.parts; is = n.is }
+          let n = unsigned_takes true (drop 1 t) x p.1 in
+          record { text = 45 ∷ n.text; parts = begun 45 t p.0 ∙ ap (λ (r : List ℕ). 45 ∷ r) n.parts; is = n.is }
       | inr p ↦ let n = unsigned_takes false t x p.1 in record { text = n.text; parts = n.parts; is = n.is }
     ]
 

@@ -1,14 +1,14 @@
 -- How texts of the grammar begin, and how many members a text can have.
-use Rattle.std.proofs.Common.{◌≡◌, ℕ, suc, ◌+◌, ◌≤◌, ◌==◌, Bool, true, false, not, ◌||◌, List, [], ◌∷◌, ◌++◌, length, Option, Some, None, refl, sym, ap, subst, ◌∙◌, arith, append_assoc, true≢false}
+use Rattle.std.proofs.Common.{◌≡◌, ℕ, suc, ◌+◌, ◌≤◌, ◌==◌, Bool, true, false, not, ◌||◌, List, [], ◌∷◌, ◌++◌, length, Some, refl, sym, ap, subst, ◌∙◌, arith, true≢false}
 use Rattle.std.specs.Prelude.{is_none}
-use Rattle.std.specs.List.{list_all, list_any}
+use Rattle.std.specs.List.{list_any}
 use Rattle.std.proofs.lemmas.Bool.Decides.{nat_tests}
 use Rattle.std.proofs.lemmas.List.{length-append}
 use Rattle.structured_fields.specs.declared.bare.Bare.{Bare}
 use Rattle.structured_fields.specs.declared.item.Item.{Item}
 use Rattle.structured_fields.specs.Letters.{is_space}
 use Rattle.structured_fields.specs.Grammar.{IsBare, IsItem, AreFurther, AreSeparated}
-use Rattle.structured_fields.specs.Reading.{begins, number_at, unsigned_at, bare_at, is_item_end}
+use Rattle.structured_fields.specs.Reading.{begins, number_at, unsigned_at, bare_at}
 use Rattle.structured_fields.proofs.Fronts.{fails, passes, stops, neither}
 use Rattle.structured_fields.proofs.Bares.{bare_text_again}
 use Rattle.structured_fields.proofs.Items.{any_holds}

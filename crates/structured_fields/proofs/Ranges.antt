@@ -1,5 +1,5 @@
 -- Values of texts are in range.
-use Rattle.std.proofs.Common.{◌≡◌, ℕ, zero, suc, ◌+◌, ◌-◌, ◌*◌, ◌^◌, ◌≤◌, ◌<◌, ◌==◌, Bool, true, false, ◌&&◌, ◌⊎◌, inl, inr, List, [], ◌∷◌, ◌++◌, length, refl, sym, ap, subst, ◌∙◌, arith, ℤ, pos, nat_abs, lit<}
+use Rattle.std.proofs.Common.{◌≡◌, ℕ, zero, suc, ◌+◌, ◌-◌, ◌*◌, ◌^◌, ◌≤◌, ◌<◌, Bool, true, false, ◌⊎◌, inl, inr, List, [], ◌∷◌, length, refl, sym, ap, subst, ◌∙◌, arith, ℤ, nat_abs, lit<}
 use Rattle.std.specs.List.{list_all, AllByRecursion}
 use Rattle.std.proofs.Math.Nat.{pow-le-pow_right, pow-suc}
 use Rattle.std.proofs.lemmas.Bool.Decides.{nat_tests}
@@ -11,7 +11,7 @@ use Rattle.structured_fields.specs.declared.item.Member.{Member}
 use Rattle.structured_fields.specs.declared.item.Member.TheVariants.{Item as Single, Inner}
 use Rattle.structured_fields.specs.Named.{IsDistinct}
 use Rattle.structured_fields.specs.Letters.{is_digit, is_key, number, number_after, signed}
-use Rattle.structured_fields.specs.Grammar.{AreDigits, IsInteger, IsDecimal, IsBare, IsValue, AreGroups, in_order, AreParams, IsItem, AreFurther, AreSeparated, IsInner, IsMember, IsGiven, IsBareTrue, IsEntry, IsItemText, IsListText, IsDictionaryText}
+use Rattle.structured_fields.specs.Grammar.{AreDigits, IsInteger, IsDecimal, IsBare, IsValue, AreGroups, AreParams, IsItem, AreFurther, AreSeparated, IsInner, IsMember, IsGiven, IsBareTrue, IsEntry, IsItemText, IsListText, IsDictionaryText}
 use Rattle.structured_fields.specs.Canonical.{IsInRange, AreInRange, IsItemInRange, IsInnerInRange, IsMemberInRange, IsListInRange, IsDictionaryInRange}
 use Rattle.structured_fields.proofs.Fronts.{both}
 use Rattle.structured_fields.proofs.Entries.{distinct_over, all_over}

@@ -1,5 +1,5 @@
 -- What a reader answered, from the function that it follows.
-use Rattle.std.proofs.Common.{◌≡◌, ℕ, List, Option, Some, None, Result, Ok, Err, subst}
+use Rattle.std.proofs.Common.{◌≡◌, ℕ, List, Option, Some, Result, Ok, Err, subst}
 use Rattle.std.specs.Prelude.{IfOk}
 use Rattle.base64.specs.GeneralPurpose.{IsBytes}
 use Rattle.structured_fields.specs.declared.fault.FieldFault.{FieldFault}

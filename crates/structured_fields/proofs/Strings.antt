@@ -1,11 +1,10 @@
 -- Strings.
-use Rattle.std.proofs.Common.{◌≡◌, ℕ, zero, suc, ◌==◌, Bool, true, false, not, cond, ◌&&◌, ◌||◌, ◌⊎◌, inl, inr, List, [], ◌∷◌, ◌++◌, Option, Some, None, refl, sym, ap, subst, ◌∙◌, arith, append_assoc, true≢false}
-use Rattle.std.specs.Option.{option_map}
+use Rattle.std.proofs.Common.{◌≡◌, ℕ, ◌==◌, Bool, true, false, cond, inl, inr, List, [], ◌∷◌, ◌++◌, Option, Some, None, refl, sym, ap, subst, ◌∙◌, arith, append_assoc}
 use Rattle.std.specs.List.{list_all, flat_map}
 use Rattle.std.proofs.lemmas.Bool.Decides.{nat_tests}
 use Rattle.std.proofs.lemmas.List.Concat.{flat_map-cons}
 use Rattle.structured_fields.specs.Letters.{is_quoted, is_string_byte}
-use Rattle.structured_fields.specs.Grammar.{in_string, IsString}
+use Rattle.structured_fields.specs.Grammar.{in_string}
 use Rattle.structured_fields.specs.Reading.{with_byte, string_rest}
 use Rattle.structured_fields.proofs.Fronts.{chosen, given, both, neither, some_is}
 
@@ -57,21 +56,21 @@ string_takes true (c ∷ t) x e =
 string_takes false (c ∷ t) x e =
     elim (chosen (c == 34) (Some ([], t)) (cond (c == 92) (string_rest true t) (cond (is_string_byte c) (with_byte c (string_rest false t)) None)) (Some x) e) [
       | inl p ↦
-        let k : c ≡ 34 = let q = p.0 in grind (arith, nat_tests, q) in
-        subst (TakesString false (c ∷ t)) (some_is ([], t) x p.1) (record { parts = ap (λ (d : ℕ). d ∷ t) k; all = refl })
+          let k : c ≡ 34 = let q = p.0 in grind (arith, nat_tests, q) in
+          subst (TakesString false (c ∷ t)) (some_is ([], t) x p.1) (record { parts = ap (λ (d : ℕ). d ∷ t) k; all = refl })
       | inr p ↦ elim (chosen (c == 92) (string_rest true t) (cond (is_string_byte c) (with_byte c (string_rest false t)) None) (Some x) p.1) [
         | inl q ↦
-          let k : c ≡ 92 = let u = q.0 in grind (arith, nat_tests, u) in
-          let r = string_takes true t x q.1 in
-          record { parts = ap (λ (d : ℕ). d ∷ t) k ∙ r.parts; all = r.all }
+            let k : c ≡ 92 = let u = q.0 in grind (arith, nat_tests, u) in
+            let r = string_takes true t x q.1 in
+            record { parts = ap (λ (d : ℕ). d ∷ t) k ∙ r.parts; all = r.all }
         | inr q ↦
-          let g = given (is_string_byte c) (with_byte c (string_rest false t)) x q.1 in
-          let b = byte_given c (string_rest false t) x g.1 in
-          let r = string_takes false t b.0 b.1 in
-          let one : in_string c ≡ c ∷ [] = rw (p.0, q.0) refl in
-          subst (TakesString false (c ∷ t)) (sym b.2) (record {
-            parts = ap (λ (u : List ℕ). c ∷ u) r.parts ∙ sym (ap (λ (u : List ℕ). u ++ 34 ∷ b.0.1) (flat_map-cons in_string c b.0.0 ∙ ap (λ (u : List ℕ). u ++ flat_map in_string b.0.0) one));
-            all = all_more is_string_byte c b.0.0 g.0 r.all;
-          })
+            let g = given (is_string_byte c) (with_byte c (string_rest false t)) x q.1 in
+            let b = byte_given c (string_rest false t) x g.1 in
+            let r = string_takes false t b.0 b.1 in
+            let one : in_string c ≡ c ∷ [] = rw (p.0, q.0) refl in
+            subst (TakesString false (c ∷ t)) (sym b.2) (record {
+              parts = ap (λ (u : List ℕ). c ∷ u) r.parts ∙ sym (ap (λ (u : List ℕ). u ++ 34 ∷ b.0.1) (flat_map-cons in_string c b.0.0 ∙ ap (λ (u : List ℕ). u ++ flat_map in_string b.0.0) one));
+              all = all_more is_string_byte c b.0.0 g.0 r.all;
+            })
       ]
     ]

@@ -1,6 +1,6 @@
 -- Whole texts: items, lists and dictionaries.
-use Rattle.std.proofs.Common.{◌≡◌, ℕ, zero, suc, ◌+◌, ◌≤◌, ◌<◌, ◌==◌, Bool, true, false, not, cond, ◌||◌, inl, inr, List, [], ◌∷◌, ◌++◌, length, replicate, fold, Option, Some, None, refl, sym, ap, subst, ◌∙◌, arith, append_assoc}
-use Rattle.std.specs.List.{prefix_len, list_all}
+use Rattle.std.proofs.Common.{◌≡◌, ℕ, zero, suc, ◌≤◌, ◌<◌, ◌==◌, Bool, true, false, not, cond, inl, inr, List, [], ◌∷◌, ◌++◌, length, replicate, fold, Option, Some, None, refl, sym, ap, subst, ◌∙◌, arith, append_assoc}
+use Rattle.std.specs.List.{prefix_len}
 use Rattle.std.proofs.lemmas.List.{length-append, append-nil, nil_from_length}
 use Rattle.std.proofs.lemmas.Bool.{eqb-true}
 use Rattle.std.proofs.lemmas.Bool.Decides.{nat_tests}
@@ -8,13 +8,13 @@ use Rattle.base64.specs.GeneralPurpose.{IsBytes}
 use Rattle.structured_fields.specs.declared.item.Item.{Item}
 use Rattle.structured_fields.specs.declared.item.Member.{Member}
 use Rattle.structured_fields.specs.Letters.{is_space, is_ows}
-use Rattle.structured_fields.specs.Grammar.{IsItemText, IsComma, IsMember, IsEntry, AreMembersText, IsListText, IsDictionaryText, in_order}
+use Rattle.structured_fields.specs.Grammar.{IsItemText, IsComma, IsMember, IsEntry, AreMembersText, IsListText, IsDictionaryText}
 use Rattle.structured_fields.specs.Reading.{◌>>=◌, behind, item_at, member_at, entry_at, members_from, members_of, with_last, with_entry, item_of, list_of, dictionary_of}
 use Rattle.structured_fields.proofs.Fronts.{behind_again, chosen, given, some_is, stops}
 use Rattle.structured_fields.proofs.Bares.{rest_bytes}
 use Rattle.structured_fields.proofs.Items.{bind_some, spaced, are_spaces, is_close, first_is, item_takes, item_again}
 use Rattle.structured_fields.proofs.Opens.{Opens, is_plain, opens_more, opens_stops, opens_to, opens_some, plain_no_space, item_opens, count_separated}
-use Rattle.structured_fields.proofs.Members.{TakesMember, TakesMembers, members_take, members_again, member_takes, member_again, member_opens, entry_takes, entry_again, entry_opens}
+use Rattle.structured_fields.proofs.Members.{TakesMember, members_take, members_again, member_takes, member_again, member_opens, entry_takes, entry_again, entry_opens}
 
 -- ---- items
 
@@ -70,11 +70,11 @@ module _ {H M : Type 0} (read : List ℕ → Option (M × List ℕ)) (add : H �
       let s : t ≡ replicate b 32 ++ u = spaced t in
       elim (chosen (length u == 0) (Some none) (members_from read add (length u) none u) (Some h) e) [
         | inl p ↦
-          let nothing : u ≡ [] = nil_from_length u (eqb-true (length u) 0 p.0) in
-          record { members = []; are = record { before = b; body = []; after = []; is = s ∙ ap (λ (r : List ℕ). replicate b 32 ++ r) nothing; members = refl; end = refl }; value = sym (some_is none h p.1) }
+            let nothing : u ≡ [] = nil_from_length u (eqb-true (length u) 0 p.0) in
+            record { members = []; are = record { before = b; body = []; after = []; is = s ∙ ap (λ (r : List ℕ). replicate b 32 ++ r) nothing; members = refl; end = refl }; value = sym (some_is none h p.1) }
         | inr p ↦
-          let m = members_take read add Is takes (length u) none u h (rest_bytes (replicate b 32) u (subst IsBytes s fits)) p.1 in
-          record { members = m.head ∷ m.others; are = record { before = b; body = m.body; after = m.tail; is = s ∙ ap (λ (r : List ℕ). replicate b 32 ++ r) m.parts; members = m.are; end = m.ows }; value = m.value }
+            let m = members_take read add Is takes (length u) none u h (rest_bytes (replicate b 32) u (subst IsBytes s fits)) p.1 in
+            record { members = m.head ∷ m.others; are = record { before = b; body = m.body; after = m.tail; is = s ∙ ap (λ (r : List ℕ). replicate b 32 ++ r) m.parts; members = m.are; end = m.ows }; value = m.value }
       ]
 
   members_of_again : ((text rest : List ℕ) (m : M) → Is text m → first_is is_close rest ≡ true → read (text ++ rest) ≡ Some (m, rest))

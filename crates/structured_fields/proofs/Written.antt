@@ -1,7 +1,7 @@
 -- The canonical text of a value in range is a text of it.
-use Rattle.std.proofs.Common.{◌≡◌, ℕ, zero, suc, ◌+◌, ◌-◌, ◌*◌, ◌/◌, ◌%◌, ◌^◌, ◌≤◌, ◌<◌, ◌==◌, Bool, true, false, not, cond, ◌&&◌, List, [], ◌∷◌, ◌++◌, length, take, replicate, fold, slice_get, Option, Some, None, refl, sym, ap, subst, ◌∙◌, arith, append_assoc, rules, ℤ, pos, negsuc, true≢false, ◌⊎◌, inl, inr}
+use Rattle.std.proofs.Common.{◌≡◌, ℕ, zero, suc, ◌+◌, ◌-◌, ◌*◌, ◌/◌, ◌%◌, ◌^◌, ◌<◌, ◌==◌, Bool, true, false, cond, List, [], ◌∷◌, ◌++◌, length, take, slice_get, Some, refl, sym, ap, ◌∙◌, arith, append_assoc, rules, ℤ, pos, negsuc, ◌⊎◌, inl, inr}
 use Rattle.std.specs.Prelude.{neg_ℤ}
-use Rattle.std.specs.List.{list_all, flat_map, AllByRecursion}
+use Rattle.std.specs.List.{list_all, AllByRecursion}
 use Rattle.std.specs.Fmt.{decimal}
 use Rattle.std.proofs.lemmas.Str.Parse.{IsNumeralModel, numerals_by_fold}
 use Rattle.std.proofs.lemmas.Fmt.{digits_decimal, digits_value-decimal, length-decimal-le, decimal_nonempty}
@@ -17,7 +17,7 @@ use Rattle.structured_fields.specs.declared.item.Member.{Member}
 use Rattle.structured_fields.specs.declared.item.Member.TheVariants.{Item as Single, Inner}
 use Rattle.structured_fields.specs.Letters.{is_digit, is_key, number, number_after, signed, sign}
 use Rattle.structured_fields.specs.Grammar.{AreDigits, IsInteger, IsDecimal, IsBare, IsValue, AreGroups, AreParams, IsItem, IsGap, IsComma, IsInner, IsMember, IsGiven, IsBareTrue, IsEntry, AreFurther, AreSeparated, MayEnd, AreMembersText, IsItemText, IsListText, IsDictionaryText}
-use Rattle.structured_fields.specs.Canonical.{part_text, integer_text, thousandths_text, decimal_text, bare_text, value_text, params_text, item_text, further_text, separated_text, inner_text, member_text, single_text, entry_text, list_text, dictionary_text, IsInRange, AreInRange, IsItemInRange, IsInnerInRange, IsMemberInRange, IsListInRange, IsDictionaryInRange}
+use Rattle.structured_fields.specs.Canonical.{part_text, integer_text, thousandths_text, bare_text, value_text, params_text, item_text, further_text, separated_text, inner_text, member_text, single_text, entry_text, list_text, dictionary_text, IsInRange, AreInRange, IsItemInRange, IsInnerInRange, IsMemberInRange, IsListInRange, IsDictionaryInRange}
 use Rattle.structured_fields.proofs.Entries.{stays}
 
 -- ---- one more entry written
@@ -145,7 +145,11 @@ separated_more {M} between text (k ∷ ms) (suc i) m e =
 
 pub inner_is : (v : InnerList) → IsInnerInRange v → IsInner (inner_text v) v
 inner_is v h = record {
-  before = 0; after = 0; items_text = separated_text (32 ∷ []) item_text v.items; params_text = params_text v.params; is = refl;
+  before = 0;
+  after = 0;
+  items_text = separated_text (32 ∷ []) item_text v.items;
+  params_text = params_text v.params;
+  is = refl;
   items = separated_are IsGap IsItem IsItemInRange (32 ∷ []) item_text (0, refl) item_is v.items h.items;
   params = params_are v.params h.params h.distinct;
 }
@@ -188,8 +192,12 @@ may_end (m ∷ ms) = refl
 module _ {M : Type 0} (Is : List ℕ → M → Type 0) (P : M → Type 0) (text : M → List ℕ) (each : (m : M) → P m → Is (text m) m) where
   members_are : (ms : List M) → AllByRecursion P ms → AreMembersText Is (separated_text (44 ∷ 32 ∷ []) text ms) ms
   members_are ms h = record {
-    before = 0; body = separated_text (44 ∷ 32 ∷ []) text ms; after = []; is = sym (append-nil (separated_text (44 ∷ 32 ∷ []) text ms));
-    members = separated_are IsComma Is P (44 ∷ 32 ∷ []) text comma_is each ms h; end = may_end ms;
+    before = 0;
+    body = separated_text (44 ∷ 32 ∷ []) text ms;
+    after = [];
+    is = sym (append-nil (separated_text (44 ∷ 32 ∷ []) text ms));
+    members = separated_are IsComma Is P (44 ∷ 32 ∷ []) text comma_is each ms h;
+    end = may_end ms;
   }
 
 pub list_text_is : (v : List Member) → IsListInRange v → IsListText (list_text v) v

@@ -6,7 +6,10 @@ ghost use Rattle.structured_fields.specs.Reading.{Gives, key_at, decimal_at, uns
 
 use crate::bare::Bare;
 use crate::fault::FieldFault;
-use crate::letters::{colon_run, digits_in, is_key_start, is_quoted, is_string_byte, is_token_start, key_run, token_run};
+use crate::letters::{
+    colon_run, digits_in, is_key_start, is_quoted, is_string_byte, is_token_start, key_run,
+    token_run,
+};
 use base64::DecodeAllocError;
 use base64::engine::general_purpose::{STANDARD, STANDARD_NO_PAD};
 use gnap_io::bytes::Bytes;
@@ -107,10 +110,7 @@ fn number_in(bytes: &[u8]) -> Result<(Bare, &[u8]), FieldFault>
     }
 }
 
-#[tactic(
-    auto,
-    unfolding(crate::specs::Reading::decoded, base64::specs::GeneralPurpose::decoded_of)
-)]
+#[tactic(auto, unfolding(crate::specs::Reading::decoded, base64::specs::GeneralPurpose::decoded_of))]
 fn decode(alloc: Global, text: &[u8]) -> Result<Bytes, FieldFault>
     ensures { Gives (λ b. b) result (decoded text.now) }
 {

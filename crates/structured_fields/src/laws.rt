@@ -10,8 +10,7 @@ pub fn item_laws()
     ensures read { IsReadBy IsItemText item_of }
     ensures range { HasRange IsItemText IsItemInRange }
     ensures printed { IsPrintedBy IsItemText IsItemInRange item_text item_of }
-{
-}
+{}
 
 /// The same of lists.
 pub fn list_laws()
@@ -19,8 +18,7 @@ pub fn list_laws()
     ensures read { IsReadBy IsListText list_of }
     ensures range { HasRange IsListText IsListInRange }
     ensures printed { IsPrintedBy IsListText IsListInRange list_text list_of }
-{
-}
+{}
 
 /// The same of dictionaries.
 pub fn dictionary_laws()
@@ -28,5 +26,4 @@ pub fn dictionary_laws()
     ensures read { IsReadBy IsDictionaryText dictionary_of }
     ensures range { HasRange IsDictionaryText IsDictionaryInRange }
     ensures printed { IsPrintedBy IsDictionaryText IsDictionaryInRange dictionary_text dictionary_of }
-{
-}
+{}

@@ -97,7 +97,10 @@ fn ows_run(bytes: &[u8]) -> usize
     ensures len { result ≡ prefix_len is_ows bytes.now }
     ensures within { result ≤ length bytes.now }
 {
-    bytes.iter().take_while(|b| **b == b' ' || **b == b'\t').count()
+    bytes
+        .iter()
+        .take_while(|b| **b == b' ' || **b == b'\t')
+        .count()
 }
 
 pub(crate) fn without_ows(bytes: &[u8]) -> &[u8]

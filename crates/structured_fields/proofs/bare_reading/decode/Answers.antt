@@ -1,5 +1,4 @@
 use Rattle.structured_fields.proofs.Base64.{decoded_first, decoded_second, decoded_none}
-use Rattle.std.proofs.Common.{◌≡◌, subst, sym}
 use Rattle.structured_fields.proofs.bare_reading.decode.Goals as goal
 
 pub returns-in-Ok : goal.returns-in-Ok

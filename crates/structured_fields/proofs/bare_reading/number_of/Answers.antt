@@ -1,4 +1,4 @@
-use Rattle.std.proofs.Common.{◌≡◌, ◌≤◌, ◌^◌, arith}
+use Rattle.std.proofs.Common.{◌≤◌, ◌^◌, arith}
 use Rattle.structured_fields.proofs.Runs.{ten_to, below_ten_to}
 use Rattle.structured_fields.proofs.bare_reading.number_of.Goals as goal
 

@@ -1,6 +1,6 @@
-use Rattle.std.proofs.Common.{arith, ◌≡◌, subst, sym, ap, ◌∙◌, ◌+◌, ◌-◌, length, Some}
+use Rattle.std.proofs.Common.{arith, subst, sym, ap, ◌∙◌, ◌-◌, length}
 use Rattle.std.proofs.lemmas.Result.{err_from_is_err_and}
-use Rattle.structured_fields.specs.Reading.{params_at, params_from, Fails, group_at}
+use Rattle.structured_fields.specs.Reading.{params_at, Fails, group_at}
 use Rattle.structured_fields.proofs.Loop.{start, stopped, spent, more, failed}
 use Rattle.structured_fields.proofs.item_reading.params_of.Goals as goal
 

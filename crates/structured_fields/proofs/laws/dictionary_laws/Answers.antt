@@ -1,4 +1,4 @@
-use Rattle.std.proofs.Common.{◌≡◌, None, Some, sym, ◌∙◌}
+use Rattle.std.proofs.Common.{sym, ◌∙◌}
 use Rattle.structured_fields.specs.Canonical.{dictionary_text}
 use Rattle.structured_fields.proofs.Fronts.{some_is}
 use Rattle.structured_fields.proofs.Whole.{dictionary_of_takes, dictionary_of_again}

@@ -1,4 +1,4 @@
-use Rattle.std.proofs.Common.{◌≡◌, None, Some, sym, ◌∙◌}
+use Rattle.std.proofs.Common.{sym, ◌∙◌}
 use Rattle.structured_fields.specs.Canonical.{item_text}
 use Rattle.structured_fields.proofs.Fronts.{some_is}
 use Rattle.structured_fields.proofs.Whole.{item_of_takes, item_of_again}

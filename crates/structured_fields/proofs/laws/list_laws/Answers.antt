@@ -1,4 +1,4 @@
-use Rattle.std.proofs.Common.{◌≡◌, None, Some, sym, ◌∙◌}
+use Rattle.std.proofs.Common.{sym, ◌∙◌}
 use Rattle.structured_fields.specs.Canonical.{list_text}
 use Rattle.structured_fields.proofs.Fronts.{some_is}
 use Rattle.structured_fields.proofs.Whole.{list_of_takes, list_of_again}

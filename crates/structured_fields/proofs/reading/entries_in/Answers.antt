@@ -1,7 +1,7 @@
-use Rattle.std.proofs.Common.{arith, ◌-◌, [], length}
+use Rattle.std.proofs.Common.{arith, ◌-◌, length}
 use Rattle.std.proofs.lemmas.Result.{err_from_is_err_and}
-use Rattle.structured_fields.specs.Reading.{entry_at, with_entry, members_from}
-use Rattle.structured_fields.proofs.Loop.{members_start, members_failed, members_more, members_done, members_refused, members_spent}
+use Rattle.structured_fields.specs.Reading.{entry_at, with_entry}
+use Rattle.structured_fields.proofs.Loop.{members_failed, members_more, members_done, members_refused, members_spent}
 use Rattle.structured_fields.proofs.reading.entries_in.Goals as goal
 
 pub returns-in_err-name : goal.returns-in_err-name

@@ -1,4 +1,4 @@
-use Rattle.std.proofs.Common.{◌++◌, ◌∷◌, [], append_assoc}
+use Rattle.std.proofs.Common.{◌∷◌, [], append_assoc}
 use Rattle.structured_fields.specs.Canonical.{item_text}
 use Rattle.structured_fields.proofs.Written.{separated_more}
 use Rattle.structured_fields.proofs.writing.put_items.Goals as goal

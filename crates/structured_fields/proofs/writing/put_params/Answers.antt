@@ -1,5 +1,4 @@
-use Rattle.std.proofs.Common.{◌≡◌, ◌++◌, ◌∷◌, [], ap, sym, ◌∙◌, append_assoc, take, List, ℕ}
-use Rattle.structured_fields.specs.Canonical.{params_text, value_text}
+use Rattle.std.proofs.Common.{append_assoc}
 use Rattle.structured_fields.proofs.Written.{params_more}
 use Rattle.structured_fields.proofs.writing.put_params.Goals as goal
 

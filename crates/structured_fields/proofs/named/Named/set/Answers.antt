@@ -1,4 +1,4 @@
-use Rattle.std.proofs.Common.{sym, ap, ◌∙◌, rules, subst}
+use Rattle.std.proofs.Common.{sym, ap, ◌∙◌, subst}
 use Rattle.structured_fields.specs.Named.{with_value, IsDistinct, named}
 use Rattle.structured_fields.proofs.Entries.{keyed_insert, distinct_set, named_insert_as}
 use Rattle.structured_fields.proofs.named.Named.set.Goals as goal

@@ -1,4 +1,4 @@
-use Rattle.std.proofs.Common.{arith, ◌∙◌, take}
+use Rattle.std.proofs.Common.{arith}
 use Rattle.std.proofs.lemmas.Grind.{common_steps}
 use Rattle.structured_fields.proofs.Entries.{set_next}
 use Rattle.structured_fields.proofs.named.NamedDuplicate.copy.Goals as goal

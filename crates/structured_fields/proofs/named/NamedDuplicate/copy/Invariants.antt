@@ -1,5 +1,4 @@
 use Rattle.std.proofs.Common.{◌≡◌, take}
-use Rattle.structured_fields.specs.Named.{IsDistinct}
 use Rattle.structured_fields.proofs.named.NamedDuplicate.copy.Given as goal
 
 abbrev pub invariant-loop-i : goal.invariant-loop-i
