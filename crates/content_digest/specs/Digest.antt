@@ -39,9 +39,12 @@ abbrev pub sequence_of : Member → Option (List ℕ)
 sequence_of (Single i) = binary_of i.bare
 sequence_of (Inner l) = None
 
--- each member under a known name is a byte sequence
+-- an entry under a known name is a byte sequence
+abbrev pub has_right_kind : List ℕ × Member → Bool
+has_right_kind e = not (is_known e.0) || is_some (sequence_of e.1)
+
 abbrev pub are_sequences : List (List ℕ × Member) → Bool
-are_sequences d = list_all (λ e. not (is_known e.0) || is_some (sequence_of e.1)) d
+are_sequences d = list_all has_right_kind d
 
 -- a member under a known name is there
 abbrev pub has_known : List (List ℕ × Member) → Bool

@@ -1,10 +1,11 @@
 //! The Content-Digest field.
 #![tactic(auto)]
 
-mod check;
+mod checking;
 mod fault;
+pub mod laws;
 mod line;
 
-pub use check::check;
+pub use checking::check;
 pub use fault::DigestFault;
 pub use line::digest_line;

@@ -2,8 +2,8 @@
 ghost use Rattle.std.specs.Prelude.{◌≡◌, ◌≢◌, Err, IfOk};
 ghost use Rattle.std.specs.Option.{option_copied};
 ghost use Rattle.content_digest.specs.declared.fault.DigestFault.TheVariants.{OutOfMemory};
-ghost use Rattle.content_digest.specs.Digest.{is_known, digest_by, sequence_of, are_sequences, has_known};
-ghost use Rattle.content_digest.specs.Judged.{difference, first_difference, answer_to, judged, checked, Gives, Says};
+ghost use Rattle.content_digest.specs.Digest.{is_known, digest_by, sequence_of, has_right_kind, are_sequences, has_known};
+ghost use Rattle.content_digest.specs.Judged.{difference, first_difference, answer_to, judged, checked, Gives, Says, AnswersWhatIsSo};
 
 use crate::fault::DigestFault;
 use gnap_io::bytes::Bytes;
@@ -15,15 +15,15 @@ use structured_fields::{Bare, Dictionary, FieldFault, Item, Member, read_diction
 fn is_known(name: &[u8]) -> bool
     ensures { result ≡ is_known name.now }
 {
-    name == b"sha-256" || name == b"sha-512"
+    name == b"sha-256".as_slice() || name == b"sha-512".as_slice()
 }
 
 fn digest_by(alloc: Global, name: &[u8], body: &[u8]) -> Result<Option<Bytes>, Mem>
     ensures { IfOk result (λ digest. digest ≡ digest_by name.now body.now) }
 {
-    if name == b"sha-256" {
+    if name == b"sha-256".as_slice() {
         Ok(Some(Bytes::from_slice(alloc, &Sha256::digest(body))?))
-    } else if name == b"sha-512" {
+    } else if name == b"sha-512".as_slice() {
         Ok(Some(Bytes::from_slice(alloc, &Sha512::digest(body))?))
     } else {
         Ok(None)
@@ -42,12 +42,18 @@ fn sequence_of(member: &Member) -> Option<&Bytes>
     }
 }
 
+fn has_right_kind(name: &[u8], member: &Member) -> bool
+    ensures { result ≡ has_right_kind (name.now, member.now) }
+{
+    !is_known(name) || sequence_of(member).is_some()
+}
+
 fn are_sequences(members: &Dictionary) -> bool
     ensures { result ≡ are_sequences members.now }
 {
     for i in 0..members.len() {
         let (name, member) = members.at(i);
-        if is_known(name.as_slice()) && sequence_of(member).is_none() {
+        if !has_right_kind(name.as_slice(), member) {
             return false;
         }
     }
@@ -123,7 +129,8 @@ fn judge_field(alloc: Global, field: &[u8], body: &[u8]) -> Result<(), DigestFau
 pub fn check(alloc: Global, field: &[u8], body: &[u8]) -> Result<(), DigestFault>
     // What is answered is so.
     ensures says { result ≢ Err OutOfMemory → Says field.now body.now result }
-    // Which answer it is.
+    // What is so is answered, unless memory runs out: so one answer is so.
+    ensures only { AnswersWhatIsSo field.now body.now result }
     ensures exact { Gives result (checked field.now body.now) }
 {
     judge_field(alloc, field, body)
