@@ -34,10 +34,12 @@ fn sequence_of(member: &Member) -> Option<&Bytes>
     ensures { option_copied result ≡ sequence_of member.now }
 {
     match member {
-        Member::Item(Item {
-            bare: Bare::Binary(bytes),
-            ..
-        }) => Some(bytes),
+        Member::Item(
+            Item {
+                bare: Bare::Binary(bytes),
+                ..
+            },
+        ) => Some(bytes),
         _ => None,
     }
 }

@@ -7,5 +7,4 @@ ghost use Rattle.content_digest.specs.Judged.{Fits, checked, IsAnsweredBy};
 pub fn digest_laws()
     ensures answered { IsAnsweredBy checked }
     ensures line { (body : List ℕ) → Fits (digest_text body) body }
-{
-}
+{}

@@ -6,8 +6,9 @@ use gnap_io::bytes::Bytes;
 use gnap_io::memory::Mem;
 use std::alloc::Global;
 use std::io;
-use structured_fields::{FieldFault, read_dictionary, read_item, read_list};
-use structured_fields::{write_dictionary, write_item, write_list};
+use structured_fields::{
+    FieldFault, read_dictionary, read_item, read_list, write_dictionary, write_item, write_list,
+};
 
 fn canonical(alloc: Global, kind: &str, text: &[u8]) -> Result<Bytes, FieldFault> {
     match kind {

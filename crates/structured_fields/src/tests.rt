@@ -39,7 +39,11 @@ fn set_twice(alloc: Global) -> Result<(bool, usize, Bytes), FieldFault> {
 
 #[test]
 fn values_are_copied_set_and_written(rt: HostRuntime) {
-    assert!(rt; matches!(&copied(rt.alloc(), DICTIONARY), Ok(text) if text.as_slice() == DICTIONARY));
+    assert!(rt;
+        matches!(&copied(rt.alloc(), DICTIONARY), Ok(text) if text.as_slice() == DICTIONARY)
+    );
     assert!(rt; matches!(&inner(rt.alloc()), Ok(text) if text.as_slice() == b"(?1)".as_slice()));
-    assert!(rt; matches!(&set_twice(rt.alloc()), Ok((true, 2, last)) if last.as_slice() == b"b".as_slice()));
+    assert!(rt;
+        matches!(&set_twice(rt.alloc()), Ok((true, 2, last)) if last.as_slice() == b"b".as_slice())
+    );
 }
