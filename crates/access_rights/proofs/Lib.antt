@@ -1,0 +1,4 @@
+pub mod Atoms
+pub mod Loops
+pub mod Parts
+pub mod Whole

@@ -1,0 +1,96 @@
+//! Rights as JSON (RFC 9635, section 8).
+ghost use Rattle.std.specs.Prelude.{◌≡◌, ◌++◌, IfOk, OnOk, option_map, map};
+ghost use Rattle.std.specs.List.{AllByRecursion};
+ghost use Rattle.serde_json.specs.Read.{read};
+ghost use Rattle.serde_json.specs.View.{view, members_view};
+ghost use Rattle.access_rights.specs.Json.{texts_data};
+ghost use Rattle.access_rights.specs.Fits.{AreUtf8, IsFurther, FitsObject, Fits};
+ghost use Rattle.access_rights.specs.Printing.{members_read, right_members, right_data, rights_data};
+
+use crate::json_parts::{optional_value, put, text_value, texts_value};
+use gnap_io::bytes::Bytes;
+use gnap_io::memory::Mem;
+use gnap_model::rights::{Right, RightObject, Rights, Texts};
+use serde_json::{Map, Value};
+use std::alloc::Global;
+
+fn dimension_value(alloc: Global, dimension: &Option<Texts>) -> Result<Option<Value>, Mem>
+    requires { AreUtf8 dimension.now }
+    ensures { IfOk result (λ v. option_map view v ≡ option_map texts_data dimension.now) }
+{
+    match dimension {
+        None => Ok(None),
+        Some(texts) => Ok(Some(texts_value(alloc, texts)?)),
+    }
+}
+
+fn further_members(alloc: Global, text: &Bytes) -> Result<Map<String, Value>, Mem>
+    requires { IsFurther text.now }
+    ensures { IfOk result (λ m. members_view m.entries ≡ members_read (read text.now)) }
+{
+    let value = match Value::from_slice(alloc, text.as_slice()) {
+        Ok(value) => value,
+        Err(e) => if e.is_memory() {
+            return Err(Mem);
+        } else {
+            unreachable!()
+        },
+    };
+    match value {
+        Value::Object(members) => Ok(members),
+        _ => unreachable!(),
+    }
+}
+
+#[tactic(auto, unfolding(crate::specs::Printing::right_members))]
+fn object_value(alloc: Global, right: &RightObject) -> Result<Map<String, Value>, Mem>
+    requires { FitsObject right.now }
+    ensures { IfOk result (λ m. members_view m.entries ≡ right_members right.now) }
+{
+    let mut map = further_members(alloc, &right.further)?;
+    let identifier = optional_value(alloc, &right.identifier)?;
+    put(&mut map, alloc, "identifier", identifier)?;
+    let privileges = dimension_value(alloc, &right.privileges)?;
+    put(&mut map, alloc, "privileges", privileges)?;
+    let datatypes = dimension_value(alloc, &right.datatypes)?;
+    put(&mut map, alloc, "datatypes", datatypes)?;
+    let locations = dimension_value(alloc, &right.locations)?;
+    put(&mut map, alloc, "locations", locations)?;
+    let actions = dimension_value(alloc, &right.actions)?;
+    put(&mut map, alloc, "actions", actions)?;
+    let kind = text_value(alloc, right.kind.as_slice())?;
+    put(&mut map, alloc, "type", Some(kind))?;
+    Ok(map)
+}
+
+fn right_value(alloc: Global, right: &Right) -> Result<Value, Mem>
+    requires { Fits right.now }
+    ensures { IfOk result (λ v. view v ≡ right_data right.now) }
+{
+    match right {
+        Right::Reference(text) => text_value(alloc, text.as_slice()),
+        Right::Object(right) => Ok(Value::Object(object_value(alloc, right)?)),
+    }
+}
+
+/// Appends the JSON values of the rights.
+pub fn push_rights(alloc: Global, items: &mut Vec<Value>, rights: &Rights) -> Result<(), Mem>
+    requires { AllByRecursion Fits rights.now }
+    ensures { OnOk result (map view items.new.items
+        ≡ map view items.old.items ++ map right_data rights.now) }
+{
+    for right in rights.as_slice() {
+        items.push(right_value(alloc, right)?)?;
+    }
+    Ok(())
+}
+
+/// The JSON array of the rights.
+pub fn rights_value(alloc: Global, rights: &Rights) -> Result<Value, Mem>
+    requires { AllByRecursion Fits rights.now }
+    ensures { IfOk result (λ v. view v ≡ rights_data rights.now) }
+{
+    let mut items = Vec::new(alloc);
+    push_rights(alloc, &mut items, rights)?;
+    Ok(Value::Array(items))
+}

@@ -1,0 +1,73 @@
+use crate::adder::Adder;
+use crate::adding::{Adding, Call, Reply};
+use crate::calls::{Made, add_often};
+use gnap_io::memory::Mem;
+use histories::laws::{by_order, one_alone, one_history};
+use histories::lone::Lone;
+use histories::machine::{Core, Desk};
+
+/// The sum is as computed by hand, at each start and with each third step refused.
+#[test]
+fn a_desk_of_ones_own_adds(rt: HostRuntime) {
+    for (start, refuses_each, amount, times, want, total) in [
+        (
+            0,
+            0,
+            7,
+            10,
+            Made {
+                answered: 10,
+                lapsed: 0,
+                last: 70,
+            },
+            70,
+        ),
+        (
+            5,
+            3,
+            2,
+            7,
+            Made {
+                answered: 5,
+                lapsed: 2,
+                last: 15,
+            },
+            15,
+        ),
+        (
+            u64::MAX - 3,
+            0,
+            2,
+            2,
+            Made {
+                answered: 2,
+                lapsed: 0,
+                last: u64::MAX,
+            },
+            u64::MAX,
+        ),
+    ] {
+        let mut desk = Lone::new(Adder::new(rt.alloc(), start, refuses_each));
+        let made = add_often(&mut desk, amount, times);
+        assert_eq!(rt; made, want, "from {start}");
+        let core = desk.into_core();
+        assert_eq!(rt; core.total(), total, "from {start}");
+    }
+}
+
+#[test]
+fn a_step_answers_the_sum(rt: HostRuntime) {
+    for (refuses_each, want) in [(0, Ok(Reply::Sum(42))), (1, Err(Mem))] {
+        let mut core = Adder::new(rt.alloc(), 1, refuses_each);
+        let reply = core.step(20, &[0; 48], &Call::Add(41));
+        assert_eq!(rt; reply, want, "refusing each {refuses_each}");
+    }
+}
+
+#[test]
+fn the_laws_hold_of_a_machine(rt: HostRuntime) {
+    one_history::<Adding>();
+    one_alone::<Adding>();
+    by_order::<Adding>();
+    assert!(rt; true);
+}

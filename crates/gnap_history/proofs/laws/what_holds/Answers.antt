@@ -1,0 +1,22 @@
+use Rattle.std.proofs.Common.{◌∙◌, ap, reverse}
+use Rattle.histories.specs.History.{Legal, now, notes_of}
+use Rattle.gnap_model.specs.Answer.{gnap_answer}
+use Rattle.gnap_model.specs.Provenance.{is_active}
+use Rattle.gnap_model.specs.declared.calls.Call.{Call}
+use Rattle.gnap_history.proofs.FitsThrough.{replies_fit}
+use Rattle.gnap_history.proofs.Weaker.{grant_legal}
+use Rattle.gnap_history.proofs.laws.what_holds.Goals as goal
+
+pub returns : goal.returns
+returns c = λ rules h legal few.
+    let weaker = grant_legal rules h legal in
+    record {
+      tells = c.tells_what_came.ensures rules h weaker few;
+      says_active = λ before e after is server value binding wanted call.
+          let follows = legal before e after is in
+          ap is_active (follows.reply ∙ ap (λ (x : Call). (gnap_answer rules (notes_of before) (now before e.moment) e.draw x).reply) call)
+          ∙ c.says_active.ensures rules (notes_of before) (now before e.moment) e.draw server value binding wanted;
+      values_differ = c.drawn_values_differ.ensures rules h weaker few;
+      values_once = λ value. c.doors_open_once.ensures rules h value weaker few;
+      replies_fit = λ before e after is. replies_fit rules h before e after legal is;
+    }

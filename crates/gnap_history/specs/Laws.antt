@@ -1,0 +1,29 @@
+-- What holds of each legal history of the machine that has at most 2 ^ 58 entries.
+use Rattle.std.specs.Prelude.{◌≡◌, ◌&&◌, ℕ, List, [], ◌∷◌, ◌++◌, reverse, true}
+use Rattle.std.specs.declared.option.Option.{Option}
+use Rattle.histories.specs.History.{now, notes_of}
+use Rattle.gnap_model.specs.Common.{Text, AreDistinct}
+use Rattle.gnap_model.specs.Keys.{key_of, server_names}
+use Rattle.gnap_model.specs.Judging.{serves_all, active}
+use Rattle.gnap_model.specs.Provenance.{is_active, tells_all, drawn_by, IsOnce, IsRefusedAfter}
+use Rattle.gnap_model.specs.declared.calls.Call.TheVariants.{Introspect}
+use Rattle.gnap_model.specs.declared.objects.Setup.{Setup}
+use Rattle.gnap_history.specs.Fits.{ReplyFits}
+use Rattle.gnap_history.specs.Gnap.{GnapEntry}
+
+-- After the entries before it an introspection is answered Active exactly where the server serves every right that it asks about,
+-- and the value is a live token's that suits it (RFC 9767, section 3.3).
+abbrev pub SaysActiveAt : Setup → List GnapEntry → GnapEntry → Type 0
+SaysActiveAt rules before e = (server value : Text) (binding : _) (wanted : _) → e.call ≡ Introspect server value binding wanted
+    → is_active e.reply ≡ (serves_all (server_names (key_of rules server)) wanted && active rules (reverse (notes_of before)) (now before e.moment) server value binding wanted)
+
+pub record WhatHolds (rules : Setup) (h : List GnapEntry) : Type 0 where
+  -- an introspection is answered Active exactly where requests and replies alone show a token that serves
+  pub tells : tells_all rules (reverse h) ≡ true
+  pub says_active : (before : List GnapEntry) (e : GnapEntry) (after : List GnapEntry) → h ≡ before ++ e ∷ after → SaysActiveAt rules before e
+  -- all values that the replies draw differ
+  pub values_differ : AreDistinct (drawn_by (reverse h))
+  -- a continuation value succeeds at most once, and is refused after it was used up (RFC 9635, section 5)
+  pub values_once : (value : Text) → IsOnce value (reverse h) × IsRefusedAfter value (reverse h)
+  -- the rights of each reply can be shown, and its other texts are UTF-8
+  pub replies_fit : (before : List GnapEntry) (e : GnapEntry) (after : List GnapEntry) → h ≡ before ++ e ∷ after → ReplyFits e.reply

@@ -1,0 +1,27 @@
+//! What is known of each legal history of the grant machine, and so of all that a desk has seen. The contracts are the laws; the bodies do nothing.
+ghost use Rattle.std.specs.Prelude.{◌≡◌, ◌≤◌, ◌^◌, List, length};
+ghost use Rattle.histories.specs.History.{Legal};
+ghost use Rattle.gnap_history.specs.Gnap.{gnap};
+ghost use Rattle.gnap_history.specs.Laws.{WhatHolds};
+
+use crate::grant_machine::Gnap;
+use gnap_model::laws::{doors_open_once, drawn_values_differ, says_active, tells_what_came};
+use histories::machine::Desk;
+
+/// What holds of each legal history.
+pub fn what_holds()
+    ensures { (rules : _) (h : _) → Legal gnap rules h → length h ≤ 2 ^ 58 → WhatHolds rules h }
+{
+    tells_what_came();
+    says_active();
+    drawn_values_differ();
+    doors_open_once();
+}
+
+/// What holds of each history that a desk has seen.
+pub fn what_was_seen<D: Desk<M = Gnap>>(desk: &D)
+    ensures { (h : _) → D.seen desk.now h → length h ≤ 2 ^ 58 → WhatHolds (D.rules desk.now) h }
+{
+    let _desk = desk;
+    what_holds();
+}

@@ -1,0 +1,27 @@
+//! The grant machine over histories, and a desk that keeps one in a list.
+//!
+//! `Gnap` is the machine: its answers are those of `gnap_model`, and a call fits where it is built, has at most 8 asks and its texts can be shown.
+//! `ListCore` meets the contract of `Core`: each reply is the machine's for the history that it stands for, which then has the call's entry, or a lapse
+//! where memory ran out. `laws` says what is known of each history that a desk of this machine has seen, and that its replies can be shown.
+#![tactic(auto)]
+
+pub mod grant_machine;
+pub mod introspecting;
+pub mod keys;
+pub mod laws;
+pub mod limits;
+pub mod list_core;
+pub mod look_ups;
+pub mod note_list;
+pub mod opening;
+pub mod values;
+
+pub use gnap_model::calls::{Call, FinishOut, Reply, TokenOut, Tokens};
+pub use grant_machine::Gnap;
+pub use histories::lone::Lone;
+pub use histories::machine::{Core, Desk, Machine};
+pub use list_core::{ListCore, ListDesk, list_desk};
+pub use values::{code_text, value_text};
+
+#[cfg(test)]
+mod tests;

@@ -1,0 +1,121 @@
+//! A core that keeps the notes and the greatest moment.
+ghost use Rattle.std.specs.Prelude.{◌≡◌, ◌≢◌, ◌≤◌, ℕ, [], List, ◌++◌, IfOk, OnErr};
+ghost use Rattle.histories.specs.ByNotes.{stands-nil, stands-renumbered};
+ghost use Rattle.histories.specs.History.{last_moment};
+ghost use Rattle.gnap_model.specs.Answer.{gnap_answer};
+ghost use Rattle.gnap_model.specs.declared.calls.Call.TheVariants.{Lapse};
+ghost use Rattle.gnap_history.specs.Gnap.{GnapFits, StandsFor};
+
+use crate::grant_machine::Gnap;
+use crate::introspecting::introspect;
+use crate::note_list::NoteList;
+use crate::opening::begin;
+use gnap_io::memory::Mem;
+use gnap_model::calls::{Call, Reply};
+use gnap_model::objects::Setup;
+use histories::lone::Lone;
+use histories::machine::{Core, Desk};
+use std::alloc::Global;
+
+/// Keeps the notes of the history in a list, and its greatest moment. No answer needs more of a history.
+#[derive(Drop)]
+pub struct ListCore {
+    alloc: Global,
+    rules: Setup,
+    latest: u64,
+    notes: NoteList,
+    ghost in_time: { latest ≤ last_moment },
+}
+
+/// One worker over a list.
+pub type ListDesk = Lone<ListCore>;
+
+impl ListCore {
+    /// Stands for the empty history, under the rules of this setup.
+    pub fn new(alloc: Global, setup: Setup) -> ListCore
+        ensures rules { ⟦<ListCore as Core>⟧.rules result ≡ setup }
+        ensures empty { ⟦<ListCore as Core>⟧.stands result [] }
+    {
+        ListCore {
+            alloc,
+            rules: setup,
+            latest: 0,
+            notes: NoteList::new(alloc),
+        }
+    }
+}
+
+/// A desk that has seen nothing, under the rules of this setup.
+pub fn list_desk(alloc: Global, setup: Setup) -> ListDesk
+    ensures rules { ⟦<ListDesk as Desk>⟧.rules result ≡ setup }
+    ensures seen { ⟦<ListDesk as Desk>⟧.seen result [] }
+{
+    Lone::new(ListCore::new(alloc, setup))
+}
+
+/// Answers a call at the greatest moment so far, and adds its notes. An `Err` changes nothing.
+fn answer_call(
+    alloc: Global,
+    rules: &Setup,
+    notes: &mut NoteList,
+    now: u64,
+    draw: &[u64; 48],
+    call: &Call,
+) -> Result<Reply, Mem>
+    requires fits { GnapFits call.now }
+    requires no_lapse { call.now ≢ Lapse }
+    requires in_time { now ≤ last_moment }
+    ensures ok { IfOk result (λ reply. (reply ≡ (gnap_answer rules.now notes.old now draw.now call.now).reply)
+        × (notes.new ≡ notes.old ++ (gnap_answer rules.now notes.old now draw.now call.now).notes)) }
+    ensures err { OnErr result (notes.new ≡ notes.old) }
+{
+    match call {
+        Call::Begin {
+            key,
+            request,
+            not_after,
+        } => begin(alloc, rules, notes, now, draw, key, request, *not_after),
+        Call::Introspect {
+            server,
+            value,
+            binding,
+            wanted,
+        } => introspect(
+            alloc,
+            rules,
+            notes.as_slice(),
+            now,
+            server,
+            value,
+            *binding,
+            wanted,
+        ),
+        _ => unreachable!(),
+    }
+}
+
+impl Core for ListCore {
+    type M = Gnap;
+
+    ghost rules = { λ core. core.rules };
+
+    ghost stands = { λ core h. StandsFor core.rules core.notes core.latest h };
+
+    ghost frugal = { λ _. ⊥ };
+
+    fn step(&mut self, moment: u64, draw: &[u64; 48], call: &Call) -> Result<Reply, Mem> {
+        self.latest = self.latest.max(moment);
+        answer_call(
+            self.alloc,
+            &self.rules,
+            &mut self.notes,
+            self.latest,
+            draw,
+            call,
+        )
+    }
+
+    ghost legal = { λ core h stands. stands.is_legal };
+
+    ghost renumbers = { λ core h k same stands. stands-renumbered gnap_answer GnapFits Lapse core.rules core.notes core.latest h k same stands };
+}

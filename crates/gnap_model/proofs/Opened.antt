@@ -1,0 +1,175 @@
+-- What stands behind the notes of a legal history: an opened grant has terms, and an issued token has an opened grant.
+use Rattle.std.proofs.Common.{ℕ, ◌≡◌, ◌+◌, List, [], ◌∷◌, ◌++◌, Bool, true, false, length, map, reverse, refl, sym, subst, inl, inr, Option, Some, None}
+use Rattle.std.specs.Prelude.{◌*◌, ◌==◌, if◌then◌else◌}
+use Rattle.std.specs.Option.{option_or}
+use Rattle.std.proofs.lemmas.List.{reverse-append}
+use Rattle.std.proofs.lemmas.Bool.Decides.{Decides-eqb}
+use Rattle.gnap_model.specs.Common.{Text, first_of, some_if}
+use Rattle.gnap_model.specs.Keys.{Setup}
+use Rattle.gnap_model.specs.Asked.{Ask}
+use Rattle.gnap_model.specs.Calls.{Call}
+use Rattle.gnap_model.specs.Notes.{OpeningNote, TermsNote, TokenNote, Note, Event, trail_of}
+use Rattle.gnap_model.specs.declared.notes.Note.TheVariants.{Opened, Terms, Approved, Issued, Door, Pended, DecidedAs, Finalized, Wrong, Retired}
+use Rattle.gnap_model.specs.Standing.{opening_in, terms_in, terms_of}
+use Rattle.gnap_model.specs.Actions.{Action, Supply, outcome_of, grant_outcome, tokens_for, door_note, terms_for, instance_of, retire, round_for}
+use Rattle.gnap_model.specs.Actions.Action.{Refuse, ShowToken, ShowInactive, LapseAction, OpenAtOnce, OpenAsking, ShowRound, ShowHandle, TakeDecision, RenewDoor, CollectDecision, WrongReference, LastWrongReference, RefuseAndFinalize, ModifyAtOnce, ModifyAsking, CancelGrant, RotateToken, RevokeToken}
+use Rattle.gnap_model.specs.Answer.{supply_at}
+use Rattle.gnap_model.specs.Legal.{IsLegalPast}
+use Rattle.gnap_model.proofs.Causes.{chosen, Cause}
+use Rattle.gnap_model.proofs.Doors.{some_if_some}
+use Rattle.gnap_model.proofs.AliveTokens.{HasNote, first_noted}
+use Rattle.gnap_model.proofs.Sound.{named_opened, note-reverse, note-append_left, note-append_right}
+
+-- ---- a fact of each note
+
+abbrev pub EachNote : (Note → Type 0) → List Note → Type 0
+EachNote P [] = Unit {0}
+EachNote P (note ∷ notes) = P note × EachNote P notes
+
+each-append : (P : Note → Type 0) (xs ys : List Note) → EachNote P xs → EachNote P ys → EachNote P (xs ++ ys)
+each-append P [] ys hx hy = hy
+each-append P (x ∷ xs) ys hx hy = (hx.0, each-append P xs ys hx.1 hy)
+
+each-reverse : (P : Note → Type 0) (xs : List Note) → EachNote P xs → EachNote P (reverse xs)
+each-reverse P [] h = tt
+each-reverse P (x ∷ xs) h = subst (EachNote P) (sym (reverse-append (x ∷ []) xs)) (each-append P (reverse xs) (x ∷ []) (each-reverse P xs h.1) (h.0, tt))
+
+each_more : (P Q : Note → Type 0) (xs : List Note) → ((note : Note) → P note → Q note) → EachNote P xs → EachNote Q xs
+each_more P Q [] more h = tt
+each_more P Q (x ∷ xs) more h = (more x h.0, each_more P Q xs more h.1)
+
+each_of : (P : Note → Type 0) (xs : List Note) (note : Note) → EachNote P xs → HasNote xs note → P note
+each_of P [] note h k = absurd k
+each_of P (x ∷ xs) note h (inl e) = subst P (sym e) h.0
+each_of P (x ∷ xs) note h (inr k) = each_of P xs note h.1 k
+
+-- ---- an opened grant has terms in the trail, and an issued token has an opened grant there
+
+abbrev pub HasOrigin : List Note → Note → Type 0
+HasOrigin trail (Opened o) = (w : TermsNote) × HasNote trail (Terms w) × (w.grant ≡ o.grant)
+HasOrigin trail (Issued t) = (o : OpeningNote) × HasNote trail (Opened o) × (o.grant ≡ t.grant)
+HasOrigin trail _ = Unit {0}
+
+origin_more : (trail more : List Note) → ((note : Note) → HasNote trail note → HasNote more note) → (note : Note) → HasOrigin trail note → HasOrigin more note
+origin_more trail more grows (Opened o) h = (h.0, grows (Terms h.0) h.1, h.2)
+origin_more trail more grows (Issued t) h = (h.0, grows (Opened h.0) h.1, h.2)
+origin_more trail more grows (Terms w) h = tt
+origin_more trail more grows (Approved g c) h = tt
+origin_more trail more grows (Door g v x) h = tt
+origin_more trail more grows (Pended r) h = tt
+origin_more trail more grows (DecidedAs d) h = tt
+origin_more trail more grows (Finalized g) h = tt
+origin_more trail more grows (Wrong g) h = tt
+origin_more trail more grows (Retired s w) h = tt
+
+tokens_origin : (trail : List Note) (supply : Supply) (o p : OpeningNote) (asks : List Ask) (k : ℕ) → HasNote trail (Opened p) → p.grant ≡ o.grant → EachNote (HasOrigin trail) (map Issued (tokens_for supply o asks k))
+tokens_origin trail supply o p [] k h e = tt
+tokens_origin trail supply o p (ask ∷ asks) k h e = ((p, h, e), tokens_origin trail supply o p asks (k + 2) h e)
+
+grant_origin : (trail : List Note) (supply : Supply) (o p : OpeningNote) (before : List Note) (asks : List Ask) (single : Bool) (subject instance : Option Text) → HasNote trail (Opened p) → p.grant ≡ o.grant
+    → EachNote (HasOrigin trail) before → EachNote (HasOrigin trail) (grant_outcome supply o before asks single subject instance).notes
+grant_origin trail supply o p before asks single subject instance h e b =
+    each-append (HasOrigin trail) (before ++ map Issued (tokens_for supply o asks 0)) (door_note supply o (2 * length asks) ∷ [])
+    (each-append (HasOrigin trail) before (map Issued (tokens_for supply o asks 0)) b (tokens_origin trail supply o p asks 0 h e)) (tt, tt)
+
+retire_origin : (trail : List Note) (ts : List TokenNote) (rest : List Note) → EachNote (HasOrigin trail) rest → EachNote (HasOrigin trail) (retire ts ++ rest)
+retire_origin trail [] rest h = h
+retire_origin trail (t ∷ ts) rest h = (tt, retire_origin trail ts rest h)
+
+opening_noted : (trail : List Note) (g : ℕ) (o : OpeningNote) → first_of (opening_in g) trail ≡ Some o → HasNote trail (Opened o) × (o.grant ≡ g)
+opening_noted trail g o e = let r = first_noted (opening_in g) trail o e in at r.0 r.1 r.2
+  where
+    at : (n : Note) → HasNote trail n → opening_in g n ≡ Some o → HasNote trail (Opened o) × (o.grant ≡ g)
+    at (Opened p) k h = let both = some_if_some (p.grant == g) p o h in let grant : p.grant ≡ g = (Decides-eqb p.grant g).0 both.0 in
+        (subst (λ (q : OpeningNote). HasNote trail (Opened q)) both.1 k, subst (λ (q : OpeningNote). q.grant ≡ g) both.1 grant)
+    at (Door i w x) k h = cc h
+    at (Terms w) k h = cc h
+    at (Approved i c) k h = cc h
+    at (Issued t) k h = cc h
+    at (Pended r) k h = cc h
+    at (DecidedAs x) k h = cc h
+    at (Finalized i) k h = cc h
+    at (Wrong i) k h = cc h
+    at (Retired s w) k h = cc h
+
+-- The notes of an action, where `whole` has the trail and these notes.
+action_origin : (supply : Supply) (trail whole : List Note) (call : Call) (action : Action) → Cause trail supply.now call action
+    → ((note : Note) → HasNote trail note → HasNote whole note) → ((note : Note) → HasNote (outcome_of supply action).notes note → HasNote whole note)
+    → EachNote (HasOrigin whole) (outcome_of supply action).notes
+action_origin supply trail whole call (Refuse code) a old new = tt
+action_origin supply trail whole call (ShowToken access t) a old new = tt
+action_origin supply trail whole call ShowInactive a old new = tt
+action_origin supply trail whole call LapseAction a old new = tt
+action_origin supply trail whole call (ShowRound r w o) a old new = tt
+action_origin supply trail whole call (ShowHandle r) a old new = tt
+action_origin supply trail whole call (TakeDecision r rights request) a old new = (tt, tt)
+action_origin supply trail whole call (OpenAtOnce o request) a old new =
+    grant_origin whole supply o o (Opened o ∷ Terms (terms_for o request) ∷ Approved o.grant [] ∷ []) request.asks request.single None (instance_of o)
+    (new (Opened o) (inl refl)) refl ((terms_for o request, new (Terms (terms_for o request)) (inr (inl refl)), refl), (tt, (tt, tt)))
+action_origin supply trail whole call (OpenAsking o request modes) a old new =
+    each-append (HasOrigin whole) (Opened o ∷ Terms (terms_for o request) ∷ []) (door_note supply o 0 ∷ Pended (round_for supply o modes) ∷ [])
+    ((terms_for o request, new (Terms (terms_for o request)) (inr (inl refl)), refl), (tt, tt)) (tt, (tt, tt))
+action_origin supply trail whole call (RenewDoor o) a old new = (tt, tt)
+action_origin supply trail whole call (CollectDecision o w d asks) a old new =
+    grant_origin whole supply o o (Approved o.grant d.rights ∷ []) asks w.single (if w.subject then d.subject else None) None
+    (old (Opened o) (named_opened trail supply.now a.0.0 o a.0.2)) refl (tt, tt)
+action_origin supply trail whole call (WrongReference o) a old new = (tt, tt)
+action_origin supply trail whole call (LastWrongReference o) a old new = (tt, (tt, tt))
+action_origin supply trail whole call (RefuseAndFinalize o code) a old new = (tt, tt)
+action_origin supply trail whole call (ModifyAtOnce o consent retired request) a old new =
+    grant_origin whole supply o o (retire retired ++ Terms (terms_for o request) ∷ Approved o.grant consent ∷ []) request.asks request.single None None
+    (old (Opened o) (named_opened trail supply.now a.0.0 o a.0.2)) refl
+    (retire_origin whole retired (Terms (terms_for o request) ∷ Approved o.grant consent ∷ []) (tt, (tt, tt)))
+action_origin supply trail whole call (ModifyAsking o retired request modes) a old new =
+    each-append (HasOrigin whole) (retire retired ++ Terms (terms_for o request) ∷ []) (door_note supply o 0 ∷ Pended (round_for supply o modes) ∷ [])
+    (retire_origin whole retired (Terms (terms_for o request) ∷ []) (tt, tt)) (tt, (tt, tt))
+action_origin supply trail whole call (CancelGrant o) a old new = (tt, tt)
+action_origin supply trail whole call (RotateToken o t) a old new =
+    (tt, ((o, old (Opened o) (opening_noted trail t.grant o a.3).0, refl), tt))
+action_origin supply trail whole call (RevokeToken t true) a old new = tt
+action_origin supply trail whole call (RevokeToken t false) a old new = (tt, tt)
+
+abbrev pub HaveOrigins : List Note → Type 0
+HaveOrigins trail = EachNote (HasOrigin trail) trail
+
+pub past_origins : (rules : Setup) (past : List Event) → IsLegalPast rules past → HaveOrigins (trail_of past)
+past_origins rules [] legal = tt
+past_origins rules (e ∷ past) legal =
+    let trail = trail_of past in
+    let whole = reverse e.notes ++ trail in
+    let why = chosen rules past e legal.0 in
+    let supply = supply_at past e.moment e.draw in
+    let old : (note : Note) → HasNote trail note → HasNote whole note = note-append_right (reverse e.notes) trail in
+    let new : (note : Note) → HasNote e.notes note → HasNote whole note = λ note h. note-append_left (reverse e.notes) trail note (note-reverse e.notes note h) in
+    let added : EachNote (HasOrigin whole) e.notes = subst (EachNote (HasOrigin whole)) (sym why.notes)
+    (action_origin supply trail whole e.call why.action why.cause old (λ note h. new note (subst (λ (ns : List Note). HasNote ns note) (sym why.notes) h))) in
+    each-append (HasOrigin whole) (reverse e.notes) trail (each-reverse (HasOrigin whole) e.notes added)
+    (each_more (HasOrigin trail) (HasOrigin whole) trail (origin_more trail whole old) (past_origins rules past legal.1))
+
+-- ---- so look-ups find them
+
+-- a look-up that finds something in a note of the list finds something
+found_in : {B : Type 0} (look : Note → Option B) (ns : List Note) (n : Note) (y : B) → HasNote ns n → look n ≡ Some y → (z : B) × (first_of look ns ≡ Some z)
+found_in look [] n y h e = absurd h
+found_in {B} look (m ∷ ns) n y (inl same) e =
+    let here : look m ≡ Some y = subst (λ k. look k ≡ Some y) same e in (y, rw here refl)
+found_in {B} look (m ∷ ns) n y (inr h) e = at (look m) (found_in look ns n y h e)
+  where
+    at : (o : Option B) → (z : B) × (first_of look ns ≡ Some z) → (z : B) × (option_or o (first_of look ns) ≡ Some z)
+    at (Some z) rest = (z, refl)
+    at None rest = rest
+
+some_if_same : {A : Type 0} (g h : ℕ) (x : A) → g ≡ h → some_if (g == h) x ≡ Some x
+some_if_same g h x e = let same : (g == h) ≡ true = (Decides-eqb g h).1 e in rw same refl
+
+pub opened_terms : (trail : List Note) (o : OpeningNote) → HaveOrigins trail → HasNote trail (Opened o) → (w : TermsNote) × (terms_of trail o.grant ≡ Some w)
+opened_terms trail o whole h =
+    let origin = each_of (HasOrigin trail) trail (Opened o) whole h in
+    found_in (terms_in o.grant) trail (Terms origin.0) origin.0 origin.1 (some_if_same origin.0.grant o.grant origin.0 origin.2)
+
+pub opened_found : (trail : List Note) (o : OpeningNote) (g : ℕ) → HasNote trail (Opened o) → o.grant ≡ g → (p : OpeningNote) × (first_of (opening_in g) trail ≡ Some p)
+opened_found trail o g h e = found_in (opening_in g) trail (Opened o) o h (some_if_same o.grant g o e)
+
+pub issued_opened : (trail : List Note) (t : TokenNote) → HaveOrigins trail → HasNote trail (Issued t) → (o : OpeningNote) × (first_of (opening_in t.grant) trail ≡ Some o)
+issued_opened trail t whole h =
+    let origin = each_of (HasOrigin trail) trail (Issued t) whole h in opened_found trail origin.0 t.grant origin.1 origin.2

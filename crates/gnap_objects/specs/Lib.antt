@@ -1,0 +1,10 @@
+pub use Rattle.gnap_model.specs.Asked
+pub use Rattle.gnap_model.specs.Keys
+pub mod Body
+pub mod Codes
+pub mod Forms
+pub mod Fits
+pub mod Reading
+pub mod Grants
+pub mod Introspections
+pub mod Setups

@@ -1,0 +1,74 @@
+//! Why an object isn't of its form.
+ghost use Rattle.std.specs.Prelude.{◌≡◌, ◌⊎◌};
+ghost use Rattle.gnap_objects.specs.declared.fault.ObjectFault.TheVariants.{Missing, Wrong, TooMany, OutOfMemory};
+
+use gnap_io::bytes::Bytes;
+use gnap_io::memory::Mem;
+use std::alloc::{AllocError, AllocFailed, Global};
+
+/// The first fault that a reader meets, with the name of the member in which it stands.
+#[derive(Drop)]
+pub enum ObjectFault {
+    /// A required member is absent.
+    Missing(Bytes),
+    /// Another JSON type, or a form that isn't read.
+    Wrong(Bytes),
+    /// A length or a count is passed.
+    TooMany(Bytes),
+    /// A flag stands twice.
+    Flag(Bytes),
+    OutOfMemory,
+}
+
+impl From<Mem> for ObjectFault {
+    ghost from_gives = { λ _ e. e ≡ OutOfMemory };
+
+    fn from(_e: Mem) -> ObjectFault {
+        ObjectFault::OutOfMemory
+    }
+}
+
+impl From<AllocError> for ObjectFault {
+    ghost from_gives = { λ _ e. e ≡ OutOfMemory };
+
+    fn from(_e: AllocError) -> ObjectFault {
+        ObjectFault::OutOfMemory
+    }
+}
+
+impl<T: Drop> From<AllocFailed<T>> for ObjectFault {
+    ghost from_gives = { λ _ e. e ≡ OutOfMemory };
+
+    fn from(_e: AllocFailed<T>) -> ObjectFault {
+        ObjectFault::OutOfMemory
+    }
+}
+
+impl ObjectFault {
+    pub(crate) fn missing(alloc: Global, name: &str) -> ObjectFault
+        ensures { (result ≡ OutOfMemory) ⊎ (result ≡ Missing name.now) }
+    {
+        match Bytes::from_slice(alloc, name.as_bytes()) {
+            Ok(name) => ObjectFault::Missing(name),
+            Err(_) => ObjectFault::OutOfMemory,
+        }
+    }
+
+    pub(crate) fn wrong(alloc: Global, name: &str) -> ObjectFault
+        ensures { (result ≡ OutOfMemory) ⊎ (result ≡ Wrong name.now) }
+    {
+        match Bytes::from_slice(alloc, name.as_bytes()) {
+            Ok(name) => ObjectFault::Wrong(name),
+            Err(_) => ObjectFault::OutOfMemory,
+        }
+    }
+
+    pub(crate) fn too_many(alloc: Global, name: &str) -> ObjectFault
+        ensures { (result ≡ OutOfMemory) ⊎ (result ≡ TooMany name.now) }
+    {
+        match Bytes::from_slice(alloc, name.as_bytes()) {
+            Ok(name) => ObjectFault::TooMany(name),
+            Err(_) => ObjectFault::OutOfMemory,
+        }
+    }
+}

@@ -1,0 +1,27 @@
+//! The JSON objects of GNAP (RFC 9635, RFC 9767): requests and setups, read from bytes.
+//!
+//! Each reader answers exactly what its definition in `specs/` gives for the JSON value, or that memory ran out: the object, or the first fault in the
+//! order of its members, with the name of the member in which it stands. What a reader gives can be shown again: its texts are UTF-8.
+#![tactic(auto)]
+
+pub mod body;
+pub mod codes;
+pub mod fault;
+pub mod forms;
+pub mod grants;
+pub mod introspections;
+pub mod keys;
+mod members;
+pub mod setups;
+
+pub use body::{BodyFault, read_body};
+pub use codes::error_text;
+pub use fault::ObjectFault;
+pub use gnap_model::objects::{
+    Ask, Asks, Binding, ContinueRequest, DecideRequest, ErrorCode, Finish, GrantRequest,
+    IntrospectRequest, KeyRow, KeyRows, Modes, Role, Setup, Verdict,
+};
+pub use grants::read_grant;
+pub use introspections::read_introspect;
+pub use keys::find_key;
+pub use setups::{SetupFault, read_setup};

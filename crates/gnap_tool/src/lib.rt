@@ -1,0 +1,4 @@
+//! The commands of the program `gnap`.
+#![tactic(auto)]
+
+mod line_reader;

@@ -1,0 +1,90 @@
+//! The rule of the table, and what each step tells.
+ghost use Rattle.std.specs.Prelude.{Option};
+ghost use Rattle.histories.specs.declared.entry.Entry.{Entry};
+ghost use Rattle.shared_server.specs.Rule.{Kept, opener, drew, looked, handed, cut_left, cut_right, folded, spent_view, number_of};
+
+use crate::view::View;
+use atomic_table::{Join, Play, Seat, Shared, Split, TableRule};
+use histories::entry::Entry;
+use histories::machine::{Core, Machine};
+use std::marker::{Brand, PhantomData};
+use std::snapshot::Snapshot;
+
+pub type EntryOf<C> = Entry<
+    <<C as Core>::M as Machine>::Call,
+    <<C as Core>::M as Machine>::Reply,
+    <<C as Core>::M as Machine>::Note,
+>;
+
+pub type ViewOf<C> = View<<<C as Core>::M as Machine>::Rules, EntryOf<C>>;
+
+pub type SeatOf<C> = Seat<Option<C>, ViewOf<C>>;
+
+/// What the table is told when it is made: the core, and the number of passes.
+#[derive(Drop)]
+pub struct Terms<C> {
+    pub core: Snapshot<C>,
+    pub count: u64,
+}
+
+pub type Top<C> = Shared<Option<C>, ViewOf<C>, Terms<C>, Turns<C>>;
+
+/// Calls take turns.
+pub struct Turns<C> {
+    marker: PhantomData<C>,
+}
+
+impl<C: Core> TableRule<Option<C>, ViewOf<C>, Terms<C>> for Turns<C> {
+    ghost holds = { λ key. Kept number_of C.stands C.rules (C.rules key.core.value) key.count };
+
+    ghost first = { λ key. opener (C.rules key.core.value) key.count };
+}
+
+/// The entry that a hand-on adds.
+pub trait Told<E> {
+    ghost entry: { Option E };
+}
+
+impl<E> Told<E> for Brand {
+    ghost use Rattle.std.specs.Prelude.{None};
+
+    ghost entry = { None };
+}
+
+pub(crate) struct Draw;
+
+impl<S, R, E> Play<S, View<R, E>> for Draw {
+    ghost then = { drew };
+}
+
+pub(crate) struct Look<C> {
+    marker: PhantomData<C>,
+}
+
+impl<C: Core> Play<Option<C>, ViewOf<C>> for Look<C> {
+    ghost then = { looked number_of C.stands C.rules };
+}
+
+pub(crate) struct Hand<W> {
+    marker: PhantomData<W>,
+}
+
+impl<S, R, E, W: Told<E>> Play<S, View<R, E>> for Hand<W> {
+    ghost then = { handed W.entry };
+}
+
+pub(crate) struct Cut;
+
+impl<R, E> Split<View<R, E>> for Cut {
+    ghost left = { cut_left };
+
+    ghost right = { cut_right };
+}
+
+pub(crate) struct Fold;
+
+impl<R, E> Join<View<R, E>> for Fold {
+    ghost both = { folded };
+
+    ghost spent = { spent_view };
+}
