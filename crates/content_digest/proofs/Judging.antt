@@ -1,9 +1,9 @@
 -- The one answer that is so.
-use Rattle.std.proofs.Common.{◌≡◌, ◌≢◌, ℕ, zero, suc, Bool, true, false, not, cond, ◌||◌, ◌&&◌, inl, inr, List, [], ◌∷◌, ◌++◌, Option, Some, None, Result, Ok, Err, refl, sym, ap, ◌∙◌, subst, true≢false}
-use Rattle.std.specs.Prelude.{codes, IfSome, is_some}
+use Rattle.std.proofs.Common.{◌≡◌, ◌≢◌, ℕ, Bool, true, false, cond, ◌||◌, inl, inr, List, [], ◌∷◌, ◌++◌, Option, Some, None, Result, Ok, Err, refl, sym, ap, ◌∙◌, subst, true≢false}
+use Rattle.std.specs.Prelude.{codes, IfSome}
 use Rattle.std.specs.Str.{bytes_eq}
 use Rattle.std.specs.Option.{option_map_or}
-use Rattle.std.specs.List.{list_all, list_any, AllByRecursion}
+use Rattle.std.specs.List.{AllByRecursion}
 use Rattle.std.proofs.lemmas.Slice.Eq.{bytes_eq-Decides}
 use Rattle.base64.specs.GeneralPurpose.{IsBytes}
 use Rattle.sha2.specs.Sha256.{sha256}
@@ -16,7 +16,7 @@ use Rattle.structured_fields.proofs.Whole.{dictionary_of_takes, dictionary_of_ag
 use Rattle.content_digest.specs.declared.fault.DigestFault.{DigestFault}
 use Rattle.content_digest.specs.declared.fault.DigestFault.TheVariants.{NotAField, NoKnown, Differs, OutOfMemory}
 use Rattle.content_digest.specs.Digest.{is_known, digest_by, sequence_of, has_right_kind, are_sequences, has_known}
-use Rattle.content_digest.specs.Judged.{IsRight, Fits, HasNoSequence, HasNoKnown, HasOther, Says, Gives, AnswersWhatIsSo, difference, first_difference, answer_to, judged, checked}
+use Rattle.content_digest.specs.Judged.{IsRight, Says, Gives, AnswersWhatIsSo, difference, first_difference, answer_to, judged, checked}
 
 abbrev Entry : Type 0
 Entry = List ℕ × Member

@@ -1,5 +1,5 @@
 -- The Content-Digest field (RFC 9530, section 2): a dictionary of digests of a body, each a byte sequence under the name of its algorithm.
-use Rattle.std.specs.Prelude.{ℕ, Bool, true, false, not, if◌then◌else◌, ◌&&◌, ◌||◌, List, [], ◌∷◌, ◌++◌, Option, Some, None, is_some, codes}
+use Rattle.std.specs.Prelude.{ℕ, Bool, not, if◌then◌else◌, ◌||◌, List, ◌++◌, Option, Some, None, is_some, codes}
 use Rattle.std.specs.Str.{bytes_eq}
 use Rattle.std.specs.List.{list_all, list_any}
 use Rattle.base64.specs.GeneralPurpose.{encode_of}
