@@ -1,0 +1,159 @@
+-- What a map of copied keys shows, as a list under names.
+use Rattle.std.proofs.Common.{◌≡◌, ℕ, zero, suc, ◌+◌, Bool, true, false, cond, List, [], ◌∷◌, ◌++◌, take, fold, slice_get, Some, None, refl, sym, ap, subst, ◌∙◌, arith, append_assoc, true≢false}
+use Rattle.std.specs.Str.{bytes_eq}
+use Rattle.std.specs.Global.{Vec}
+use Rattle.std.specs.Option.{option_map}
+use Rattle.std.specs.List.{AllByRecursion}
+use Rattle.std.proofs.lemmas.List.{append-nil}
+use Rattle.std.specs.Map.{lookup}
+use Rattle.std.proofs.lemmas.Slice.Eq.{bytes_eq-Decides}
+use Rattle.indexmap.specs.IndexMap.{insert_entry}
+use Rattle.structured_fields.specs.Named.{value_at, with_value, IsDistinct, named, AreKeyed}
+
+abbrev pub key_eq : Vec ℕ → Vec ℕ → Bool
+key_eq a b = bytes_eq a.items b.items
+
+abbrev pub Kept : Type 0 → Type 0
+Kept V = List (Vec ℕ × (List ℕ × V))
+
+module _ {V : Type 0} where
+  pub found : (q : List ℕ) (es : Kept V) → AreKeyed es → value_at (named es) q ≡ option_map (λ p. p.1) (lookup (λ k. bytes_eq q k.items) es)
+  found q [] h = refl
+  found q (e ∷ es) h =
+      subst (λ (m : List ℕ). cond (bytes_eq q m) (Some e.1.1) (value_at (named es) q) ≡ option_map (λ p. p.1) (cond (bytes_eq q e.0.items) (Some e.1) (lookup (λ k. bytes_eq q k.items) es))) h.0 (by (bytes_eq q e.0.items) (found q es h.1))
+    where
+      by : (b : Bool) → value_at (named es) q ≡ option_map (λ p. p.1) (lookup (λ k. bytes_eq q k.items) es)
+          → cond b (Some e.1.1) (value_at (named es) q) ≡ option_map (λ p. p.1) (cond b (Some e.1) (lookup (λ k. bytes_eq q k.items) es))
+      by true r = refl
+      by false r = r
+
+  pub keyed_insert : (es : Kept V) (k : Vec ℕ) (n : List ℕ) (v : V) → k.items ≡ n → AreKeyed es → AreKeyed (insert_entry key_eq es k (n, v))
+  keyed_insert [] k n v e h = (e, tt)
+  keyed_insert (x ∷ es) k n v e h = by (bytes_eq k.items x.0.items) refl (keyed_insert es k n v e h.1)
+    where
+      by : (b : Bool) → bytes_eq k.items x.0.items ≡ b → AreKeyed (insert_entry key_eq es k (n, v)) → AreKeyed (cond b ((x.0, (n, v)) ∷ es) (x ∷ insert_entry key_eq es k (n, v)))
+      by true t r = (sym ((bytes_eq-Decides k.items x.0.items).0 t) ∙ e, h.1)
+      by false t r = (h.0, r)
+
+  pub named_insert : (es : Kept V) (k : Vec ℕ) (v : V) → AreKeyed es → named (insert_entry key_eq es k (k.items, v)) ≡ with_value (named es) k.items v
+  named_insert [] k v h = refl
+  named_insert (x ∷ es) k v h =
+      subst (λ (m : List ℕ). named (cond (bytes_eq k.items x.0.items) ((x.0, (k.items, v)) ∷ es) (x ∷ insert_entry key_eq es k (k.items, v))) ≡ cond (bytes_eq k.items m) ((m, v) ∷ named es) (x.1 ∷ with_value (named es) k.items v)) h.0 (by (bytes_eq k.items x.0.items) refl (named_insert es k v h.1))
+    where
+      by : (b : Bool) → bytes_eq k.items x.0.items ≡ b → named (insert_entry key_eq es k (k.items, v)) ≡ with_value (named es) k.items v
+          → named (cond b ((x.0, (k.items, v)) ∷ es) (x ∷ insert_entry key_eq es k (k.items, v))) ≡ cond b ((x.0.items, v) ∷ named es) (x.1 ∷ with_value (named es) k.items v)
+      by true t r = ap (λ (m : List ℕ). (m, v) ∷ named es) ((bytes_eq-Decides k.items x.0.items).0 t)
+      by false t r = ap (λ r. x.1 ∷ r) r
+
+  pub named_insert_as : (es : Kept V) (k : Vec ℕ) (n : List ℕ) (v : V) → k.items ≡ n → AreKeyed es → named (insert_entry key_eq es k (n, v)) ≡ with_value (named es) n v
+  named_insert_as es k n v e h = subst (λ (m : List ℕ). named (insert_entry key_eq es k (m, v)) ≡ with_value (named es) m v) e (named_insert es k v h)
+
+pub turned : (a b : List ℕ) → bytes_eq a b ≡ false → bytes_eq b a ≡ false
+turned a b h = by (bytes_eq b a) refl
+  where
+    by : (r : Bool) → bytes_eq b a ≡ r → r ≡ false
+    by false e = refl
+    by true e = absurd (true≢false (sym ((bytes_eq-Decides a b).1 (sym ((bytes_eq-Decides b a).0 e))) ∙ h))
+
+module _ {V : Type 0} where
+  -- what stands at a name once one was set
+  value_after : (es : List (List ℕ × V)) (n : List ℕ) (v : V) (m : List ℕ) → bytes_eq m n ≡ false → value_at (with_value es n v) m ≡ value_at es m
+  value_after [] n v m apart = rw apart refl
+  value_after (e ∷ es) n v m apart = by (bytes_eq n e.0) refl (value_after es n v m apart)
+    where
+      by : (b : Bool) → bytes_eq n e.0 ≡ b → value_at (with_value es n v) m ≡ value_at es m → value_at (cond b ((e.0, v) ∷ es) (e ∷ with_value es n v)) m ≡ value_at (e ∷ es) m
+      by true t r = let other : bytes_eq m e.0 ≡ false = sym (ap (bytes_eq m) ((bytes_eq-Decides n e.0).0 t)) ∙ apart in rw other refl
+      by false t r = ap (cond (bytes_eq m e.0) (Some e.1)) r
+
+  -- names stay distinct
+  pub distinct_set : (es : List (List ℕ × V)) (n : List ℕ) (v : V) → IsDistinct es → IsDistinct (with_value es n v)
+  distinct_set [] n v d = (refl, tt)
+  distinct_set (e ∷ es) n v d = by (bytes_eq n e.0) refl (distinct_set es n v d.1)
+    where
+      by : (b : Bool) → bytes_eq n e.0 ≡ b → IsDistinct (with_value es n v) → IsDistinct (cond b ((e.0, v) ∷ es) (e ∷ with_value es n v))
+      by true t r = (d.0, d.1)
+      by false t r = (value_after es n v e.0 (turned n e.0 t) ∙ d.0, r)
+
+  pub value_set : (es : List (List ℕ × V)) (n : List ℕ) (v : V) → value_at (with_value es n v) n ≡ Some v
+  value_set [] n v = rw ((bytes_eq-Decides n n).1 refl) refl
+  value_set (e ∷ es) n v = by (bytes_eq n e.0) refl (value_set es n v)
+    where
+      by : (b : Bool) → bytes_eq n e.0 ≡ b → value_at (with_value es n v) n ≡ Some v → value_at (cond b ((e.0, v) ∷ es) (e ∷ with_value es n v)) n ≡ Some v
+      by true t r = rw t refl
+      by false t r = rw t r
+
+  -- ---- entries of a list whose names are distinct
+
+  -- a name that has no value isn't that of an entry
+  apart_at : (es : List (List ℕ × V)) (m : List ℕ) → value_at es m ≡ None → (i : ℕ) (n : List ℕ) (v : V) → slice_get es i ≡ Some (n, v) → bytes_eq m n ≡ false
+  apart_at [] m none = λ i n v e. absurd cc
+  apart_at (x ∷ es) m none = by (bytes_eq m x.0) refl none (apart_at es m)
+    where
+      by : (b : Bool) → bytes_eq m x.0 ≡ b → cond b (Some x.1) (value_at es m) ≡ None
+          → (value_at es m ≡ None → (i : ℕ) (n : List ℕ) (v : V) → slice_get es i ≡ Some (n, v) → bytes_eq m n ≡ false)
+          → (i : ℕ) (n : List ℕ) (v : V) → slice_get (x ∷ es) i ≡ Some (n, v) → bytes_eq m n ≡ false
+      by true t h again i n v e = absurd cc
+      by false t h again zero n v e = let same : x ≡ (n, v) = cc in subst (λ (y : List ℕ × V). bytes_eq m y.0 ≡ false) same t
+      by false t h again (suc i) n v e = again h i n v e
+
+  -- the next entry goes last
+  pub set_next : (es : List (List ℕ × V)) (i : ℕ) (n : List ℕ) (v : V) → IsDistinct es → slice_get es i ≡ Some (n, v) → with_value (take i es) n v ≡ take (i + 1) es
+  set_next [] i n v d e = absurd cc
+  set_next (x ∷ es) zero n v d e = let same : x ≡ (n, v) = cc in ap (λ (y : List ℕ × V). y ∷ []) (sym same)
+  set_next (x ∷ es) (suc i) n v d e =
+      let k : suc i + 1 ≡ suc (i + 1) = omega arith in
+      rw (k, turned x.0 n (apart_at es x.0 d.0 i n v e)) (ap (λ (r : List (List ℕ × V)). x ∷ r) (set_next es i n v d.1 e))
+
+  apart_if : (qs : List (List ℕ × V)) (n : List ℕ) (v : V) (ps : List (List ℕ × V)) (m : List ℕ) → value_at (qs ++ (n, v) ∷ ps) m ≡ None → bytes_eq m n ≡ false
+  apart_if [] n v ps m e = by (bytes_eq m n) refl e
+    where
+      by : (b : Bool) → bytes_eq m n ≡ b → cond b (Some v) (value_at ps m) ≡ None → b ≡ false
+      by true p h = absurd cc
+      by false p h = refl
+  apart_if (q ∷ qs) n v ps m e = by (bytes_eq m q.0) e (apart_if qs n v ps m)
+    where
+      by : (b : Bool) → cond b (Some q.1) (value_at (qs ++ (n, v) ∷ ps) m) ≡ None → (value_at (qs ++ (n, v) ∷ ps) m ≡ None → bytes_eq m n ≡ false) → bytes_eq m n ≡ false
+      by true h again = absurd cc
+      by false h again = again h
+
+  absent : (qs : List (List ℕ × V)) (n : List ℕ) (v : V) (ps : List (List ℕ × V)) → IsDistinct (qs ++ (n, v) ∷ ps) → value_at qs n ≡ None
+  absent [] n v ps d = refl
+  absent (q ∷ qs) n v ps d = rw (turned q.0 n (apart_if qs n v ps q.0 d.0)) (absent qs n v ps d.1)
+
+  goes_last : (qs : List (List ℕ × V)) (n : List ℕ) (v : V) → value_at qs n ≡ None → with_value qs n v ≡ qs ++ (n, v) ∷ []
+  goes_last [] n v e = refl
+  goes_last (q ∷ qs) n v e = by (bytes_eq n q.0) e (goes_last qs n v)
+    where
+      by : (b : Bool) → cond b (Some q.1) (value_at qs n) ≡ None → (value_at qs n ≡ None → with_value qs n v ≡ qs ++ (n, v) ∷ []) → cond b ((q.0, v) ∷ qs) (q ∷ with_value qs n v) ≡ q ∷ qs ++ (n, v) ∷ []
+      by true h again = absurd cc
+      by false h again = ap (λ (r : List (List ℕ × V)). q ∷ r) (again h)
+
+  -- entries set one after the other
+  abbrev pub over : List (List ℕ × V) → List (List ℕ × V) → List (List ℕ × V)
+  over es gs = fold (λ qs g. with_value qs g.0 g.1) es gs
+
+  -- distinct entries set one after the other are the same entries
+  pub stays : (qs ps : List (List ℕ × V)) → IsDistinct (qs ++ ps) → over qs ps ≡ qs ++ ps
+  stays qs [] d = sym (append-nil qs)
+  stays qs (p ∷ ps) d =
+      let last : with_value qs p.0 p.1 ≡ qs ++ p ∷ [] = goes_last qs p.0 p.1 (absent qs p.0 p.1 ps d) in
+      let whole : (qs ++ p ∷ []) ++ ps ≡ qs ++ (p ∷ ps) = append_assoc qs (p ∷ []) ps in
+      ap (λ (r : List (List ℕ × V)). over r ps) last ∙ stays (qs ++ p ∷ []) ps (subst IsDistinct (sym whole) d) ∙ whole
+
+  pub distinct_over : (es gs : List (List ℕ × V)) → IsDistinct es → IsDistinct (over es gs)
+  distinct_over es [] d = d
+  distinct_over es (g ∷ gs) d = distinct_over (with_value es g.0 g.1) gs (distinct_set es g.0 g.1 d)
+
+  module _ (P : List ℕ × V → Type 0) where
+    all_set : (es : List (List ℕ × V)) (n : List ℕ) (v : V) → AllByRecursion P es → P (n, v) → AllByRecursion P (with_value es n v)
+    all_set [] n v all one = (one, tt)
+    all_set (e ∷ es) n v all one = by (bytes_eq n e.0) refl (all_set es n v all.1 one)
+      where
+        by : (b : Bool) → bytes_eq n e.0 ≡ b → AllByRecursion P (with_value es n v) → AllByRecursion P (cond b ((e.0, v) ∷ es) (e ∷ with_value es n v))
+        by true t r = (subst (λ (m : List ℕ). P (m, v)) ((bytes_eq-Decides n e.0).0 t) one, all.1)
+        by false t r = (all.0, r)
+
+    -- what holds of each entry that is set holds of all
+    pub all_over : (es gs : List (List ℕ × V)) → AllByRecursion P es → AllByRecursion P gs → AllByRecursion P (over es gs)
+    all_over es [] all ones = all
+    all_over es (g ∷ gs) all ones = all_over (with_value es g.0 g.1) gs (all_set es g.0 g.1 all ones.0) ones.1

@@ -1,0 +1,16 @@
+pub mod Entries
+pub mod Runs
+pub mod Fronts
+pub mod Numbers
+pub mod Base64
+pub mod Strings
+pub mod Bares
+pub mod Items
+pub mod Loop
+pub mod Opens
+pub mod Inner
+pub mod Members
+pub mod Whole
+pub mod Ranges
+pub mod Read
+pub mod Written

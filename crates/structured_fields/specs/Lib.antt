@@ -1,0 +1,6 @@
+pub mod Letters
+pub mod Named
+pub mod Grammar
+pub mod Canonical
+pub mod Reading
+pub mod Laws

@@ -1,0 +1,32 @@
+//! Bare items.
+use gnap_io::bytes::Bytes;
+use gnap_io::memory::{Duplicate, Mem};
+
+/// A bare item (RFC 8941, section 3.3).
+#[derive(Drop)]
+pub enum Bare {
+    /// A whole number of at most 15 digits.
+    Integer(i64),
+    /// A number of thousandths, of at most 15 digits: `1.5` is 1,500.
+    Decimal(i64),
+    /// Characters from SP to `~`, without quotes and escapes.
+    Str(Bytes),
+    /// A letter or `*`, then letters, digits and signs.
+    Token(Bytes),
+    /// Any bytes.
+    Binary(Bytes),
+    Boolean(bool),
+}
+
+impl Duplicate for Bare {
+    fn copy(&self) -> Result<Bare, Mem> {
+        match self {
+            Bare::Integer(n) => Ok(Bare::Integer(*n)),
+            Bare::Decimal(n) => Ok(Bare::Decimal(*n)),
+            Bare::Str(text) => Ok(Bare::Str(text.copy()?)),
+            Bare::Token(text) => Ok(Bare::Token(text.copy()?)),
+            Bare::Binary(bytes) => Ok(Bare::Binary(bytes.copy()?)),
+            Bare::Boolean(flag) => Ok(Bare::Boolean(*flag)),
+        }
+    }
+}

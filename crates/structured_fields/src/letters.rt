@@ -1,0 +1,135 @@
+//! The classes of bytes, and how far they run at the front of a text.
+ghost use Rattle.std.specs.Prelude.{◌≡◌, ◌≤◌, Bool, true, false, length, take, drop, MatchOption};
+ghost use Rattle.std.specs.List.{prefix_len, list_all};
+ghost use Rattle.structured_fields.specs.Letters.{is_space, is_ows, is_digit, is_key_start, is_key_byte, is_token_start, is_token_byte, is_string_byte, is_quoted};
+ghost use Rattle.structured_fields.specs.Reading.{front, behind, begins, is_not_colon};
+
+pub(crate) fn is_key_start(c: u8) -> bool
+    ensures { result ≡ is_key_start c }
+{
+    c.is_ascii_lowercase() || c == b'*'
+}
+
+fn is_key_byte(c: u8) -> bool
+    ensures { result ≡ is_key_byte c }
+{
+    is_key_start(c) || c.is_ascii_digit() || c == b'_' || c == b'-' || c == b'.'
+}
+
+pub(crate) fn is_token_start(c: u8) -> bool
+    ensures { result ≡ is_token_start c }
+{
+    c.is_ascii_alphabetic() || c == b'*'
+}
+
+fn is_token_byte(c: u8) -> bool
+    ensures { result ≡ is_token_byte c }
+{
+    c.is_ascii_alphanumeric() || b"!#$%&'*+-.^_`|~:/".contains(&c)
+}
+
+pub(crate) fn is_string_byte(c: u8) -> bool
+    ensures { result ≡ is_string_byte c }
+{
+    c >= 0x20 && c <= 0x7E
+}
+
+pub(crate) fn is_quoted(c: u8) -> bool
+    ensures { result ≡ is_quoted c }
+{
+    c == b'"' || c == b'\\'
+}
+
+pub(crate) fn key_run(bytes: &[u8]) -> usize
+    ensures len { result ≡ prefix_len is_key_byte bytes.now }
+    ensures within { result ≤ length bytes.now }
+{
+    bytes.iter().take_while(|b| is_key_byte(**b)).count()
+}
+
+pub(crate) fn token_run(bytes: &[u8]) -> usize
+    ensures len { result ≡ prefix_len is_token_byte bytes.now }
+    ensures within { result ≤ length bytes.now }
+{
+    bytes.iter().take_while(|b| is_token_byte(**b)).count()
+}
+
+pub(crate) fn colon_run(bytes: &[u8]) -> usize
+    ensures len { result ≡ prefix_len is_not_colon bytes.now }
+    ensures within { result ≤ length bytes.now }
+{
+    bytes.iter().take_while(|b| **b != b':').count()
+}
+
+fn digit_run(bytes: &[u8]) -> usize
+    ensures len { result ≡ prefix_len is_digit bytes.now }
+    ensures within { result ≤ length bytes.now }
+{
+    bytes.iter().take_while(|b| b.is_ascii_digit()).count()
+}
+
+// The digits at the front, and the rest.
+#[tactic(auto, using(crate::proofs::Runs::digits_all))]
+pub(crate) fn digits_in(bytes: &[u8]) -> (&[u8], &[u8])
+    ensures front { result.0.now ≡ front is_digit bytes.now }
+    ensures behind { result.1.now ≡ behind is_digit bytes.now }
+    ensures digits { list_all is_digit result.0.now ≡ true }
+    ensures len { length result.0.now ≡ prefix_len is_digit bytes.now }
+{
+    bytes.split_at(digit_run(bytes))
+}
+
+fn space_run(bytes: &[u8]) -> usize
+    ensures len { result ≡ prefix_len is_space bytes.now }
+    ensures within { result ≤ length bytes.now }
+{
+    bytes.iter().take_while(|b| **b == b' ').count()
+}
+
+pub(crate) fn without_spaces(bytes: &[u8]) -> &[u8]
+    ensures { result.now ≡ behind is_space bytes.now }
+{
+    let (_, rest) = bytes.split_at(space_run(bytes));
+    rest
+}
+
+fn ows_run(bytes: &[u8]) -> usize
+    ensures len { result ≡ prefix_len is_ows bytes.now }
+    ensures within { result ≤ length bytes.now }
+{
+    bytes
+        .iter()
+        .take_while(|b| **b == b' ' || **b == b'\t')
+        .count()
+}
+
+pub(crate) fn without_ows(bytes: &[u8]) -> &[u8]
+    ensures { result.now ≡ behind is_ows bytes.now }
+{
+    let (_, rest) = bytes.split_at(ows_run(bytes));
+    rest
+}
+
+pub(crate) fn begins(c: u8, bytes: &[u8]) -> bool
+    ensures { result ≡ begins c bytes.now }
+{
+    match bytes {
+        [] => false,
+        [b, ..] => *b == c,
+    }
+}
+
+// What stands behind the byte c, where the text begins with it.
+pub(crate) fn strip(c: u8, bytes: &[u8]) -> Option<&[u8]>
+    ensures { MatchOption result (begins c bytes.now ≡ false) (λ r. (begins c bytes.now ≡ true) × (r.now ≡ drop 1 bytes.now)) }
+{
+    match bytes {
+        [] => None,
+        [b, after @ ..] => {
+            if *b != c {
+                return None;
+            }
+            Some(after)
+        }
+    }
+}

@@ -1,0 +1,30 @@
+//! Structured fields of HTTP (RFC 8941): items, lists and dictionaries, read from texts and written in their canonical form.
+//!
+//! The contracts speak of a relation between whole texts and values, with one definition for each production of the RFC (`specs/Grammar.antt`), and of one canonical text for each value in range (`specs/Canonical.antt`).
+//! A reader answers v exactly where the text is a text of v, and `NotInGrammar` exactly where it is a text of no value; a text has one value at most. A writer gives the canonical text of a value in range, which every reader's value is, and reading it gives that value again (`laws`).
+//! `item_of`, `list_of` and `dictionary_of` (`specs/Reading.antt`) say the same as functions, for contracts that compute with what a text holds.
+//!
+//! Two rules are this project's own: a byte sequence may stand without its padding, and one whose unused last bits aren't zero is refused. Want of memory is `OutOfMemory` or `Mem`, and changes nothing.
+//! Reading and writing take time in proportion to the text. Entries are found by a hash with a fixed seed, so keys that were chosen to collide can make a dictionary quadratic in its number of entries.
+#![tactic(auto)]
+
+mod bare;
+mod bare_reading;
+mod fault;
+mod item;
+mod item_reading;
+pub mod laws;
+mod letters;
+mod named;
+mod reading;
+mod writing;
+
+pub use bare::Bare;
+pub use fault::FieldFault;
+pub use item::{Dictionary, InnerList, Item, Items, List, Member, Params};
+pub use named::Named;
+pub use reading::{read_dictionary, read_item, read_list};
+pub use writing::{write_dictionary, write_inner, write_item, write_list};
+
+#[cfg(test)]
+mod tests;
