@@ -8,3 +8,4 @@ pub mod Reading
 pub mod Grants
 pub mod Introspections
 pub mod Setups
+pub mod Replies
