@@ -130,15 +130,15 @@ not_over now (Pended r ∷ trail) g on = cc on
 not_over now (DecidedAs d ∷ trail) g on = not_over now trail g on
 not_over now (Finalized h ∷ trail) g on = cc on
 not_over now (Wrong h ∷ trail) g on = not_over now trail g on
-not_over now (Retired s why ∷ trail) g on = not_over now trail g on
+not_over now (Retired s why ∷ trail) g on = cc on
 
 state_on : (change : Option StateChange) (now : ℕ) → ((r : RoundNote) → change ≡ Some (ToPending r) → ⊥) → state_after change now ≡ IsApproved
 state_on (Some (ToPending r)) now none = absurd (none r refl)
 state_on (Some ToApproved) now none = refl
 state_on None now none = refl
 
-all_on : (now : ℕ) (trail : List Note) (g : ℕ) → list_all (lets_go_on now) trail ≡ true → is_finalized (grant_state trail g now) ≡ false
-all_on now trail g on =
+all_approved : (now : ℕ) (trail : List Note) (g : ℕ) → list_all (lets_go_on now) trail ≡ true → grant_state trail g now ≡ IsApproved
+all_approved now trail g on =
     let lasts = not_over now trail g on in
     let state = state_on (first_of (state_change_in g) trail) now lasts.2 in
     rw (lasts.0, lasts.1, state) refl
@@ -151,7 +151,7 @@ counted_alike p q alike (note ∷ notes) =
     let same : cond {A = ℕ} (p note) 1 0 ≡ cond {A = ℕ} (q note) 1 0 = rw (alike note) refl in
     let rest = counted_alike p q alike notes in omega arith
 
-live_alike : (whole : List Note) (now : ℕ) → ((g : ℕ) → is_finalized (grant_state whole g now) ≡ false) → (note : Note) → is_live_opening whole now note ≡ is_opening note
+live_alike : (whole : List Note) (now : ℕ) → ((g : ℕ) → grant_state whole g now ≡ IsApproved) → (note : Note) → is_live_opening whole now note ≡ is_opening note
 live_alike whole now on (Opened o) = rw (on o.grant) refl
 live_alike whole now on (Terms t) = refl
 live_alike whole now on (Approved g consent) = refl
@@ -170,9 +170,69 @@ all-reverse p (x ∷ xs) on =
     let rest = all-reverse p xs both.1 in
     rw (reverse-append (x ∷ []) xs, list_all-append p (reverse xs) (x ∷ []), rest, both.0) refl
 
--- Where no grant was ended, made pending, or has come to its end, all are live.
+-- Where no grant was ended, made pending, or has come to its end, and no token was retired, all grants are live.
 pub live_grants-all : (notes : List Note) (now : ℕ) → list_all (lets_go_on now) notes ≡ true → live_grants (reverse notes) now ≡ count_by is_opening notes
 live_grants-all notes now on =
     counted_alike (is_live_opening (reverse notes) now) is_opening
-    (live_alike (reverse notes) now (λ g. all_on now (reverse notes) g (all-reverse (lets_go_on now) notes on))) (reverse notes)
+    (live_alike (reverse notes) now (λ g. all_approved now (reverse notes) g (all-reverse (lets_go_on now) notes on))) (reverse notes)
     ∙ sum_by-reverse (λ note. cond (is_opening note) 1 0) notes
+
+not_retired : (now : ℕ) (trail : List Note) (serial : ℕ) → list_all (lets_go_on now) trail ≡ true → list_any (is_retirement serial) trail ≡ false
+not_retired now [] serial on = refl
+not_retired now (Opened o ∷ trail) serial on = not_retired now trail serial (both_of (nat_lt now o.end) (list_all (lets_go_on now) trail) on).1
+not_retired now (Terms t ∷ trail) serial on = not_retired now trail serial on
+not_retired now (Approved h consent ∷ trail) serial on = not_retired now trail serial on
+not_retired now (Issued t ∷ trail) serial on = not_retired now trail serial on
+not_retired now (Door h value earliest ∷ trail) serial on = not_retired now trail serial on
+not_retired now (Pended r ∷ trail) serial on = cc on
+not_retired now (DecidedAs d ∷ trail) serial on = not_retired now trail serial on
+not_retired now (Finalized h ∷ trail) serial on = cc on
+not_retired now (Wrong h ∷ trail) serial on = not_retired now trail serial on
+not_retired now (Retired s why ∷ trail) serial on = cc on
+
+middle_of : (a b c : Bool) → a ≡ true → c ≡ true → (a && b && c) ≡ b
+middle_of true true true is also = refl
+middle_of true false true is also = refl
+middle_of true b false is also = cc also
+middle_of false b c is also = cc is
+
+live_until : (now : ℕ) (trail : List Note) (t : TokenNote) → list_all (lets_go_on now) trail ≡ true → is_live trail now t ≡ nat_lt now t.until
+live_until now trail t on =
+    let kept = not_retired now trail t.serial on in
+    let approved = all_approved now trail t.grant on in
+    middle_of (not (list_any (is_retirement t.serial) trail)) (nat_lt now t.until) (is_approved (grant_state trail t.grant now)) (rw kept refl) (rw approved refl)
+
+token_each : (now : ℕ) (test : TokenNote → Bool) → ((t : TokenNote) → test t ≡ nat_lt now t.until)
+    → (note : Note) (xs : List TokenNote) → length (cons_option (token_in test note) xs) ≡ cond (is_unexpired now note) 1 0 + length xs
+token_each now test is (Issued t) xs = some_counted (test t) (nat_lt now t.until) (is t)
+  where
+    some_counted : (b c : Bool) → b ≡ c → length (cons_option (some_if b t) xs) ≡ cond c 1 0 + length xs
+    some_counted true true same = omega arith
+    some_counted false false same = omega arith
+    some_counted true false same = cc same
+    some_counted false true same = cc same
+token_each now test is (Opened o) xs = omega arith
+token_each now test is (Terms t) xs = omega arith
+token_each now test is (Approved g consent) xs = omega arith
+token_each now test is (Door g value earliest) xs = omega arith
+token_each now test is (Pended r) xs = omega arith
+token_each now test is (DecidedAs d) xs = omega arith
+token_each now test is (Finalized g) xs = omega arith
+token_each now test is (Wrong g) xs = omega arith
+token_each now test is (Retired s why) xs = omega arith
+
+tokens_each : (now : ℕ) (test : TokenNote → Bool) → ((t : TokenNote) → test t ≡ nat_lt now t.until)
+    → (trail : List Note) → length (filter_map (token_in test) trail) ≡ count_by (is_unexpired now) trail
+tokens_each now test is [] = refl
+tokens_each now test is (note ∷ trail) =
+    let here = token_each now test is note (filter_map (token_in test) trail) in
+    let counted = sum_by-cons (λ note. cond (is_unexpired now note) 1 0) note trail in
+    let rest = tokens_each now test is trail in omega arith
+
+-- And all tokens that have not expired.
+pub live_tokens-all : (notes : List Note) (now : ℕ) → list_all (lets_go_on now) notes ≡ true → length (live_tokens (reverse notes) now) ≡ count_by (is_unexpired now) notes
+live_tokens-all notes now on =
+    let on_back = all-reverse (lets_go_on now) notes on in
+    let each = tokens_each now (is_live (reverse notes) now) (λ t. live_until now (reverse notes) t on_back) (reverse notes) in
+    let turned = length-reverse (filter_map (token_in (is_live (reverse notes) now)) (reverse notes)) in
+    let same = sum_by-reverse (λ note. cond (is_unexpired now note) 1 0) notes in omega arith

@@ -3,7 +3,7 @@ use Rattle.std.specs.Prelude.{ℕ, Bool, true, false, List, length, nat_lt}
 use Rattle.std.specs.List.{sum_by}
 use Rattle.gnap_model.specs.Notes.{note_values}
 use Rattle.gnap_model.specs.declared.notes.Note.{Note}
-use Rattle.gnap_model.specs.declared.notes.Note.TheVariants.{Issued, Opened, Pended, Finalized}
+use Rattle.gnap_model.specs.declared.notes.Note.TheVariants.{Issued, Opened, Pended, Finalized, Retired}
 
 abbrev pub is_issue : Note → Bool
 is_issue (Issued t) = true
@@ -18,9 +18,10 @@ abbrev pub is_unexpired : ℕ → Note → Bool
 is_unexpired now (Issued t) = nat_lt now t.until
 is_unexpired now _ = false
 
--- the note ends no grant and makes none pending, and a grant that it opens has not come to its end
+-- the note ends no grant and no token and makes no grant pending, and a grant that it opens has not come to its end
 abbrev pub lets_go_on : ℕ → Note → Bool
 lets_go_on now (Opened o) = nat_lt now o.end
 lets_go_on now (Pended r) = false
 lets_go_on now (Finalized g) = false
+lets_go_on now (Retired serial why) = false
 lets_go_on now _ = true

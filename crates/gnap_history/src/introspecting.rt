@@ -79,7 +79,12 @@ fn covers_wanted(rights: &Rights, wanted: &Option<Rights>) -> bool
 }
 
 /// The token serves the server, has the binding that is asked about and covers the wanted rights.
-fn suits(names: &Names, binding: Option<Binding>, wanted: &Option<Rights>, token: &TokenNote) -> bool
+fn suits(
+    names: &Names,
+    binding: Option<Binding>,
+    wanted: &Option<Rights>,
+    token: &TokenNote,
+) -> bool
     ensures { result ≡ token_suits names.now binding wanted.now token.now.rights token.now.bearer }
 {
     serves_any(names, token.rights.as_slice())

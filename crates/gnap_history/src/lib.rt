@@ -6,14 +6,14 @@
 #![tactic(auto)]
 
 pub mod grant_machine;
-pub mod introspecting;
-pub mod keys;
+mod introspecting;
+mod keys;
 pub mod laws;
-pub mod limits;
+mod limits;
 pub mod list_core;
-pub mod look_ups;
-pub mod note_list;
-pub mod opening;
+mod look_ups;
+mod note_list;
+mod opening;
 pub mod values;
 
 pub use gnap_model::calls::{Call, FinishOut, Reply, TokenOut, Tokens};

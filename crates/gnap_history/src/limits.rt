@@ -60,7 +60,7 @@ fn unexpired_tokens(notes: &[Note], now: u64) -> usize
     count
 }
 
-/// No note ends a grant or makes one pending, and no grant has come to its end.
+/// No note ends a grant or a token or makes a grant pending, and no grant has come to its end.
 fn goes_on(notes: &[Note], now: u64) -> bool
     ensures { result ≡ list_all (lets_go_on now) notes.now }
 {
@@ -69,6 +69,7 @@ fn goes_on(notes: &[Note], now: u64) -> bool
             Note::Opened(opening) => now < opening.end,
             Note::Pended(_) => false,
             Note::Finalized { .. } => false,
+            Note::Retired { .. } => false,
             _ => true,
         };
         if !goes_on {
@@ -91,7 +92,7 @@ pub fn has_many_grants(notes: &NoteList, now: u64) -> bool
     live_grants(notes.as_slice(), now) >= LIVE_LIMIT
 }
 
-/// The live tokens and so many more are too many. They are counted one by one only where so many were issued and have not expired.
+/// The live tokens and so many more are too many. They are counted one by one only where so many were issued and have not expired, and not all of these are live.
 pub fn passes_limit(notes: &NoteList, now: u64, more: usize) -> bool
     requires { more ≤ 8 }
     ensures { result ≡ pass_limit (tokens_live (reverse notes.now) now) more }
@@ -101,6 +102,9 @@ pub fn passes_limit(notes: &NoteList, now: u64, more: usize) -> bool
     }
     if unexpired_tokens(notes.as_slice(), now) + more <= LIVE_LIMIT {
         return false;
+    }
+    if goes_on(notes.as_slice(), now) {
+        return true;
     }
     live_tokens(notes.as_slice(), now) + more > LIVE_LIMIT
 }

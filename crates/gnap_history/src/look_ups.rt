@@ -115,9 +115,7 @@ pub fn is_retired(notes: &[Note], serial: u64) -> bool
 pub fn is_live(notes: &[Note], token: &TokenNote, now: u64) -> bool
     ensures { result ≡ token_is_live (reverse notes.now) now token.now }
 {
-    now < token.until
-        && !is_retired(notes, token.serial)
-        && is_approved(notes, token.grant, now)
+    now < token.until && !is_retired(notes, token.serial) && is_approved(notes, token.grant, now)
 }
 
 /// The live token with this value.

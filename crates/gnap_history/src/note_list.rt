@@ -77,20 +77,8 @@ fn drawn_values(notes: &[Note]) -> u64
         count += match note {
             Note::Issued(_) => 2,
             Note::Door { .. } => 1,
-            Note::Pended(round) => {
-                if round.nonce.is_some() {
-                    2
-                } else {
-                    1
-                }
-            }
-            Note::DecidedAs(decision) => {
-                if decision.reference.is_some() {
-                    1
-                } else {
-                    0
-                }
-            }
+            Note::Pended(round) => { if round.nonce.is_some() { 2 } else { 1 } }
+            Note::DecidedAs(decision) => { if decision.reference.is_some() { 1 } else { 0 } }
             _ => 0,
         };
     }

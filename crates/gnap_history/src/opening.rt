@@ -3,7 +3,9 @@ ghost use Rattle.std.specs.Prelude.{◌≡◌, ◌≤◌, ◌<◌, ◌+◌, ◌*
 ghost use Rattle.std.specs.List.{flat_map};
 ghost use Rattle.gnap_model.specs.Rights.{covers as rights_cover};
 ghost use Rattle.gnap_model.specs.Asked.{asked_rights};
-ghost use Rattle.gnap_model.specs.Actions.{drawn_value as value_drawn, token_for, tokens_for, token_out as token_shown, terms_for, door_note, instance_of, grant_outcome, outcome_of};
+ghost use Rattle.gnap_model.specs.Values.{drawn as value_at};
+ghost use Rattle.gnap_model.specs.Notes.{first_serial};
+ghost use Rattle.gnap_model.specs.Actions.{token_for, tokens_for, token_out as token_shown, terms_for, door_note, instance_of, grant_outcome, outcome_of};
 ghost use Rattle.gnap_model.specs.Actions.Action.{OpenAtOnce};
 ghost use Rattle.gnap_model.specs.Begin.{end_of, is_past as has_passed, opening as opening_for};
 ghost use Rattle.gnap_model.specs.Answer.{supply_of, gnap_answer};
@@ -35,13 +37,16 @@ pub const TOKEN_TIME: u64 = 3_600;
 /// A continuation value may be used for a poll after so many seconds.
 pub const WAIT: u64 = 5;
 
-/// The k-th value of the entry that comes next (RFC 9635, section 7.2: values are unguessable by their words).
-fn drawn_value(notes: &NoteList, now: u64, draw: &[u64; 48], k: usize) -> [u8; 32]
+/// The k-th value that the next entry draws: its serial, and two of the entry's words.
+fn drawn_value(notes: &NoteList, draw: &[u64; 48], k: usize) -> [u8; 32]
     requires { k < 24 }
-    ensures { result ≡ value_drawn (supply_of (reverse notes.now) now draw.now) k }
+    ensures { result ≡ value_at (first_serial (reverse notes.now)) draw.now k }
 {
-    let _now = now;
-    value_text(notes.first_serial() + k as u64, draw[2 * k], draw[2 * k + 1])
+    value_text(
+        notes.first_serial() + k as u64,
+        draw[2 * k],
+        draw[2 * k + 1],
+    )
 }
 
 /// The asked end has come.
@@ -146,8 +151,8 @@ fn token(
         key: opening.key.copy()?,
         issued: now,
         until: (now + TOKEN_TIME).min(opening.end),
-        value: drawn_value(notes, now, draw, k),
-        manage: drawn_value(notes, now, draw, k + 1),
+        value: drawn_value(notes, draw, k),
+        manage: drawn_value(notes, draw, k + 1),
     })
 }
 
@@ -212,7 +217,7 @@ fn grant(
 {
     let mut added = before;
     let tokens = issue(alloc, notes, now, draw, opening, asks, &mut added)?;
-    let door = drawn_value(notes, now, draw, 2 * asks.len());
+    let door = drawn_value(notes, draw, 2 * asks.len());
     added.push(Note::Door {
         grant: opening.grant,
         value: door,

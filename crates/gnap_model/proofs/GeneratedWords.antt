@@ -2,11 +2,9 @@
 use Rattle.std.specs.Prelude.{ℕ, Bool, true, List, [], ◌∷◌, is_some}
 use Rattle.std.specs.List.{flat_map}
 use Rattle.std.specs.declared.option.Option.{Option}
-use Rattle.std.specs.declared.option.Option.TheVariants.{None, Some}
 use Rattle.gnap_model.specs.Common.{Text}
 use Rattle.gnap_model.specs.declared.rights.Right.{Right}
-use Rattle.gnap_model.specs.declared.rights.RightObject.{RightObject}
-use Rattle.gnap_model.specs.declared.rights.Right.TheVariants.{Reference, Object}
+use Rattle.gnap_model.specs.declared.rights.Right.TheVariants.{Object}
 use Rattle.gnap_model.specs.declared.objects.Ask.{Ask}
 use Rattle.gnap_model.specs.declared.objects.Finish.{Finish}
 use Rattle.gnap_model.specs.declared.objects.Modes.{Modes}

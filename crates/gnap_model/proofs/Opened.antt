@@ -1,17 +1,17 @@
 -- What stands behind the notes of a legal history: an opened grant has terms, and an issued token has an opened grant.
-use Rattle.std.proofs.Common.{ℕ, ◌≡◌, ◌+◌, List, [], ◌∷◌, ◌++◌, Bool, true, false, length, map, reverse, refl, sym, ap, subst, inl, inr, ◌⊎◌, Option, Some, None}
-use Rattle.std.specs.Prelude.{◌*◌, ◌==◌, ◌&&◌, not, if◌then◌else◌}
+use Rattle.std.proofs.Common.{ℕ, ◌≡◌, ◌+◌, List, [], ◌∷◌, ◌++◌, Bool, true, false, length, map, reverse, refl, sym, subst, inl, inr, Option, Some, None}
+use Rattle.std.specs.Prelude.{◌*◌, ◌==◌, if◌then◌else◌}
 use Rattle.std.specs.Option.{option_or}
 use Rattle.std.proofs.lemmas.List.{reverse-append}
 use Rattle.std.proofs.lemmas.Bool.Decides.{Decides-eqb}
 use Rattle.gnap_model.specs.Common.{Text, first_of, some_if}
 use Rattle.gnap_model.specs.Keys.{Setup}
-use Rattle.gnap_model.specs.Asked.{Ask, Modes}
+use Rattle.gnap_model.specs.Asked.{Ask}
 use Rattle.gnap_model.specs.Calls.{Call}
 use Rattle.gnap_model.specs.Notes.{OpeningNote, TermsNote, TokenNote, Note, Event, trail_of}
 use Rattle.gnap_model.specs.declared.notes.Note.TheVariants.{Opened, Terms, Approved, Issued, Door, Pended, DecidedAs, Finalized, Wrong, Retired}
 use Rattle.gnap_model.specs.Standing.{opening_in, terms_in, terms_of}
-use Rattle.gnap_model.specs.Actions.{Action, Supply, outcome_of, grant_outcome, pending_outcome, tokens_for, door_note, terms_for, instance_of, retire, round_for}
+use Rattle.gnap_model.specs.Actions.{Action, Supply, outcome_of, grant_outcome, tokens_for, door_note, terms_for, instance_of, retire, round_for}
 use Rattle.gnap_model.specs.Actions.Action.{Refuse, ShowToken, ShowInactive, LapseAction, OpenAtOnce, OpenAsking, ShowRound, ShowHandle, TakeDecision, RenewDoor, CollectDecision, WrongReference, LastWrongReference, RefuseAndFinalize, ModifyAtOnce, ModifyAsking, CancelGrant, RotateToken, RevokeToken}
 use Rattle.gnap_model.specs.Answer.{supply_at}
 use Rattle.gnap_model.specs.Legal.{IsLegalPast}

@@ -1,5 +1,5 @@
 -- Each error reply has its cause.
-use Rattle.std.proofs.Common.{ℕ, ◌≡◌, ◌≢◌, ◌≤◌, ◌<◌, ◌+◌, ◌⊎◌, inl, inr, Bool, true, false, List, [], ◌∷◌, length, refl, sym, ◌∙◌, ap, subst, arith, Option, Some, None}
+use Rattle.std.proofs.Common.{ℕ, ◌≡◌, ◌≢◌, ◌≤◌, ◌<◌, ◌+◌, ◌⊎◌, inl, inr, Bool, true, false, List, [], ◌∷◌, length, refl, sym, ◌∙◌, ap, subst, Option, Some, None}
 use Rattle.std.specs.Prelude.{◌==◌, is_some, if◌then◌else◌, ◌&&◌, ◌||◌, not, nat_le, nat_lt}
 use Rattle.std.specs.List.{list_any, filter_map, cons_option}
 use Rattle.std.proofs.lemmas.Bool.{leb-true, leb-false, ltb-true}
@@ -8,19 +8,19 @@ use Rattle.std.proofs.lemmas.Slice.Eq.{bytes_eq-Decides}
 use Rattle.gnap_model.specs.Common.{Text, same_text, first_of, some_if}
 use Rattle.gnap_model.specs.Limits.{wrong_limit, live_limit}
 use Rattle.gnap_model.specs.Rights.{Right, covers}
-use Rattle.gnap_model.specs.Asked.{Modes, GrantRequest, DecideRequest, Verdict, Binding, asked_rights, has_start}
+use Rattle.gnap_model.specs.Asked.{Modes, GrantRequest, Verdict, Binding, asked_rights, has_start}
 use Rattle.gnap_model.specs.declared.objects.Verdict.TheVariants.{Grant, Deny, Unknown}
 use Rattle.gnap_model.specs.Keys.{Setup, key_of, server_names}
 use Rattle.gnap_model.specs.Calls.{Call, ErrorCode}
 use Rattle.gnap_model.specs.declared.calls.Call.TheVariants.{Begin, Introspect, Lapse, Look, FindCode, Decide, Continue, Modify, Cancel, Rotate, Revoke}
 use Rattle.gnap_model.specs.declared.calls.Reply.TheVariants.{Error}
-use Rattle.gnap_model.specs.declared.objects.ErrorCode.TheVariants.{InvalidRequest, InvalidClient, InvalidInteraction, InvalidRotation, KeyRotationNotSupported, InvalidContinuation, UserDenied, RequestDenied, UnknownUser, UnknownInteraction, TooFast, TooManyAttempts, InvalidAccess}
-use Rattle.gnap_model.specs.Notes.{OpeningNote, TermsNote, RoundNote, DecisionNote, TokenNote, Note, Event, trail_of, now_at}
+use Rattle.gnap_model.specs.declared.objects.ErrorCode.TheVariants.{InvalidRequest, InvalidClient, InvalidInteraction, InvalidRotation, InvalidContinuation, RequestDenied, UnknownInteraction, TooFast, TooManyAttempts, InvalidAccess}
+use Rattle.gnap_model.specs.Notes.{OpeningNote, TermsNote, RoundNote, DecisionNote, TokenNote, Note}
 use Rattle.gnap_model.specs.declared.notes.Note.TheVariants.{Opened, Terms, Approved, Issued, Door, Pended, DecidedAs, Finalized, Wrong, Retired}
-use Rattle.gnap_model.specs.Standing.{GrantState, grant_state, state_after, state_change_in, StateChange, has_ended, is_end_of, is_finalized, is_door_of, earliest_in, named_grant, named_in, decision_of, wrongs_of, terms_of, consent_of, opening_in, live_grants, live_tokens, live_token, managed_token, is_live, is_retirement, is_undecided, live_round, live_rounds, interaction_in, round_by_handle, round_by_code}
+use Rattle.gnap_model.specs.Standing.{GrantState, grant_state, state_after, state_change_in, StateChange, has_ended, is_end_of, is_finalized, is_door_of, earliest_in, named_grant, named_in, decision_of, wrongs_of, terms_of, consent_of, opening_in, live_grants, live_tokens, live_token, managed_token, is_live, is_retirement, is_undecided, live_round, interaction_in, round_by_handle, round_by_code}
 use Rattle.gnap_model.specs.Standing.StateChange.{ToPending, ToApproved}
 use Rattle.gnap_model.specs.Standing.GrantState.{IsPending, IsApproved, IsFinalized}
-use Rattle.gnap_model.specs.Judging.{Settled, settle, settle_by, suits, serves_all}
+use Rattle.gnap_model.specs.Judging.{Settled, settle, suits, serves_all}
 use Rattle.gnap_model.specs.Judging.Settled.{AtOnce, ByAsking, Never}
 use Rattle.gnap_model.specs.Actions.{Action, Supply, outcome_of, on_found, with_key}
 use Rattle.gnap_model.specs.Actions.Action.{Refuse, ShowToken, ShowInactive, LapseAction, OpenAtOnce, OpenAsking, ShowRound, ShowHandle, TakeDecision, RenewDoor, CollectDecision, WrongReference, LastWrongReference, RefuseAndFinalize, ModifyAtOnce, ModifyAsking, CancelGrant, RotateToken, RevokeToken}
@@ -28,15 +28,14 @@ use Rattle.gnap_model.specs.Begin.{pass_limit, is_past, begin_by, ask_user, open
 use Rattle.gnap_model.specs.Continue.{decided_asks, collect_by, collect_or_renew, is_wrong, is_early, is_before, continue_round, continue_at}
 use Rattle.gnap_model.specs.Change.{tokens_of, other_live_tokens, modify_by}
 use Rattle.gnap_model.specs.Manage.{rotate_key}
-use Rattle.gnap_model.specs.Front.{rights_or, may_decide, decide_on}
-use Rattle.gnap_model.specs.Refusals.{HasCause, NamesGrant, NamesRound, AreTooMany, caller}
-use Rattle.gnap_model.specs.Answer.{action_of, answer, supply_at}
-use Rattle.gnap_model.specs.Legal.{IsNext, IsLegalPast}
+use Rattle.gnap_model.specs.Front.{rights_or, may_decide}
+use Rattle.gnap_model.specs.Refusals.{HasCause, NamesGrant, NamesRound, caller}
+use Rattle.gnap_model.specs.Answer.{action_of}
 use Rattle.gnap_model.proofs.Causes.{if_known}
 use Rattle.gnap_model.proofs.Doors.{some_if_some, option_or_cases}
 use Rattle.gnap_model.proofs.AliveTokens.{HasNote, first_noted, managed_issued}
 use Rattle.gnap_model.proofs.Sound.{named_opened}
-use Rattle.gnap_model.proofs.Opened.{HaveOrigins, opened_terms, opened_found, issued_opened, past_origins}
+use Rattle.gnap_model.proofs.Opened.{HaveOrigins, opened_terms, opened_found, issued_opened}
 
 -- the error replies of an action have their cause
 abbrev pub Explained : Setup → List Note → ℕ → Call → Action → Type 0

@@ -1,7 +1,6 @@
 -- Why a call is refused, code by code (RFC 9635, section 3.6; RFC 9767, section 3.5): what holds of the call and of the notes before it where it is
 -- answered with an error. The trail has the newest note first.
 use Rattle.std.specs.Prelude.{ℕ, ◌≡◌, ◌≢◌, ◌≤◌, ◌<◌, ◌+◌, ◌⊎◌, List, [], length, is_some, IsTrue, IsFalse}
-use Rattle.std.specs.declared.option.Option.{Option}
 use Rattle.std.specs.declared.option.Option.TheVariants.{None, Some}
 use Rattle.gnap_model.specs.Common.{Text, first_of}
 use Rattle.gnap_model.specs.Limits.{wrong_limit, live_limit}

@@ -2,228 +2,200 @@
 use crate::calls::{Call, FinishOut, Reply, TokenOut};
 use crate::notes::{DecisionNote, Note, OpeningNote, RoundNote, TermsNote, TokenNote};
 use crate::objects::{
-    Ask, Asks, DecideRequest, Finish, GrantRequest, KeyRow, Modes, Role, Setup, Verdict,
+    Ask, DecideRequest, Finish, GrantRequest, KeyRow, Modes, Role, Setup, Verdict,
 };
-use crate::rights::{Right, RightObject, Rights, Texts};
+use crate::rights::{Right, RightObject, Rights};
 use gnap_io::bytes::Bytes;
 use gnap_io::memory::{Duplicate, Mem};
 use gnap_io::seq::Seq;
 use std::alloc::Global;
 
-fn text(alloc: Global) -> Result<Bytes, Mem> {
-    Bytes::from_slice(alloc, b"text")
-}
-
-fn texts(alloc: Global) -> Result<Texts, Mem> {
-    let mut texts = Seq::new(alloc);
-    texts.push(text(alloc)?)?;
-    Ok(texts)
-}
-
+// An object of the type `t`.
 fn rights(alloc: Global) -> Result<Rights, Mem> {
     let mut rights = Seq::new(alloc);
-    rights.push(Right::Reference(text(alloc)?))?;
     rights.push(Right::Object(RightObject {
-        kind: text(alloc)?,
-        actions: Some(texts(alloc)?),
+        kind: Bytes::from_slice(alloc, b"t")?,
+        actions: Some(Seq::new(alloc)),
         locations: None,
         datatypes: None,
-        privileges: Some(texts(alloc)?),
-        identifier: Some(text(alloc)?),
-        further: text(alloc)?,
+        privileges: None,
+        identifier: Some(Bytes::new(alloc)),
+        further: Bytes::new(alloc),
     }))?;
     Ok(rights)
 }
 
-fn asks(alloc: Global) -> Result<Asks, Mem> {
-    let mut asks = Seq::new(alloc);
-    asks.push(Ask {
-        label: Some(text(alloc)?),
-        rights: rights(alloc)?,
-        bearer: true,
-    })?;
-    Ok(asks)
-}
-
-fn modes(alloc: Global) -> Result<Modes, Mem> {
-    Ok(Modes {
+fn modes(alloc: Global) -> Modes {
+    Modes {
         redirect: true,
         user_code: false,
         user_code_uri: false,
         finish: Some(Finish {
             push: true,
-            uri: text(alloc)?,
-            nonce: text(alloc)?,
+            uri: Bytes::new(alloc),
+            nonce: Bytes::new(alloc),
             long: true,
         }),
-    })
+    }
 }
 
-fn same(copied: &Bytes, original: &Bytes) -> bool {
-    copied.as_slice() == original.as_slice()
-}
-
-fn setup_is_copied(alloc: Global) -> Result<bool, Mem> {
+fn copies_setup(alloc: Global) -> Result<bool, Mem> {
+    let auto_rights = rights(alloc)?;
     let mut keys = Seq::new(alloc);
     keys.push(KeyRow {
-        id: text(alloc)?,
+        id: Bytes::new(alloc),
         role: Role::Client,
-        secret: text(alloc)?,
-        auto_rights: rights(alloc)?,
-        ask_rights: rights(alloc)?,
-        serves: texts(alloc)?,
+        secret: Bytes::new(alloc),
+        auto_rights,
+        ask_rights: Seq::new(alloc),
+        serves: Seq::new(alloc),
     })?;
     let setup = Setup {
-        base: text(alloc)?,
-        front: text(alloc)?,
+        base: Bytes::new(alloc),
+        front: Bytes::new(alloc),
         keys,
     };
-    let copied = setup.copy()?;
-    Ok(same(&copied.base, &setup.base) && copied.keys.len() == 1)
+    Ok(setup.copy()?.keys.len() == 1)
 }
 
-fn begin_is_copied(alloc: Global) -> Result<bool, Mem> {
-    let call = Call::Begin {
-        key: text(alloc)?,
-        request: GrantRequest {
-            asks: asks(alloc)?,
-            single: true,
-            subject: false,
-            client: Some(text(alloc)?),
-            by_object: true,
-            user: None,
-            modes: Some(modes(alloc)?),
+fn copies_request(alloc: Global) -> Result<bool, Mem> {
+    let rights = rights(alloc)?;
+    let mut asks = Seq::new(alloc);
+    asks.push(Ask {
+        label: None,
+        rights,
+        bearer: true,
+    })?;
+    let request = GrantRequest {
+        asks,
+        single: true,
+        subject: false,
+        client: None,
+        by_object: true,
+        user: None,
+        modes: Some(modes(alloc)),
+    };
+    let copied = request.copy()?;
+    Ok(copied.asks.len() == 1 && copied.by_object)
+}
+
+fn copies_cancel(alloc: Global) -> Result<bool, Mem> {
+    let call = Call::Cancel {
+        key: Bytes::new(alloc),
+        value: Bytes::from_slice(alloc, b"value")?,
+    };
+    let copied = call.copy()?;
+    Ok(matches!(&copied, Call::Cancel { value, .. } if value.len() == 5))
+}
+
+fn copies_decide(alloc: Global) -> Result<bool, Mem> {
+    let rights = rights(alloc)?;
+    let request = DecideRequest {
+        handle: Bytes::new(alloc),
+        verdict: Verdict::Deny,
+        rights: Some(rights),
+        subject: None,
+    };
+    let copied = request.copy()?;
+    Ok(copied.verdict == Verdict::Deny && copied.rights.is_some())
+}
+
+fn copies_rotated(alloc: Global) -> Result<bool, Mem> {
+    let rights = rights(alloc)?;
+    let token = TokenOut {
+        value: [1; 32],
+        manage: [2; 32],
+        label: None,
+        rights,
+        expires_in: 3,
+        bearer: false,
+    };
+    let copied = Reply::Rotated { token }.copy()?;
+    Ok(
+        matches!(&copied, Reply::Rotated { token } if token.manage == [2; 32] && token.rights.len() == 1),
+    )
+}
+
+fn copies_decided(alloc: Global) -> Result<bool, Mem> {
+    let finish = FinishOut {
+        finish: Finish {
+            push: false,
+            uri: Bytes::new(alloc),
+            nonce: Bytes::new(alloc),
+            long: false,
         },
-        not_after: Some(7),
+        server_nonce: [4; 32],
+        reference: [5; 32],
     };
-    Ok(match call.copy()? {
-        Call::Begin {
-            request,
-            not_after,
-            ..
-        } => request.asks.len() == 1 && request.single && not_after == Some(7),
-        _ => false,
-    })
+    Ok(finish.copy()?.reference == [5; 32])
 }
 
-fn decide_is_copied(alloc: Global) -> Result<bool, Mem> {
-    let call = Call::Decide {
-        front: text(alloc)?,
-        request: DecideRequest {
-            handle: text(alloc)?,
-            verdict: Verdict::Deny,
-            rights: Some(rights(alloc)?),
-            subject: Some(text(alloc)?),
-        },
-    };
-    Ok(match call.copy()? {
-        Call::Decide { request, .. } => request.verdict == Verdict::Deny,
-        _ => false,
-    })
-}
-
-fn replies_are_copied(alloc: Global) -> Result<bool, Mem> {
-    let rotated = Reply::Rotated {
-        token: TokenOut {
-            value: [1; 32],
-            manage: [2; 32],
-            label: Some(text(alloc)?),
-            rights: rights(alloc)?,
-            expires_in: 3,
-            bearer: false,
-        },
-    };
-    let decided = Reply::Decided {
-        finish: Some(FinishOut {
-            finish: Finish {
-                push: false,
-                uri: text(alloc)?,
-                nonce: text(alloc)?,
-                long: false,
-            },
-            server_nonce: [4; 32],
-            reference: [5; 32],
-        }),
-    };
-    let token = match rotated.copy()? {
-        Reply::Rotated { token } => token.manage == [2; 32] && token.rights.len() == 2,
-        _ => false,
-    };
-    let finish = match decided.copy()? {
-        Reply::Decided {
-            finish: Some(finish),
-        } => finish.reference == [5; 32],
-        _ => false,
-    };
-    Ok(token && finish)
-}
-
-fn notes(alloc: Global) -> Result<Seq<Note>, Mem> {
-    let mut notes = Seq::new(alloc);
-    notes.push(Note::Opened(OpeningNote {
+fn copies_grant_notes(alloc: Global) -> Result<bool, Mem> {
+    let opening = OpeningNote {
         grant: 1,
-        key: text(alloc)?,
+        key: Bytes::new(alloc),
         by_object: false,
-        user: Some(text(alloc)?),
+        user: None,
         end: 2,
-    }))?;
-    notes.push(Note::Terms(TermsNote {
+    };
+    let terms = TermsNote {
         grant: 1,
-        asks: asks(alloc)?,
+        asks: Seq::new(alloc),
         single: true,
         subject: true,
-    }))?;
-    notes.push(Note::Pended(RoundNote {
+    };
+    let copied = Note::Opened(opening).copy()?;
+    Ok(terms.copy()?.subject && matches!(&copied, Note::Opened(opening) if opening.end == 2))
+}
+
+fn copies_round_notes(alloc: Global) -> Result<bool, Mem> {
+    let rights = rights(alloc)?;
+    let round = RoundNote {
         grant: 1,
         until: 3,
         over: 4,
-        modes: modes(alloc)?,
+        modes: modes(alloc),
         handle: [1; 32],
         code: Some([2; 8]),
         nonce: None,
-    }))?;
-    notes.push(Note::DecidedAs(DecisionNote {
+    };
+    let decision = DecisionNote {
         grant: 1,
         verdict: Verdict::Grant,
         reference: Some([3; 32]),
-        rights: rights(alloc)?,
+        rights,
         subject: None,
-    }))?;
-    notes.push(Note::Issued(TokenNote {
+    };
+    Ok(round.copy()?.code == Some([2; 8]) && decision.copy()?.rights.len() == 1)
+}
+
+fn copies_token_note(alloc: Global) -> Result<bool, Mem> {
+    let rights = rights(alloc)?;
+    let token = TokenNote {
         serial: 5,
         grant: 1,
         label: None,
-        rights: rights(alloc)?,
+        rights,
         bearer: true,
-        key: text(alloc)?,
+        key: Bytes::new(alloc),
         issued: 6,
         until: 7,
         value: [4; 32],
         manage: [5; 32],
-    }))?;
-    Ok(notes)
-}
-
-fn notes_are_copied(alloc: Global) -> Result<bool, Mem> {
-    let copied = notes(alloc)?.copy()?;
-    Ok(match copied.as_slice() {
-        [
-            Note::Opened(opening),
-            Note::Terms(_),
-            Note::Pended(_),
-            Note::DecidedAs(_),
-            Note::Issued(token),
-        ] => { opening.end == 2 && token.manage == [5; 32] }
-        _ => false,
-    })
+    };
+    Ok(token.copy()?.manage == [5; 32])
 }
 
 #[test]
 fn copies_succeed_with_ample_memory(rt: HostRuntime) {
     let alloc = rt.alloc();
-    assert!(rt; setup_is_copied(alloc) == Ok(true));
-    assert!(rt; begin_is_copied(alloc) == Ok(true));
-    assert!(rt; decide_is_copied(alloc) == Ok(true));
-    assert!(rt; replies_are_copied(alloc) == Ok(true));
-    assert!(rt; notes_are_copied(alloc) == Ok(true));
+    assert!(rt; copies_setup(alloc) == Ok(true));
+    assert!(rt; copies_request(alloc) == Ok(true));
+    assert!(rt; copies_cancel(alloc) == Ok(true));
+    assert!(rt; copies_decide(alloc) == Ok(true));
+    assert!(rt; copies_rotated(alloc) == Ok(true));
+    assert!(rt; copies_decided(alloc) == Ok(true));
+    assert!(rt; copies_grant_notes(alloc) == Ok(true));
+    assert!(rt; copies_round_notes(alloc) == Ok(true));
+    assert!(rt; copies_token_note(alloc) == Ok(true));
 }

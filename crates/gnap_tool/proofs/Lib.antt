@@ -1,1 +1,3 @@
+pub mod CallLines
 pub mod Reading
+pub mod Shown

@@ -1,16 +1,16 @@
 -- The gathering of a line, step by step.
 use Rattle.std.proofs.Common.{◌≡◌, ◌∙◌, ℕ, ◌+◌, ◌-◌, ◌≤◌, List, [], ◌∷◌, ◌++◌, length, take, refl, sym, ap, subst, arith, append_assoc, ◌⊎◌, inl, inr, length-append}
-use Rattle.std.specs.Prelude.{Bool, true, false, ◌==◌, ◌||◌}
+use Rattle.std.specs.Prelude.{Bool, true, false, ◌==◌, ◌||◌, Option}
 use Rattle.std.specs.List.{list_any}
 use Rattle.std.proofs.lemmas.List.{append-nil, take_all, take-append-le, length-take}
 use Rattle.std.proofs.lemmas.List.Folds.{list_any-append}
 use Rattle.std.proofs.Math.Seq.{take-append-add}
-use Rattle.gnap_io.specs.Outside.{Told, Takes}
-use Rattle.gnap_io.proofs.Devices.{takes_none, takes_then}
+use Rattle.gnap_io.specs.Outside.{Told, IfTold, Takes}
+use Rattle.gnap_io.proofs.Devices.{told_same, told_then, takes_none, takes_then}
 use Rattle.gnap_tool.specs.declared.line_reader.LineEnd.{LineEnd}
 use Rattle.gnap_tool.specs.declared.line_reader.LineEnd.TheVariants.{Whole, Last, Long, Full, Failed, Memory}
 use Rattle.gnap_tool.specs.Lines.{IsLine}
-use Rattle.gnap_tool.specs.Reading.{MovesPart, IsKept, Came, Gathers, EndsBy, ReadsLine}
+use Rattle.gnap_tool.specs.Reading.{MovesPart, IsKept, Came, Gathers, IsAtEnd, ReadsLine}
 
 line-append : (front back : List ℕ) → IsLine front → IsLine back → IsLine (front ++ back)
 line-append front back first second =
@@ -39,55 +39,71 @@ kept-more limit line grown full part is ends grows = record {
   kept = grows ∙ ap (λ x. x ++ take (limit + 1 - length x) part) is.kept ∙ keeps-more (limit + 1) full part;
 }
 
-pub came-none : (taken : ℕ) (told : Told) → Came [] taken taken told told
-came-none taken told = record { takes = takes_none told; counted = omega arith }
+pub came-none : (taken : ℕ) (told : Option Told) → Came [] taken taken told told
+came-none taken told = record { takes = told_same told (Takes []) takes_none; counted = omega arith }
 
-pub came-more : (bytes more : List ℕ) (a b c : ℕ) (x y z : Told) → Came bytes a b x y → Takes more y z → c ≡ b + length more → Came (bytes ++ more) a c x z
+pub came-more : (bytes more : List ℕ) (a b c : ℕ) (x y z : Option Told) → Came bytes a b x y → IfTold y z (Takes more) → c ≡ b + length more → Came (bytes ++ more) a c x z
 came-more bytes more a b c x y z came takes counted = record {
-  takes = takes_then bytes more x y z came.takes takes;
+  takes = told_then x y z (Takes bytes) (Takes more) (Takes (bytes ++ more)) (takes_then bytes more) came.takes takes;
   counted = omega (arith, counted, came.counted, length-append bytes more);
 }
 
-module _ (limit : ℕ) (line held held_now : List ℕ) (taken taken_now : ℕ) (x y : Told) where
-  pub gathers-start : line ≡ [] → held_now ≡ held → taken_now ≡ taken → x ≡ y → Gathers limit line held held_now taken taken_now x y
-  gathers-start empty same count told = record {
-    bytes = [];
-    came = let P : Told → Type 0 = λ z. Came [] taken taken_now x z in subst P told (let Q : ℕ → Type 0 = λ n. Came [] taken n x x in subst Q (sym count) (came-none taken x));
-    full = [];
-    is_kept = record { is_line = refl; kept = empty ∙ sym (take_all (limit + 1) [] (omega arith)) };
-    parts = append-nil held ∙ sym same;
-  }
+pub came-same : (bytes : List ℕ) (a b c : ℕ) (x y z : Option Told) → Came bytes a b x y → c ≡ b → z ≡ y → Came bytes a c x z
+came-same bytes a b c x y z came count told =
+    let P : ℕ → Type 0 = λ n. Came bytes a n x z in
+    let Q : Option Told → Type 0 = λ t. Came bytes a b x t in
+    subst P (sym count) (subst Q (sym told) came)
 
-module _ (limit : ℕ) (line held held_now : List ℕ) (taken taken_now : ℕ) (x y : Told) (gathers : Gathers limit line held held_now taken taken_now x y)
-    (held_next grown : List ℕ) (taken_next : ℕ) (same : taken_next ≡ taken_now) where
-  counts : Came gathers.bytes taken taken_next x y
-  counts = let P : ℕ → Type 0 = λ n. Came gathers.bytes taken n x y in subst P (sym same) gathers.came
+pub gathers-start : (limit : ℕ) (line held : List ℕ) (taken : ℕ) (told : Option Told) → line ≡ [] → Gathers limit line held held taken taken told told
+gathers-start limit line held taken told empty = record {
+  bytes = [];
+  came = came-none taken told;
+  full = [];
+  is_kept = record { is_line = refl; kept = empty ∙ sym (take_all (limit + 1) [] (omega arith)) };
+  parts = append-nil held;
+}
 
+module _ (limit : ℕ) (line held held_now : List ℕ) (taken taken_now : ℕ) (x y : Option Told) (gathers : Gathers limit line held held_now taken taken_now x y) where
   -- an LF was found
-  pub reads-whole : MovesPart (limit + 1 - length line) true held_now held_next line grown → ReadsLine limit grown held held_next taken taken_next Whole x y
-  reads-whole moves = record {
-    bytes = gathers.bytes;
-    came = counts;
-    ends = (gathers.full ++ moves.part, kept-more limit line grown gathers.full moves.part gathers.is_kept moves.is_line moves.grows,
-      gathers.parts ∙ ap (λ h. gathers.full ++ h) moves.is_next ∙ sym (append_assoc gathers.full moves.part (10 ∷ held_next)));
-  }
+  pub reads-whole : (held_next grown : List ℕ) (taken_next : ℕ) → taken_next ≡ taken_now
+      → MovesPart (limit + 1 - length line) true held_now held_next line grown → ReadsLine limit grown held held_next taken taken_next x y Whole
+  reads-whole held_next grown taken_next count moves =
+      let kept = kept-more limit line grown gathers.full moves.part gathers.is_kept moves.is_line moves.grows in
+      record {
+        bytes = gathers.bytes;
+        came = came-same gathers.bytes taken taken_now taken_next x y y gathers.came count refl;
+        full = gathers.full ++ moves.part;
+        is_line = kept.is_line;
+        kept = λ _. kept.kept;
+        ends = gathers.parts ∙ ap (λ h. gathers.full ++ h) moves.is_next ∙ sym (append_assoc gathers.full moves.part (10 ∷ held_next));
+      }
 
   -- none was found, and all that was held was moved
-  pub gathers-part : MovesPart (limit + 1 - length line) false held_now held_next line grown → Gathers limit grown held held_next taken taken_next x y
-  gathers-part moves = record {
+  pub gathers-part : (held_next grown : List ℕ) (taken_next : ℕ) → taken_next ≡ taken_now
+      → MovesPart (limit + 1 - length line) false held_now held_next line grown → Gathers limit grown held held_next taken taken_next x y
+  gathers-part held_next grown taken_next count moves = record {
     bytes = gathers.bytes;
-    came = counts;
+    came = came-same gathers.bytes taken taken_now taken_next x y y gathers.came count refl;
     full = gathers.full ++ moves.part;
     is_kept = kept-more limit line grown gathers.full moves.part gathers.is_kept moves.is_line moves.grows;
     parts = gathers.parts ∙ ap (λ h. gathers.full ++ h) moves.is_next.0 ∙ sym (append-nil (gathers.full ++ moves.part)) ∙ ap (λ h. gathers.full ++ moves.part ++ h) (sym moves.is_next.1);
   }
 
-module _ (limit : ℕ) (line held held_now : List ℕ) (taken taken_now : ℕ) (x y : Told) (gathers : Gathers limit line held held_now taken taken_now x y)
-    (held_next : List ℕ) (taken_next : ℕ) where
+  -- memory ran out
+  pub reads-starved : (held_next grown : List ℕ) (taken_next : ℕ) (z : Option Told) → taken_next ≡ taken_now → z ≡ y → ReadsLine limit grown held held_next taken taken_next x z Memory
+  reads-starved held_next grown taken_next z count told = record {
+    bytes = gathers.bytes;
+    came = came-same gathers.bytes taken taken_now taken_next x y z gathers.came count told;
+    full = [];
+    is_line = refl;
+    kept = λ no. absurd (no refl);
+    ends = tt;
+  }
+
   -- nothing was held, and more came
-  pub gathers-more : (z : Told) → held_now ≡ [] → Takes held_next y z → taken_next ≡ taken_now + length held_next
+  pub gathers-more : (held_next : List ℕ) (taken_next : ℕ) (z : Option Told) → held_now ≡ [] → IfTold y z (Takes held_next) → taken_next ≡ taken_now + length held_next
       → Gathers limit line held held_next taken taken_next x z
-  gathers-more z none takes counted = record {
+  gathers-more held_next taken_next z none takes counted = record {
     bytes = gathers.bytes ++ held_next;
     came = came-more gathers.bytes held_next taken taken_now taken_next x y z gathers.came takes counted;
     full = gathers.full;
@@ -97,28 +113,38 @@ module _ (limit : ℕ) (line held held_now : List ℕ) (taken taken_now : ℕ) (
   }
 
   -- nothing was held, and the input is at its end
-  pub reads-last : (z : Told) → held_now ≡ [] → Takes [] y z × (z.left ≡ []) → held_next ≡ [] → taken_next ≡ taken_now
-      → ReadsLine limit line held held_next taken taken_next Last x z
-  reads-last z none end held_is count = record {
+  pub reads-last : (held_next : List ℕ) (taken_next : ℕ) (z : Option Told) → held_now ≡ [] → IfTold y z (Takes []) → IsAtEnd z → held_next ≡ [] → taken_next ≡ taken_now
+      → ReadsLine limit line held held_next taken taken_next x z Last
+  reads-last held_next taken_next z none takes end held_is count = record {
     bytes = gathers.bytes ++ [];
-    came = came-more gathers.bytes [] taken taken_now taken_next x y z gathers.came end.0 (count ∙ omega arith);
-    ends = (let P : List ℕ → Type 0 = λ f. IsKept limit line f in
-        subst P (sym (ap (λ h. held ++ h) (append-nil gathers.bytes) ∙ gathers.parts ∙ ap (λ h. gathers.full ++ h) none ∙ append-nil gathers.full)) gathers.is_kept,
-      held_is, end.1);
+    came = came-more gathers.bytes [] taken taken_now taken_next x y z gathers.came takes (count ∙ omega arith);
+    full = gathers.full;
+    is_line = gathers.is_kept.is_line;
+    kept = λ _. gathers.is_kept.kept;
+    ends = (ap (λ h. held ++ h) (append-nil gathers.bytes) ∙ gathers.parts ∙ ap (λ h. gathers.full ++ h) none ∙ append-nil gathers.full, held_is, end);
   }
 
   -- the line has no end yet
-  came-open : taken_next ≡ taken_now → Came gathers.bytes taken taken_next x y
-  came-open count = let P : ℕ → Type 0 = λ n. Came gathers.bytes taken n x y in subst P (sym count) gathers.came
+  pub reads-long : ReadsLine limit line held held_now taken taken_now x y Long
+  reads-long = record { bytes = gathers.bytes; came = gathers.came; full = gathers.full; is_line = gathers.is_kept.is_line; kept = λ _. gathers.is_kept.kept; ends = gathers.parts }
 
-  open-parts : held_next ≡ held_now → (full : List ℕ) × IsKept limit line full × (held ++ gathers.bytes ≡ full ++ held_next)
-  open-parts held_is = (gathers.full, gathers.is_kept, gathers.parts ∙ ap (λ h. gathers.full ++ h) (sym held_is))
+  module _ (held_next : List ℕ) (taken_next : ℕ) (z : Option Told) (held_is : held_next ≡ held_now) (count : taken_next ≡ taken_now) (told : z ≡ y) where
+    pub reads-full : ReadsLine limit line held held_next taken taken_next x z Full
+    reads-full = record {
+      bytes = gathers.bytes;
+      came = came-same gathers.bytes taken taken_now taken_next x y z gathers.came count told;
+      full = gathers.full;
+      is_line = gathers.is_kept.is_line;
+      kept = λ _. gathers.is_kept.kept;
+      ends = gathers.parts ∙ ap (λ h. gathers.full ++ h) (sym held_is);
+    }
 
-  pub reads-long : held_next ≡ held_now → taken_next ≡ taken_now → ReadsLine limit line held held_next taken taken_next Long x y
-  reads-long held_is count = record { bytes = gathers.bytes; came = came-open count; ends = open-parts held_is }
-
-  pub reads-full : held_next ≡ held_now → taken_next ≡ taken_now → ReadsLine limit line held held_next taken taken_next Full x y
-  reads-full held_is count = record { bytes = gathers.bytes; came = came-open count; ends = open-parts held_is }
-
-  pub reads-failed : held_next ≡ held_now → taken_next ≡ taken_now → ReadsLine limit line held held_next taken taken_next Failed x y
-  reads-failed held_is count = record { bytes = gathers.bytes; came = came-open count; ends = open-parts held_is }
+    pub reads-failed : ReadsLine limit line held held_next taken taken_next x z Failed
+    reads-failed = record {
+      bytes = gathers.bytes;
+      came = came-same gathers.bytes taken taken_now taken_next x y z gathers.came count told;
+      full = gathers.full;
+      is_line = gathers.is_kept.is_line;
+      kept = λ _. gathers.is_kept.kept;
+      ends = gathers.parts ∙ ap (λ h. gathers.full ++ h) (sym held_is);
+    }

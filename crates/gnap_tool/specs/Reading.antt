@@ -1,6 +1,6 @@
 -- How the lines of a source are read.
-use Rattle.std.specs.Prelude.{◌≡◌, ℕ, ◌+◌, Bool, true, false, List, [], ◌∷◌, ◌++◌, length, take, drop}
-use Rattle.gnap_io.specs.Outside.{Told, Takes, Rose}
+use Rattle.std.specs.Prelude.{◌≡◌, ◌≢◌, ℕ, ◌+◌, Bool, true, false, List, [], ◌∷◌, ◌++◌, length, take, drop, Option, Some, None}
+use Rattle.gnap_io.specs.Outside.{Told, IfTold, Takes, Rose}
 use Rattle.gnap_tool.specs.declared.line_reader.LineReader.{LineReader}
 use Rattle.gnap_tool.specs.declared.line_reader.LineEnd.{LineEnd}
 use Rattle.gnap_tool.specs.declared.line_reader.LineEnd.TheVariants.{Whole, Last, Failed, Memory}
@@ -27,31 +27,39 @@ pub record IsKept (limit : ℕ) (line full : List ℕ) : Type 0 where
   pub is_line : IsLine full
   pub kept : line ≡ take (limit + 1) full
 
--- the bytes that were taken of a source, and how many were taken before and after
-pub record Came (bytes : List ℕ) (taken taken_now : ℕ) (before after : Told) : Type 0 where
-  pub takes : Takes bytes before after
+-- these bytes were taken of a source, and counted
+pub record Came (bytes : List ℕ) (taken taken_now : ℕ) (before after : Option Told) : Type 0 where
+  pub takes : IfTold before after (Takes bytes)
   pub counted : taken_now ≡ taken + length bytes
 
 -- what was gathered of a line so far
-pub record Gathers (limit : ℕ) (line held held_now : List ℕ) (taken taken_now : ℕ) (before after : Told) : Type 0 where
+pub record Gathers (limit : ℕ) (line held held_now : List ℕ) (taken taken_now : ℕ) (before after : Option Told) : Type 0 where
   pub bytes : List ℕ
   pub came : Came bytes taken taken_now before after
   pub full : List ℕ
   pub is_kept : IsKept limit line full
   pub parts : held ++ bytes ≡ full ++ held_now
 
--- how the line ends: by an LF, by the end of the input, or not yet
-abbrev pub EndsBy : LineEnd → ℕ → List ℕ → List ℕ → List ℕ → List ℕ → Type 0
-EndsBy Whole limit line bytes held left = (full : List ℕ) × IsKept limit line full × (bytes ≡ full ++ 10 ∷ held)
-EndsBy Last limit line bytes held left = IsKept limit line bytes × (held ≡ []) × (left ≡ [])
-EndsBy Memory limit line bytes held left = Unit {0}
-EndsBy _ limit line bytes held left = (full : List ℕ) × IsKept limit line full × (bytes ≡ full ++ held)
+-- nothing is left, where it is told
+abbrev pub IsAtEnd : Option Told → Type 0
+IsAtEnd None = Unit {0}
+IsAtEnd (Some told) = told.left ≡ []
 
--- a line was read, out of what was held and what was taken
-pub record ReadsLine (limit : ℕ) (line held held_now : List ℕ) (taken taken_now : ℕ) (result : LineEnd) (before after : Told) : Type 0 where
+-- how the line ends: by an LF, by the end of the input, or not yet
+abbrev pub EndsBy : LineEnd → List ℕ → List ℕ → List ℕ → Option Told → Type 0
+EndsBy Whole bytes full held after = bytes ≡ full ++ 10 ∷ held
+EndsBy Last bytes full held after = (bytes ≡ full) × (held ≡ []) × IsAtEnd after
+EndsBy Memory bytes full held after = Unit {0}
+EndsBy _ bytes full held after = bytes ≡ full ++ held
+
+-- A line was read, out of what was held and what was taken. Of a line that passes the limit the rest isn't kept. Want of memory says nothing of it.
+pub record ReadsLine (limit : ℕ) (line held held_now : List ℕ) (taken taken_now : ℕ) (before after : Option Told) (result : LineEnd) : Type 0 where
   pub bytes : List ℕ
   pub came : Came bytes taken taken_now before after
-  pub ends : EndsBy result limit line (held ++ bytes) held_now after.left
+  pub full : List ℕ
+  pub is_line : IsLine full
+  pub kept : result ≢ Memory → line ≡ take (limit + 1) full
+  pub ends : EndsBy result (held ++ bytes) full held_now after
 
 -- the count of faults rose where a read failed, and stays elsewhere
 abbrev pub CountsFault : LineEnd → ℕ → ℕ → Type 0

@@ -141,8 +141,8 @@ impl LineReader {
     ) -> LineEnd
         requires limit { limit < 2147483648 }
         requires empty { line.old ≡ [] }
-        ensures read { IfTold (S.told source.old) (S.told source.new)
-            (ReadsLine limit line.new (held_by self.old) (held_by self.new) self.old.taken self.new.taken result) }
+        ensures read { ReadsLine limit line.new (held_by self.old) (held_by self.new) self.old.taken self.new.taken
+            (S.told source.old) (S.told source.new) result }
         ensures cause { CountsFault result (S.faults source.old) (S.faults source.new) }
         ensures full { result ≡ LineEnd.Full → self.new.taken ≡ 1073741824 }
         ensures long { result ≡ LineEnd.Long → (through ≡ false) × (limit < length line.new) }

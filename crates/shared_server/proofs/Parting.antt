@@ -1,6 +1,6 @@
 -- Cutting a seat in two, joining two, and what stands at the end.
-use Rattle.std.proofs.Common.{◌≡◌, ◌≢◌, ◌⊎◌, ℕ, zero, suc, ◌+◌, ◌-◌, ◌*◌, ◌<◌, ◌≤◌, Bool, true, false, List, [], ◌∷◌, ◌++◌, length, set, refl, sym, ap, subst, ◌∙◌, inl, inr, ⊎_elim, arith, true≢false, nat_lt, length-append}
-use Rattle.std.specs.Prelude.{Option, Some, None, if◌then◌else◌}
+use Rattle.std.proofs.Common.{◌≡◌, ◌≢◌, ◌⊎◌, ℕ, zero, suc, ◌+◌, ◌<◌, ◌≤◌, Bool, true, false, List, [], ◌∷◌, ◌++◌, length, set, refl, sym, ap, subst, ◌∙◌, inl, inr, ⊎_elim, arith, true≢false, nat_lt, length-append}
+use Rattle.std.specs.Prelude.{Option, Some, if◌then◌else◌}
 use Rattle.std.proofs.lemmas.Bool.Decides.{nat_tests}
 use Rattle.std.proofs.lemmas.List.{nil_from_length}
 use mathlib.Core.Option.{some, none, some-injective, some-ne-none}
@@ -10,7 +10,7 @@ use lib.ListN.{get_elem?}
 use Rattle.atomic_table.specs.Table.{State, Splits, Joins, Final, Seen, opening}
 use Rattle.atomic_table.proofs.Lists.{at_set, set_here, set_else, at_longer}
 use Rattle.shared_server.specs.declared.view.View.{View}
-use Rattle.shared_server.specs.Rule.{total, Unique, NoneOf, Goes, longer, opener, cut_left, cut_right, folded, spent_view, Waits, Counts, IsTurn, HasNoTurn, HasAll, Everywhere, Somewhere, Fits, Keeps, Placed, Kept}
+use Rattle.shared_server.specs.Rule.{Unique, NoneOf, Goes, longer, opener, cut_left, cut_right, folded, spent_view, Waits, HasTicket, Counts, IsTurn, HasNoTurn, HasAll, Everywhere, Somewhere, Fits, Keeps, Kept}
 use Rattle.shared_server.proofs.Sums.{at_length, each_set, some_set, total_set, total_snoc, total_two, unique_set, unique_same}
 use Rattle.shared_server.proofs.Steps.{placed_set}
 
@@ -82,7 +82,7 @@ module _ {E : Type 0} (number : E → ℕ) where
       go false lt = ⊎_elim (λ p. p) (λ (p : ys ≡ h). let q = ap (λ (l : List E). length l) p in let le : length ys ≤ length xs = grind (arith, nat_tests, lt) in whole xs m h a (omega arith)) one
 
 module _ {C R E : Type 0} (number : E → ℕ) (stands : C → List E → Type 0) (rules_of : C → R) (key : R) (count : ℕ) where
-  pub splits : (id : ℕ) (v : View R E) → v.keeps ≡ true → v.waits ≡ false → v.turn ≡ false → v.calls ≡ 0 → 1 < v.parts → v.made < v.number → length v.known ≡ 0
+  pub splits : (id : ℕ) (v : View R E) → v.keeps ≡ true → v.waits ≡ false → v.turn ≡ false → v.calls ≡ 0 → 1 < v.parts → v.made < v.number → v.known ≡ []
       → Splits (Kept number stands rules_of key count) id v (cut_left v) (cut_right v)
   splits id v keeps waits turn calls parts room fresh s k at =
       let l : List (View R E) = s.views in
@@ -103,6 +103,8 @@ module _ {C R E : Type 0} (number : E → ℕ) (stands : C → List E → Type 0
             (each_set (Fits number stands rules_of key k.history k.tickets) l id left k.each
             (record { rules = λ p. mine.rules counts; goes = λ p. mine.goes counts; turn = λ b. absurd (clash v.turn b turn); waits = λ b. absurd (clash v.waits b waits); calls = (omega arith) }))
             (record { rules = λ p. mine.rules counts; goes = λ p. (k.history, refl, kv.above v.made (omega arith) (λ q. let q' : v.made ≡ v.number = q in omega arith)); turn = λ b. absurd (true≢false (sym b)); waits = λ b. absurd (true≢false (sym b)); calls = (omega arith) });
+        served = k.served;
+        out = λ n lo lt. some_snoc (HasTicket n) (set l id left) right (some_set (HasTicket n) l id v left at (λ p. p) (k.out n lo lt));
         one_ticket = unique_snoc Waits (λ (z : View R E). z.ticket) (set l id left) right (unique_same Waits (λ (z : View R E). z.ticket) l id v left at k.one_ticket (λ c. c) refl) (λ b. absurd (true≢false (sym b)));
         one_number = unique_snoc Counts (λ (z : View R E). z.number) (set l id left) right (unique_same Counts (λ (z : View R E). z.number) l id v left at k.one_number (λ c. counts) refl) (λ c. apart);
         keeper = λ j u e b. ⊎_elim
@@ -121,7 +123,7 @@ module _ {C R E : Type 0} (number : E → ℕ) (stands : C → List E → Type 0
                   (at_end (set l id left) right w i e);
               known = kv.known;
               own = kv.own;
-              gone = λ i w z lt. absurd (let lt' : i < length v.known = lt in omega arith);
+              gone = λ i w z lt. absurd (let lt' : i < length v.known = lt in let none_yet = ap (λ (z : List (List E)). length z) fresh in omega (arith, none_yet));
             }))
             (λ (y : (j ≢ id) × (get_elem? l j ≡ some u)). absurd (y.0 ((k.keeper j u y.1 b).first ∙ sym kv.first)))
             (at_set l id j left u x))
@@ -160,6 +162,9 @@ module _ {C R E : Type 0} (number : E → ℕ) (stands : C → List E → Type 0
             (each_set (Fits number stands rules_of key h k.tickets) l id both k.each
             (record { rules = λ p. mine.rules counts; goes = λ p. longer_goes number v.number v.seen w.seen gw.0 h gv gw.1; turn = λ b. absurd (clash v.turn b turn); waits = λ b. absurd (clash v.waits b waits); calls = (let a = mine.calls in let b = its.calls in omega arith) }))
             (record { rules = λ p. absurd (omega arith); goes = λ p. absurd (omega arith); turn = λ b. absurd (true≢false (sym b)); waits = λ b. absurd (true≢false (sym b)); calls = (omega arith) });
+        served = k.served;
+        out = λ n lo lt. some_set (HasTicket n) l1 other w spent_view at' (λ p. absurd (clash w.waits p.0 waits'))
+            (some_set (HasTicket n) l id v both at (λ p. p) (k.out n lo lt));
         one_ticket = unique_set Waits (λ (z : View R E). z.ticket) l1 other w spent_view at' (unique_same Waits (λ (z : View R E). z.ticket) l id v both at k.one_ticket (λ c. c) refl) (λ b. absurd (true≢false (sym b)));
         one_number = unique_set Counts (λ (z : View R E). z.number) l1 other w spent_view at' (unique_same Counts (λ (z : View R E). z.number) l id v both at k.one_number (λ c. counts) refl) (λ c. absurd (let c' : 0 < 0 = c in omega arith));
         keeper = λ j u e b. ⊎_elim
@@ -256,6 +261,8 @@ module _ {C R E : Type 0} (number : E → ℕ) (stands : C → List E → Type 0
         tickets = 0;
         words = refl;
         each = λ j w e. subst (Fits number stands rules_of key [] 0) (only j w e).1 (record { rules = λ p. refl; goes = λ p. ([], refl, tt); turn = λ b. absurd (true≢false (sym b)); waits = λ b. absurd (true≢false (sym b)); calls = (omega arith) });
+        served = (omega arith);
+        out = λ n lo lt. absurd (let lt' : n < 0 = lt in omega arith);
         one_ticket = λ i j v w a b c d e. (only i v a).0 ∙ sym (only j w b).0;
         one_number = λ i j v w a b c d e. (only i v a).0 ∙ sym (only j w b).0;
         keeper = λ j w e b. subst (λ (z : View R E). Keeps number stands rules_of key [] (opener key count ∷ []) j z) (only j w e).1

@@ -1,18 +1,17 @@
 -- Each step of a call keeps the rule.
-use Rattle.std.proofs.Common.{◌≡◌, ◌≢◌, ◌⊎◌, ℕ, zero, suc, ◌+◌, ◌*◌, ◌%◌, ◌^◌, ◌<◌, ◌≤◌, Bool, true, false, List, [], ◌∷◌, ◌++◌, length, set, slice_index, slice_set, refl, sym, ap, subst, ◌∙◌, inl, inr, ⊎_elim, arith, le_trans, true≢false}
-use Rattle.std.specs.Prelude.{Option, Some, None, IfSome}
+use Rattle.std.proofs.Common.{◌≡◌, ◌≢◌, ℕ, ◌+◌, ◌*◌, ◌%◌, ◌^◌, ◌<◌, ◌≤◌, Bool, true, false, List, [], ◌∷◌, ◌++◌, length, set, slice_index, slice_set, refl, sym, ap, subst, ◌∙◌, inl, inr, ⊎_elim, arith, true≢false}
+use Rattle.std.specs.Prelude.{Option, Some, IfSome}
 use Rattle.std.proofs.lemmas.Bool.{false_from_ne_true}
-use Rattle.std.proofs.lemmas.List.{nil_from_length}
 use mathlib.Core.Option.{some, none, some-injective, some-ne-none}
 use mathlib.Core.Logic.{dite}
 use native.Mathlib.Decide.{ℕ_discrete}
 use lib.ListN.{get_elem?}
-use Rattle.atomic_table.specs.Table.{State, Me, Step, step, Act, keeps, takes, gives, Allows, stepped, put_back, rest}
-use Rattle.atomic_table.proofs.Lists.{at_set, set_here, set_else, set_again, at_index}
+use Rattle.atomic_table.specs.Table.{State, Me, step, keeps, takes, gives, Allows, put_back, rest}
+use Rattle.atomic_table.proofs.Lists.{at_set, set_here, set_again}
 use Rattle.shared_server.specs.declared.view.View.{View}
-use Rattle.shared_server.specs.Rule.{total, Unique, NoneOf, Goes, drawn, turned_to, on, Waits, Counts, drew, handed, HasTurn, looked, IsTurn, HasNoTurn, HasAll, Everywhere, Somewhere, Fits, Keeps, Placed, Kept}
+use Rattle.shared_server.specs.Rule.{total, Unique, Goes, drawn, turned_to, on, Waits, HasTicket, Counts, drew, handed, looked, IsTurn, HasNoTurn, HasAll, Everywhere, Somewhere, Fits, Keeps, Placed, Kept}
 use Rattle.shared_server.specs.Seats.{CanDraw, CanLook, CanHand}
-use Rattle.shared_server.proofs.Sums.{at_length, each_set, some_set, total_set, total_at, total_bound, unique_set, unique_same, none_snoc, goes_on, goes_whole, length_snoc}
+use Rattle.shared_server.proofs.Sums.{at_length, each_set, some_set, total_set, total_bound, unique_set, unique_same, none_snoc, goes_on, goes_whole, length_snoc}
 
 module _ {C R E : Type 0} (number : E → ℕ) (stands : C → List E → Type 0) (rules_of : C → R) (key : R) (count : ℕ) where
   -- all tickets are fewer than the words can count
@@ -22,7 +21,7 @@ module _ {C R E : Type 0} (number : E → ℕ) (stands : C → List E → Type 0
       let p = k.parts in let c = k.calls in let f = k.count_fits in omega arith
 
   pub fits_more : (h : List E) (t u : ℕ) (v : View R E) → t ≤ u → Fits number stands rules_of key h t v → Fits number stands rules_of key h u v
-  fits_more h t u v le f = record { rules = f.rules; goes = f.goes; turn = f.turn; waits = λ w. ((f.waits w).0, (let x = (f.waits w).1 in omega arith)); calls = f.calls }
+  fits_more h t u v le f = record { rules = f.rules; goes = f.goes; turn = f.turn; waits = λ w. ((f.waits w).0, (f.waits w).1, (let x = (f.waits w).2 in omega arith)); calls = f.calls }
 
   -- the keeper knows as much where a view keeps its number
   pub keeps_same : (h : List E) (l : List (View R E)) (id : ℕ) (v w : View R E) → get_elem? l id ≡ some v → (0 < w.parts → 0 < v.parts) → w.number ≡ v.number
@@ -106,11 +105,15 @@ module _ {C R E : Type 0} (number : E → ℕ) (stands : C → List E → Type 0
                 rules = mine.rules;
                 goes = mine.goes;
                 turn = λ b. absurd (both v.turn b can.1);
-                waits = λ b. (can.2, (omega arith));
+                waits = λ b. (can.2, (let q = k.served in omega arith), (omega arith));
                 calls = can.3;
               });
+          served = (let q = k.served in omega arith);
+          out = λ n lo lt. dite (ℕ_discrete n t)
+              (λ (e : n ≡ t). (id, w, set_here s.views id w (at_length s.views id v at), (refl, found ∙ sym e)))
+              (λ (ne : n ≢ t). some_set (HasTicket n) s.views id v w at (λ p. absurd (both v.waits p.0 can.0)) (k.out n lo (omega (arith, ne))));
           one_ticket = unique_set Waits (λ (z : View R E). z.ticket) s.views id v w at k.one_ticket
-              (λ cw j u ne e cu q. let b = ((k.each j u e).waits cu).1 in let b' : u.ticket < t = b in let q' : slice_index s.words 0 ≡ u.ticket = q in omega arith);
+              (λ cw j u ne e cu q. let b = ((k.each j u e).waits cu).2 in let b' : u.ticket < t = b in let q' : slice_index s.words 0 ≡ u.ticket = q in omega arith);
           one_number = unique_same Counts (λ (z : View R E). z.number) s.views id v w at k.one_number (λ c. c) refl;
           keeper = keeper_set k.history s.views id v w at (λ c. c) (refl, refl, refl, refl, refl) k.keeper;
           placed = placed_set k.history s.homes s.views id v w at refl k.placed;
@@ -163,6 +166,8 @@ module _ {C R E : Type 0} (number : E → ℕ) (stands : C → List E → Type 0
                 waits = mine.waits;
                 calls = mine.calls;
               });
+          served = k.served;
+          out = λ n lo lt. some_set (HasTicket n) s.views id v w at (λ p. p) (k.out n lo lt);
           one_ticket = unique_same Waits (λ (z : View R E). z.ticket) s.views id v w at k.one_ticket (λ c. c) refl;
           one_number = unique_same Counts (λ (z : View R E). z.number) s.views id v w at k.one_number (λ c. c) refl;
           keeper = keeper_set k.history s.views id v w at (λ c. c) (refl, refl, refl, refl, refl) k.keeper;
@@ -181,7 +186,7 @@ module _ {C R E : Type 0} (number : E → ℕ) (stands : C → List E → Type 0
             stood = home.2;
             goes = mine.goes counts;
             rules = mine.rules counts ∙ ap (λ (z : R). Some z) (sym home.3);
-            short = (let f = few s k in let t = (mine.waits can.0).1 in let g : v.ticket ≡ length k.history = sym hit ∙ found in omega arith);
+            short = (let f = few s k in let t = (mine.waits can.0).2 in let g : v.ticket ≡ length k.history = sym hit ∙ found in omega arith);
           }),
           (λ ne. absurd (ne hit)),
         ),
@@ -197,6 +202,8 @@ module _ {C R E : Type 0} (number : E → ℕ) (stands : C → List E → Type 0
           tickets = k.tickets;
           words = ap (λ l. slice_set l 1 (slice_index l 1)) k.words;
           each = subst (Everywhere (Fits number stands rules_of key k.history k.tickets)) (sym keep) k.each;
+          served = k.served;
+          out = λ n lo lt. subst (Somewhere (HasTicket n)) (sym keep) (k.out n lo lt);
           one_ticket = subst (Unique Waits (λ (z : View R E). z.ticket)) (sym keep) k.one_ticket;
           one_number = subst (Unique Counts (λ (z : View R E). z.number)) (sym keep) k.one_number;
           keeper = subst (Keepers k.history) (sym keep) k.keeper;
@@ -210,12 +217,12 @@ module _ {C R E : Type 0} (number : E → ℕ) (stands : C → List E → Type 0
       ))
 
   -- another's entry
-  fits_on : (h : List E) (t : ℕ) (e : E) (v : View R E) → (0 < v.parts → number e ≢ v.number) → v.turn ≡ false → Fits number stands rules_of key h t v → Fits number stands rules_of key (h ++ e ∷ []) t v
-  fits_on h t e v other none_yet f = record {
+  fits_on : (h : List E) (t : ℕ) (e : E) (v : View R E) → (0 < v.parts → number e ≢ v.number) → v.turn ≡ false → (v.waits ≡ true → length h ≢ v.ticket) → Fits number stands rules_of key h t v → Fits number stands rules_of key (h ++ e ∷ []) t v
+  fits_on h t e v other none_yet later f = record {
     rules = f.rules;
     goes = λ p. goes_on number v.number v.seen h e (f.goes p) (other p);
     turn = λ b. absurd (both v.turn b none_yet);
-    waits = f.waits;
+    waits = λ w. ((f.waits w).0, (let a = (f.waits w).1 in let b = later w in let l = length_snoc number h e in omega (arith, b)), (f.waits w).2);
     calls = f.calls;
   }
 
@@ -259,10 +266,10 @@ module _ {C R E : Type 0} (number : E → ℕ) (stands : C → List E → Type 0
       let counts : 0 < v.parts = (mine.waits turn.0).0 in
       let w : View R E = on v e in
       let f = few s k in
-      let room : length h < 288230376151711744 = (let t = (mine.waits turn.0).1 in let q : v.ticket ≡ length h = turn.1 in omega arith) in
+      let room : length h < 288230376151711744 = (let t = (mine.waits turn.0).2 in let q : v.ticket ≡ length h = turn.1 in omega arith) in
       let longer_by : length h' ≡ length h + 1 = length_snoc number h e in
       let whole : v.seen ++ e ∷ [] ≡ h' = ap (λ (l : List E). l ++ e ∷ []) turn.2 in
-      let own_empty : (j : ℕ) (u : View R E) → j ≡ id → get_elem? s.views j ≡ some u → u.own ≡ [] = (λ j u q a. ap (λ (z : View R E). z.own) (sym (some-injective v u (sym at ∙ (ap (λ (i : ℕ). get_elem? s.views i) (sym q) ∙ a)))) ∙ nil_from_length v.own can.alone) in
+      let own_empty : (j : ℕ) (u : View R E) → j ≡ id → get_elem? s.views j ≡ some u → u.own ≡ [] = (λ j u q a. ap (λ (z : View R E). z.own) (sym (some-injective v u (sym at ∙ (ap (λ (i : ℕ). get_elem? s.views i) (sym q) ∙ a)))) ∙ can.alone) in
       let others : (j : ℕ) (u : View R E) → j ≢ id → get_elem? s.views j ≡ some u → u.turn ≡ false = (λ j u ne a. false_from_ne_true u.turn (λ b. let g = (k.each j u a).turn b in ne (sym (k.one_ticket id j v u at a turn.0 g.0 (turn.1 ∙ sym g.1))))) in
       let out : s.homes ≡ none ∷ [] = ⊎_elim
       (λ (x : (c : C) × (s.homes ≡ some (Some c) ∷ []) × stands c h × (rules_of c ≡ key) × Everywhere HasNoTurn s.views). absurd (both v.turn can.turn (x.4 id v at)))
@@ -283,8 +290,13 @@ module _ {C R E : Type 0} (number : E → ℕ) (stands : C → List E → Type 0
                 calls = mine.calls;
               }))
               (λ (x : (j ≢ id) × (get_elem? s.views j ≡ some u)). fits_on h k.tickets e u
-              (λ p q. x.0 (sym (k.one_number id j v u at x.1 counts p (sym can.number_is ∙ q)))) (others j u x.0 x.1) (k.each j u x.1))
+              (λ p q. x.0 (sym (k.one_number id j v u at x.1 counts p (sym can.number_is ∙ q)))) (others j u x.0 x.1)
+              (λ b q. x.0 (sym (k.one_ticket id j v u at x.1 turn.0 b (turn.1 ∙ q)))) (k.each j u x.1))
               (at_set s.views id j w u a);
+          served = (let t = (mine.waits turn.0).2 in let q : v.ticket ≡ length h = turn.1 in omega (arith, longer_by));
+          out = λ n lo lt. some_set (HasTicket n) s.views id v w at
+              (λ p. absurd (let q : v.ticket ≡ length h = turn.1 in let r : v.ticket ≡ n = p.1 in let lo' : length h' ≤ n = lo in omega (arith, longer_by)))
+              (k.out n (let lo' : length h' ≤ n = lo in omega (arith, longer_by)) lt);
           one_ticket = unique_same Waits (λ (z : View R E). z.ticket) s.views id v w at k.one_ticket (λ b. turn.0) refl;
           one_number = unique_same Counts (λ (z : View R E). z.number) s.views id v w at k.one_number (λ c. c) refl;
           keeper = keeper_set h' s.views id v w at (λ c. c) (refl, refl, refl, refl, refl) (λ j u a b. keeps_on h s.views id v e at counts can.number_is j u (λ q. own_empty j u q a) (k.keeper j u a b) a);

@@ -1,6 +1,6 @@
 -- The rule of the shared core, and what each step on it tells.
 -- Word 0 is the next ticket, word 1 the ticket that has its turn, which is the length of the history. The one slot has the core.
-use Rattle.std.specs.Prelude.{◌≡◌, ◌≢◌, ◌⊎◌, ℕ, ◌+◌, ◌-◌, ◌*◌, ◌^◌, ◌<◌, ◌≤◌, Bool, true, false, List, [], ◌∷◌, ◌++◌, length, nat_lt, Option, Some, None, if◌then◌else◌, IfSome}
+use Rattle.std.specs.Prelude.{◌≡◌, ◌≢◌, ◌⊎◌, ℕ, ◌+◌, ◌-◌, ◌*◌, ◌<◌, ◌≤◌, true, false, List, [], ◌∷◌, ◌++◌, length, nat_lt, Option, Some, None, if◌then◌else◌, IfSome}
 use mathlib.Core.Option.{none, some}
 use mathlib.Core.Option as maybe
 use lib.ListN.{get_elem?}
@@ -69,6 +69,9 @@ module _ {R E : Type 0} where
   abbrev pub Waits : View R E → Type 0
   Waits v = v.waits ≡ true
 
+  abbrev pub HasTicket : ℕ → View R E → Type 0
+  HasTicket n v = (v.waits ≡ true) × (v.ticket ≡ n)
+
   abbrev pub Counts : View R E → Type 0
   Counts v = 0 < v.parts
 
@@ -110,7 +113,7 @@ module _ {C R E : Type 0} (number : E → ℕ) (stands : C → List E → Type 0
       pub rules : 0 < v.parts → v.rules ≡ Some key
       pub goes : 0 < v.parts → Goes number v.number v.seen h
       pub turn : v.turn ≡ true → (v.waits ≡ true) × (v.ticket ≡ length h) × (v.seen ≡ h)
-      pub waits : v.waits ≡ true → (0 < v.parts) × (v.ticket < tickets)
+      pub waits : v.waits ≡ true → (0 < v.parts) × (length h ≤ v.ticket) × (v.ticket < tickets)
       pub calls : v.calls ≤ 4503599627370496 * v.parts
 
     pub record Keeps (h : List E) (views : List (View R E)) (id : ℕ) (v : View R E) : Type 0 where
@@ -133,6 +136,8 @@ module _ {C R E : Type 0} (number : E → ℕ) (stands : C → List E → Type 0
       pub tickets : ℕ
       pub words : s.words ≡ tickets ∷ length history ∷ []
       pub each : Everywhere (Fits history tickets) s.views
+      pub served : length history ≤ tickets
+      pub out : (n : ℕ) → length history ≤ n → n < tickets → Somewhere (HasTicket n) s.views
       pub one_ticket : Unique Waits (λ v. v.ticket) s.views
       pub one_number : Unique Counts (λ v. v.number) s.views
       pub keeper : (j : ℕ) (w : View R E) → get_elem? s.views j ≡ some w → w.keeps ≡ true → Keeps history s.views j w

@@ -1,0 +1,9 @@
+use Rattle.std.proofs.Common.{◌≡◌, take, map}
+use Rattle.std.specs.List.{AllByRecursion}
+use Rattle.serde_json.specs.View.{view}
+use Rattle.gnap_history.specs.Fits.{TokenFits}
+use Rattle.gnap_tool.specs.Replies.{token_data}
+use Rattle.gnap_tool.proofs.replies.each_token.Given as goal
+
+abbrev pub invariant-loop-token : goal.invariant-loop-token
+invariant-loop-token l = map view l.items.items ≡ map (token_data l.base) (take l.token-index l.tokens)

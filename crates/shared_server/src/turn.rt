@@ -1,0 +1,112 @@
+//! The steps of a call: a ticket, the wait for the turn, the core's step, and the hand-on.
+ghost use Rattle.std.specs.Prelude.{◌≡◌, ◌≢◌, ℕ, ◌+◌, ◌*◌, ◌<◌, ◌≤◌, ◌^◌, true, false, List, [], ◌∷◌, ◌++◌, length, Some, IfOk, OnErr, IsOk};
+ghost use Rattle.histories.specs.History.{last_moment};
+ghost use Rattle.shared_server.specs.Rule.{number_of, drawn, on, HasTurn};
+ghost use Rattle.shared_server.specs.Seats.{IsTable, IsSame, CanDraw, CanLook, CanHand, Added, AddedReply};
+
+use crate::rule::{Draw, EntryOf, Hand, Look, SeatOf, Told, Top};
+use gnap_io::memory::Mem;
+use histories::machine::{Core, Machine};
+use std::hint::spin_loop;
+use std::marker::Brand;
+use std::sync::Wait;
+
+/// How often who is next looks before it sleeps.
+const LOOKS: u32 = 100;
+
+// Draws a ticket.
+fn take_ticket<C: Core>(top: &Top<C>, seat: &mut SeatOf<C>) -> u64
+    requires table { IsTable top.now.table_id seat.old.table_id }
+    requires may { CanDraw seat.old.me }
+    ensures seat { IsSame seat.old seat.new }
+    ensures drawn { seat.new.me ≡ (drawn seat.old.me.0 result, seat.old.me.1) }
+{
+    top.fetch_add::<Draw>(seat, 0, 1)
+}
+
+// Waits until the ticket is served, and takes the slot with the core.
+fn wait_for_turn<C: Core, R: Wait>(rt: &R, top: &Top<C>, seat: &mut SeatOf<C>, ticket: u64)
+    requires table { IsTable top.now.table_id seat.old.table_id }
+    requires may { CanLook seat.old.me × (ticket ≡ seat.old.me.0.ticket) }
+    ensures seat { IsSame seat.old seat.new }
+    ensures turn { HasTurn number_of C.stands C.rules seat.old.me seat.new.me }
+{
+    let mut looks = 0;
+    for _ in rt.forever() {
+        let serving = top.load::<Look<C>>(seat, 1);
+        if serving == ticket {
+            return;
+        }
+        if looks < LOOKS && serving.wrapping_add(1) == ticket {
+            looks += 1;
+            spin_loop();
+        } else {
+            sleep(rt, top, serving);
+        }
+    }
+    unreachable!()
+}
+
+// Sleeps until another ticket is served, or for no reason. At most 64 tickets are out, so 32 bits tell that one of them was served.
+fn sleep<C: Core, R: Wait>(rt: &R, top: &Top<C>, serving: u64)
+    requires { 1 < top.now.table_id.words }
+{
+    top.park(rt, 1, (serving % (1 << 32)) as u32);
+}
+
+// Wakes those who sleep, where a ticket after this one was drawn. Who draws one later finds it served.
+fn wake_next<C: Core>(top: &Top<C>, ticket: u64)
+    requires { 1 < top.now.table_id.words }
+{
+    if top.peek(0) != ticket.wrapping_add(1) {
+        top.wake_all(1);
+    }
+}
+
+// Gives the slot back and serves the next ticket. The arguments behind `seat` say which entry the history gets. They are for the proof alone.
+fn hand_on<C: Core, W: Told<EntryOf<C>>>(
+    top: &Top<C>,
+    seat: &mut SeatOf<C>,
+    _moment: u64,
+    _draw: &[u64; 48],
+    _call: &<C::M as Machine>::Call,
+    _reply: &Result<<C::M as Machine>::Reply, Mem>,
+)
+    requires table { IsTable top.now.table_id seat.old.table_id }
+    requires may { CanHand number_of C.stands C.rules (C.rules top.now.key.core.value) W.entry seat.old.me }
+    ensures seat { IsSame seat.old seat.new }
+    ensures on { (e : _) → W.entry ≡ Some e → seat.new.me ≡ (on seat.old.me.0 e, []) }
+{
+    top.fetch_add::<Hand<W>>(seat, 1, 1);
+}
+
+/// Makes one call in its turn: between taking the core out of the slot and putting it back there is the core's step, and nothing else.
+pub(crate) fn call_once<C: Core, R: Wait>(
+    rt: &R,
+    top: &Top<C>,
+    seat: &mut SeatOf<C>,
+    moment: u64,
+    draw: &[u64; 48],
+    call: &<C::M as Machine>::Call,
+) -> Result<<C::M as Machine>::Reply, Mem>
+    requires table { IsTable top.now.table_id seat.old.table_id }
+    requires may { CanDraw seat.old.me × (seat.old.me.1 ≡ []) × (seat.old.me.0.own ≡ []) × (seat.old.me.0.rules ≡ Some (C.rules top.now.key.core.value)) }
+    requires fits { C.M.law.fits call.now }
+    requires no_lapse { call.now ≢ C.M.law.lapse }
+    requires in_time { moment ≤ last_moment }
+    ensures seat { IsSame seat.old seat.new }
+    ensures ok { IfOk result (λ reply. AddedReply C.M.law (C.rules top.now.key.core.value) moment draw.now call.now reply seat.old.me seat.new.me) }
+    ensures err { OnErr result (Added C.M.law (C.rules top.now.key.core.value) moment draw.now C.M.law.lapse seat.old.me seat.new.me) }
+    ensures frugal { C.frugal call.now → IsOk result }
+{
+    let ticket = take_ticket(top, seat);
+    wait_for_turn(rt, top, seat, ticket);
+    let held = top.exchange(seat, 0, None);
+    let Some(mut core) = held else { unreachable!() };
+    let reply = core.step(moment, draw, call);
+    let left = top.exchange(seat, 0, Some(core));
+    let None = left else { unreachable!() };
+    hand_on::<C, Brand>(top, seat, moment, draw, call, &reply);
+    wake_next(top, ticket);
+    reply
+}
