@@ -1,3 +1,5 @@
+ghost use Rattle.gnap_objects.specs.Fits.{ReplyFits};
+
 use crate::{
     BodyFault, ErrorCode, ObjectFault, error_text, read_body, read_grant, read_introspect,
     reply_body, reply_status,
@@ -222,7 +224,9 @@ fn the_codes_have_texts(rt: HostRuntime) {
     assert!(rt; error_text(ErrorCode::KeyRotationNotSupported) == "key_rotation_not_supported");
 }
 
-fn shown(alloc: Global, reply: &Reply) -> Option<Bytes> {
+fn shown(alloc: Global, reply: &Reply) -> Option<Bytes>
+    requires { ReplyFits reply.now }
+{
     let base = Bytes::from_slice(alloc, "https://as.example".as_bytes()).ok()?;
     reply_body(alloc, &base, reply).ok()?
 }
