@@ -2,5 +2,3 @@ pub mod Asks
 pub mod Bodies
 pub mod Given
 pub mod Items
-pub mod Whole
-pub mod Examples

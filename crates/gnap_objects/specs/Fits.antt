@@ -8,9 +8,6 @@ use Rattle.gnap_model.specs.declared.objects.GrantRequest.{GrantRequest}
 use Rattle.gnap_model.specs.declared.objects.KeyRow.{KeyRow}
 use Rattle.gnap_model.specs.declared.objects.Setup.{Setup}
 use Rattle.gnap_model.specs.declared.objects.IntrospectRequest.{IntrospectRequest}
-use Rattle.gnap_model.specs.declared.calls.TokenOut.{TokenOut}
-use Rattle.gnap_model.specs.declared.calls.Reply.{Reply}
-use Rattle.gnap_model.specs.declared.calls.Reply.TheVariants.{Granted, Active, Inactive, Error, Lapsed}
 use Rattle.access_rights.specs.Fits.{Fits, IsUtf8Or}
 
 -- one access token that is asked for
@@ -24,19 +21,6 @@ RequestFits request = AllByRecursion AskFits request.asks × IsUtf8Or request.cl
 abbrev pub WantedFit : Option (List Right) → Type 0
 WantedFit None = Unit {0}
 WantedFit (Some rights) = AllByRecursion Fits rights
-
--- a token as it is handed out
-abbrev pub TokenFits : TokenOut → Type 0
-TokenFits t = IsUtf8 t.value × IsUtf8 t.manage × IsUtf8Or t.label × AllByRecursion Fits t.rights
-
--- A reply to a grant request or to an introspection, or a lapse's; no other has a body yet.
-abbrev pub ReplyFits : Reply → Type 0
-ReplyFits (Granted door tokens single subject instance) = IsUtf8 door × AllByRecursion TokenFits tokens × IsUtf8Or subject × IsUtf8Or instance
-ReplyFits (Active access iat exp instance bearer) = AllByRecursion Fits access × IsUtf8 instance
-ReplyFits Inactive = Unit {0}
-ReplyFits (Error code) = Unit {0}
-ReplyFits Lapsed = Unit {0}
-ReplyFits _ = ⊥
 
 -- the texts of an introspection
 abbrev pub IntrospectionFits : IntrospectRequest → Type 0

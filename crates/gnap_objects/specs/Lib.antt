@@ -8,4 +8,3 @@ pub mod Reading
 pub mod Grants
 pub mod Introspections
 pub mod Setups
-pub mod Replies

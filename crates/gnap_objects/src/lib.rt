@@ -1,4 +1,4 @@
-//! The JSON objects of GNAP (RFC 9635, RFC 9767): requests and setups, read from bytes, and the bodies of replies.
+//! The JSON objects of GNAP (RFC 9635, RFC 9767): requests and setups, read from bytes.
 //!
 //! Each reader answers exactly what its definition in `specs/` gives for the JSON value, or that memory ran out: the object, or the first fault in the
 //! order of its members, with the name of the member in which it stands. What a reader gives can be shown again: its texts are UTF-8.
@@ -12,7 +12,6 @@ pub mod grants;
 pub mod introspections;
 pub mod keys;
 mod members;
-pub mod replies;
 pub mod setups;
 
 pub use body::{BodyFault, read_body};
@@ -25,7 +24,6 @@ pub use gnap_model::objects::{
 pub use grants::read_grant;
 pub use introspections::read_introspect;
 pub use keys::find_key;
-pub use replies::{reply_body, reply_status};
 pub use setups::{SetupFault, read_setup};
 
 #[cfg(test)]

@@ -1,11 +1,6 @@
-ghost use Rattle.gnap_objects.specs.Fits.{ReplyFits};
-
 use crate::{
     BodyFault, ErrorCode, ObjectFault, error_text, read_body, read_grant, read_introspect,
-    reply_body, reply_status,
 };
-use gnap_io::bytes::Bytes;
-use gnap_model::calls::Reply;
 use std::alloc::{AllocError, Global};
 use std::test::Fail;
 
@@ -222,26 +217,4 @@ fn an_introspection_names_its_first_fault(rt: HostRuntime) -> Result<(), Fail> {
 fn the_codes_have_texts(rt: HostRuntime) {
     assert!(rt; error_text(ErrorCode::InvalidClient) == "invalid_client");
     assert!(rt; error_text(ErrorCode::KeyRotationNotSupported) == "key_rotation_not_supported");
-}
-
-fn shown(alloc: Global, reply: &Reply) -> Option<Bytes>
-    requires { ReplyFits reply.now }
-{
-    let base = Bytes::from_slice(alloc, "https://as.example".as_bytes()).ok()?;
-    reply_body(alloc, &base, reply).ok()?
-}
-
-#[test]
-fn replies_have_bodies_and_statuses(rt: HostRuntime) -> Result<(), Fail> {
-    let refused = Reply::Error {
-        code: ErrorCode::InvalidClient,
-    };
-    let body = shown(rt.alloc(), &refused).ok_or("a body")?;
-    assert!(rt; body.as_slice() == b"{\"error\":{\"code\":\"invalid_client\"}}".as_slice());
-    assert_eq!(rt; reply_status(&refused), 401);
-    let body = shown(rt.alloc(), &Reply::Inactive).ok_or("a body")?;
-    assert!(rt; body.as_slice() == b"{\"active\":false}".as_slice());
-    assert_eq!(rt; reply_status(&Reply::Inactive), 200);
-    assert!(rt; shown(rt.alloc(), &Reply::Lapsed).is_none());
-    Ok(())
 }
