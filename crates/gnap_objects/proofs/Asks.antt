@@ -13,4 +13,4 @@ joined (x ∷ xs) ys p q = (p.0, joined xs ys p.1 q)
 
 pub asks_fit : (asks : List Ask) → AllByRecursion AskFits asks → AllByRecursion Fits (asked_rights asks)
 asks_fit [] h = tt
-asks_fit (a ∷ rest) h = joined a.rights (asked_rights rest) h.0.rights (asks_fit rest h.1)
+asks_fit (a ∷ rest) h = joined a.rights (asked_rights rest) h.0.1 (asks_fit rest h.1)

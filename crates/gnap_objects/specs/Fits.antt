@@ -4,43 +4,27 @@ use Rattle.std.specs.List.{AllByRecursion}
 use Rattle.std.specs.Str.{IsUtf8}
 use Rattle.gnap_model.specs.declared.rights.Right.{Right}
 use Rattle.gnap_model.specs.declared.objects.Ask.{Ask}
-use Rattle.gnap_model.specs.declared.objects.Finish.{Finish}
-use Rattle.gnap_model.specs.declared.objects.Modes.{Modes}
 use Rattle.gnap_model.specs.declared.objects.GrantRequest.{GrantRequest}
 use Rattle.gnap_model.specs.declared.objects.KeyRow.{KeyRow}
 use Rattle.gnap_model.specs.declared.objects.Setup.{Setup}
 use Rattle.gnap_model.specs.declared.objects.IntrospectRequest.{IntrospectRequest}
 use Rattle.access_rights.specs.Fits.{Fits, IsUtf8Or}
 
-pub record AskFits (a : Ask) : Type 0 where
-  pub label : IsUtf8Or a.label
-  pub rights : AllByRecursion Fits a.rights
+-- one access token that is asked for
+abbrev pub AskFits : Ask → Type 0
+AskFits ask = IsUtf8Or ask.label × AllByRecursion Fits ask.rights
 
-abbrev pub FinishFits : Option Finish → Type 0
-FinishFits None = Unit {0}
-FinishFits (Some f) = IsUtf8 f.uri × IsUtf8 f.nonce
-
-abbrev pub ModesFit : Option Modes → Type 0
-ModesFit None = Unit {0}
-ModesFit (Some m) = FinishFits m.finish
-
--- a grant request asks for at most 8 tokens, and its texts are UTF-8
-pub record RequestFits (r : GrantRequest) : Type 0 where
-  pub few : length r.asks ≤ 8
-  pub asks : AllByRecursion AskFits r.asks
-  pub client : IsUtf8Or r.client
-  pub user : IsUtf8Or r.user
-  pub modes : ModesFit r.modes
+-- the texts of a grant request that names no way to interact
+abbrev pub RequestFits : GrantRequest → Type 0
+RequestFits request = AllByRecursion AskFits request.asks × IsUtf8Or request.client × IsUtf8Or request.user
 
 abbrev pub WantedFit : Option (List Right) → Type 0
 WantedFit None = Unit {0}
-WantedFit (Some rs) = AllByRecursion Fits rs
+WantedFit (Some rights) = AllByRecursion Fits rights
 
--- the texts of an introspection are UTF-8
-pub record IntrospectionFits (r : IntrospectRequest) : Type 0 where
-  pub value : IsUtf8 r.value
-  pub server : IsUtf8 r.server
-  pub wanted : WantedFit r.wanted
+-- the texts of an introspection
+abbrev pub IntrospectionFits : IntrospectRequest → Type 0
+IntrospectionFits request = IsUtf8 request.value × IsUtf8 request.server × WantedFit request.wanted
 
 pub record KeyFits (k : KeyRow) : Type 0 where
   pub id : IsUtf8 k.id

@@ -130,6 +130,8 @@ pub fn read_grant(alloc: Global, value: &Value, modify: bool) -> Result<GrantReq
     requires { IsBody (view value.now) }
     ensures value { Gives (λ r. r) result (request_of modify (view value.now)) }
     ensures fits { IfOk result RequestFits }
+    ensures few { IfOk result (λ r. length r.asks ≤ 8) }
+    ensures plain { IfOk result (λ r. r.modes ≡ None) }
 {
     let asks = asked_of(alloc, value)?;
     if has(value, "subject") {

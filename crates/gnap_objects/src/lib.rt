@@ -25,3 +25,8 @@ pub use grants::read_grant;
 pub use introspections::read_introspect;
 pub use keys::find_key;
 pub use setups::{SetupFault, read_setup};
+
+#[cfg(test)]
+mod setup_tests;
+#[cfg(test)]
+mod tests;
