@@ -5,9 +5,8 @@ use Rattle.std.specs.Str.{IsUtf8}
 use Rattle.std.specs.declared.option.Option.{Option}
 use Rattle.std.specs.declared.option.Option.TheVariants.{None, Some}
 use Rattle.access_rights.specs.Fits.{Fits, IsUtf8Or}
+pub use Rattle.gnap_objects.specs.Fits.{AskFits, RequestFits}
 use Rattle.gnap_model.specs.declared.rights.Right.{Right}
-use Rattle.gnap_model.specs.declared.objects.Ask.{Ask}
-use Rattle.gnap_model.specs.declared.objects.GrantRequest.{GrantRequest}
 use Rattle.gnap_model.specs.declared.calls.Call.{Call}
 use Rattle.gnap_model.specs.declared.calls.Call.TheVariants.{Begin, Introspect}
 use Rattle.gnap_model.specs.declared.calls.TokenOut.{TokenOut}
@@ -20,14 +19,6 @@ RightsFit rights = AllByRecursion Fits rights
 abbrev pub RightsFitOr : Option (List Right) → Type 0
 RightsFitOr None = Unit {0}
 RightsFitOr (Some rights) = RightsFit rights
-
--- one access token that is asked for
-abbrev pub AskFits : Ask → Type 0
-AskFits ask = IsUtf8Or ask.label × RightsFit ask.rights
-
--- the texts of a grant request that names no way to interact
-abbrev pub RequestFits : GrantRequest → Type 0
-RequestFits request = AllByRecursion AskFits request.asks × IsUtf8Or request.client × IsUtf8Or request.user
 
 -- The texts of a call that is built. A presented value may be any bytes.
 abbrev pub TextsFit : Call → Type 0

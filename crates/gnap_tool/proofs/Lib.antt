@@ -1,3 +1,6 @@
 pub mod CallLines
+pub mod Going
+pub mod LineTexts
+pub mod LineTurns
 pub mod Reading
 pub mod Shown

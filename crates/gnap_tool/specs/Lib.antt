@@ -6,3 +6,4 @@ pub mod CallLines
 pub mod Asked
 pub mod Replays
 pub mod Replaying
+pub mod Setups

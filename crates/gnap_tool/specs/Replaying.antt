@@ -68,6 +68,7 @@ pub record Goes (setup : Setup) (number : ℕ) (seen : List GnapEntry → Type 0
   pub came : Came bytes taken taken_now source source_now
   pub are_lines : AreLines (messages_in turns)
   pub parts : held ++ bytes ≡ ended_lines (messages_in turns) ++ held_now
+  pub few : length turns + length held_now ≤ taken_now
   pub prints : IfTold out out_now (Writes (bytes_in turns))
 
 -- The lines of a source had their turns, as far as the replay came.

@@ -117,3 +117,8 @@ CountsReads _ faults faults_now = faults_now ≡ faults
 abbrev pub CountsWrites : Ended → ℕ → ℕ → Type 0
 CountsWrites WriteFault faults faults_now = Rose faults faults_now
 CountsWrites _ faults faults_now = faults_now ≡ faults
+
+-- as many bytes were taken as may be, without the end of the input
+abbrev pub TookAll : Option Told → Type 0
+TookAll None = Unit {0}
+TookAll (Some told) = length told.taken ≡ 1073741824

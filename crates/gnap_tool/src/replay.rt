@@ -1,14 +1,17 @@
 //! The calls of a file's lines, made at a desk, and their replies printed.
-ghost use Rattle.std.specs.Prelude.{◌≡◌, ◌≤◌, ◌<◌, [], Some, None, IsUtf8, length};
+ghost use Rattle.std.specs.Prelude.{◌≡◌, ◌≤◌, [], Some, None, IfOk, IsUtf8, length};
 ghost use Rattle.gnap_io.specs.Outside.{untouched};
 ghost use Rattle.gnap_tool.specs.Reading.{held_by};
 ghost use Rattle.gnap_tool.specs.Lines.{lines_of};
 ghost use Rattle.gnap_tool.specs.Replaying.{Replays};
-ghost use Rattle.gnap_tool.specs.Replays.{Replayed, EndsWithoutSetup, CountsReads, CountsWrites, first_of, after_first, setup_in};
+ghost use Rattle.gnap_objects.specs.Fits.{SetupFits};
+ghost use Rattle.gnap_tool.specs.Replays.{Replayed, EndsWithoutSetup, CountsReads, CountsWrites, TookAll, first_of, after_first, setup_in};
+ghost use Rattle.gnap_tool.specs.Setups.{GivesSetup, IsSetupAlone, IsLoneHistory};
 
 use crate::answering::{After, answer_line};
 use crate::call_lines::LINE_LIMIT;
 use crate::line_reader::{LineEnd, LineReader};
+use gnap_history::laws::what_holds;
 use gnap_history::{Gnap, list_desk};
 use gnap_io::bytes::Bytes;
 use gnap_io::device::{Sink, Source};
@@ -77,17 +80,88 @@ pub fn replay_lines<D: Desk<M = Gnap>, S: Source, O: Sink>(
                 After::Starved => return Ended::Memory,
                 After::Cut => return Ended::WriteFault,
             },
-            LineEnd::Last => {
-                return match answer_line(alloc, setup, desk, out, &line) {
-                    After::On => Ended::Done,
-                    After::Starved => Ended::Memory,
-                    After::Cut => Ended::WriteFault,
-                };
-            }
+            LineEnd::Last => match answer_line(alloc, setup, desk, out, &line) {
+                After::On => return Ended::Done,
+                After::Starved => return Ended::Memory,
+                After::Cut => return Ended::WriteFault,
+            },
             LineEnd::Long => unreachable!(),
             LineEnd::Full => return Ended::TooLong,
             LineEnd::Failed => return Ended::Failed,
             LineEnd::Memory => return Ended::Memory,
         }
+    }
+}
+
+// The setup that a first line is.
+fn setup_in(alloc: Global, line: &Bytes) -> Result<Setup, SetupFault>
+    ensures setup { GivesSetup result (setup_in line.now) }
+    ensures fits { IfOk result SetupFits }
+{
+    if SETUP_LIMIT < line.len() {
+        return Err(SetupFault::NotASetup);
+    }
+    read_setup(alloc, line.as_slice())
+}
+
+// Carries out the lines after the first one, by the setup that this one is.
+fn replay_after<S: Source, O: Sink>(
+    alloc: Global,
+    first: &Bytes,
+    reader: &mut LineReader,
+    source: &mut S,
+    out: &mut O,
+) -> Ended
+    requires held { length (held_by reader.old) ≤ reader.old.taken }
+    ensures replays { (setup : _) → setup_in first.now ≡ Some setup → Replays setup 0 (IsLoneHistory setup) (held_by reader.old) reader.old.taken reader.new.taken
+        (S.told source.old) (S.told source.new) (O.told out.old) (O.told out.new) result }
+    ensures no_setup { setup_in first.now ≡ None → EndsWithoutSetup result × (O.told out.new ≡ O.told out.old) }
+    ensures reads { CountsReads result (S.faults source.old) (S.faults source.new) }
+    ensures writes { CountsWrites result (O.faults out.old) (O.faults out.new) }
+    ensures full { result ≡ Ended.TooLong → reader.new.taken ≡ 1073741824 }
+{
+    let setup = match setup_in(alloc, first) {
+        Ok(setup) => setup,
+        Err(SetupFault::NotASetup) => return Ended::NoSetup,
+        Err(SetupFault::OutOfMemory) => return Ended::Memory,
+    };
+    let Ok(rules) = setup.copy() else {
+        return Ended::Memory;
+    };
+    let mut desk = list_desk(alloc, rules);
+    replay_lines(alloc, &setup, &mut desk, reader, source, out)
+}
+
+// A setup without further lines.
+fn only_setup(alloc: Global, first: &Bytes) -> Ended
+    ensures { IsSetupAlone result (setup_in first.now) }
+{
+    match setup_in(alloc, first) {
+        Ok(_) => Ended::Done,
+        Err(SetupFault::NotASetup) => Ended::NoSetup,
+        Err(SetupFault::OutOfMemory) => Ended::Memory,
+    }
+}
+
+/// Carries out a file: its first line is the setup, and each further line a call.
+pub fn replay<S: Source, O: Sink>(alloc: Global, source: &mut S, out: &mut O) -> Ended
+    ensures history { (bytes setup : _) → S.told source.old ≡ Some (untouched bytes) → setup_in (first_of (lines_of bytes)) ≡ Some setup
+        → Replayed setup (after_first (lines_of bytes)) (O.told out.old) (O.told out.new) result }
+    ensures no_setup { (bytes : _) → S.told source.old ≡ Some (untouched bytes) → setup_in (first_of (lines_of bytes)) ≡ None
+        → EndsWithoutSetup result × (O.told out.new ≡ O.told out.old) }
+    ensures reads { CountsReads result (S.faults source.old) (S.faults source.new) }
+    ensures writes { CountsWrites result (O.faults out.old) (O.faults out.new) }
+    ensures full { result ≡ Ended.TooLong → (bytes : _) → S.told source.old ≡ Some (untouched bytes) → TookAll (S.told source.new) }
+{
+    what_holds();
+    let mut reader = LineReader::new(alloc);
+    let mut first = Bytes::new(alloc);
+    match reader.next_line(source, &mut first, SETUP_LIMIT, false) {
+        LineEnd::Whole => replay_after(alloc, &first, &mut reader, source, out),
+        LineEnd::Last => only_setup(alloc, &first),
+        LineEnd::Long => Ended::NoSetup,
+        LineEnd::Full => Ended::TooLong,
+        LineEnd::Failed => Ended::Failed,
+        LineEnd::Memory => Ended::Memory,
     }
 }
