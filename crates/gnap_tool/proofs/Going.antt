@@ -46,7 +46,7 @@ entries_few setup turn (starved line) = omega arith
 entries_few setup turn (lapsed line e call is lapse) = omega arith
 entries_few setup turn (unsaid line e is) = omega arith
 
-all_few : (setup : Setup) (turns : List LineTurn) → Each (IsLineTurn setup) turns → length (entries_in turns) ≤ length turns
+pub all_few : (setup : Setup) (turns : List LineTurn) → Each (IsLineTurn setup) turns → length (entries_in turns) ≤ length turns
 all_few setup [] each = omega arith
 all_few setup (turn ∷ turns) each =
     let one = entries_few setup turn each.0 in
@@ -192,3 +192,22 @@ module _ (setup : Setup) (number : ℕ) (seen : List GnapEntry → Type 0) (held
     pub last-ends : held1 ++ bytes ≡ full → IsAtEnd s2
         → (told : Told) → s2 ≡ Some told → (later : List (List ℕ)) × (lines_of (held1 ++ bytes ++ told.left) ≡ full ∷ later)
     last-ends whole end told is = ([], after_last told.left whole (none_left told is end))
+
+pub replays-weaker : (setup : Setup) (number : ℕ) (seen more : List GnapEntry → Type 0) (held : List ℕ) (taken taken2 : ℕ) (s s2 o o2 : Option Told) (ended : Ended)
+    → ((h : List GnapEntry) → seen h → more h) → Replays setup number seen held taken taken2 s s2 o o2 ended → Replays setup number more held taken taken2 s s2 o o2 ended
+replays-weaker setup number seen more held taken taken2 s s2 o o2 ended weaker r = record {
+  turns = r.turns;
+  had = record { each = r.had.each; history = r.had.history; seen_now = weaker r.had.history r.had.seen_now; own = r.had.own };
+  few = r.few;
+  bytes = r.bytes;
+  came = r.came;
+  sent = r.sent;
+  prints = r.prints;
+  lines = r.lines;
+}
+
+-- memory ran out before the first line
+pub replays-starved : (setup : Setup) (number : ℕ) (seen : List GnapEntry → Type 0) (held : List ℕ) (taken : ℕ) (s o : Option Told)
+    → seen [] → length held ≤ taken → Replays setup number seen held taken taken s s o o Memory
+replays-starved setup number seen held taken s o fresh few =
+    stops-starved setup number seen held held taken taken s s o o (goes-start setup number seen held taken s o fresh few) [] taken s (came-none taken s) o refl

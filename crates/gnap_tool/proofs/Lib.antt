@@ -1,4 +1,5 @@
 pub mod CallLines
+pub mod Files
 pub mod Going
 pub mod LineTexts
 pub mod LineTurns

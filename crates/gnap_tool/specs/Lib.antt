@@ -7,3 +7,4 @@ pub mod Asked
 pub mod Replays
 pub mod Replaying
 pub mod Setups
+pub mod Runs

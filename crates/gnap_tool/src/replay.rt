@@ -1,7 +1,7 @@
 //! The calls of a file's lines, made at a desk, and their replies printed.
 ghost use Rattle.std.specs.Prelude.{◌≡◌, ◌≤◌, [], Some, None, IfOk, IsUtf8, length};
 ghost use Rattle.gnap_io.specs.Outside.{untouched};
-ghost use Rattle.gnap_tool.specs.Reading.{held_by};
+ghost use Rattle.gnap_tool.specs.Reading.{held_by, Came};
 ghost use Rattle.gnap_tool.specs.Lines.{lines_of};
 ghost use Rattle.gnap_tool.specs.Replaying.{Replays};
 ghost use Rattle.gnap_objects.specs.Fits.{SetupFits};
@@ -116,6 +116,7 @@ fn replay_after<S: Source, O: Sink>(
     ensures replays { (setup : _) → setup_in first.now ≡ Some setup → Replays setup 0 (IsLoneHistory setup) (held_by reader.old) reader.old.taken reader.new.taken
         (S.told source.old) (S.told source.new) (O.told out.old) (O.told out.new) result }
     ensures no_setup { setup_in first.now ≡ None → EndsWithoutSetup result × (O.told out.new ≡ O.told out.old) }
+    ensures came { (bytes : _) × Came bytes reader.old.taken reader.new.taken (S.told source.old) (S.told source.new) }
     ensures reads { CountsReads result (S.faults source.old) (S.faults source.new) }
     ensures writes { CountsWrites result (O.faults out.old) (O.faults out.new) }
     ensures full { result ≡ Ended.TooLong → reader.new.taken ≡ 1073741824 }
