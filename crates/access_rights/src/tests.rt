@@ -77,18 +77,27 @@ fn read(alloc: Global, json: &[u8]) -> Option<Result<Rights, RightsFault>> {
     Some(read_rights(alloc, &value))
 }
 
+fn printed(alloc: Global, json: &[u8]) -> Option<String> {
+    let value = Value::from_slice(alloc, json).ok()?;
+    if has_fraction(&value) {
+        return None;
+    }
+    match read_rights(alloc, &value) {
+        Ok(rights) => match rights_value(alloc, &rights) {
+            Ok(value) => value.to_string(alloc).ok(),
+            Err(_) => None,
+        },
+        Err(_) => None,
+    }
+}
+
 #[test]
 fn reads_references_and_prints_them(rt: HostRuntime) -> Result<(), Fail> {
     let alloc = rt.alloc();
-    let photos = read(alloc, b"[\"photos\",\"a\\u00e9\\\"\"]")
-        .ok_or("a value")?
-        .ok()
-        .ok_or("rights")?;
-    let printed = rights_value(alloc, &photos)
-        .ok()
-        .ok_or("memory")?
-        .to_string(alloc)?;
-    assert!(rt; printed.as_str() == "[\"photos\",\"a\u{e9}\\\"\"]");
+    let json = b"[\"photos\",\"a\\u00e9\\\"\"]";
+    let shown = printed(alloc, json).ok_or("rights")?;
+    assert!(rt; shown.as_str() == "[\"photos\",\"a\u{e9}\\\"\"]");
+    let photos = read(alloc, json).ok_or("a value")?.ok().ok_or("rights")?;
     let mut names = Seq::new(alloc);
     names
         .push(text(alloc, b"mail").ok().ok_or("memory")?)
