@@ -38,8 +38,8 @@ setup_kept full =
     elim either [
       | inl short ↦ ap setup_in (sym (take_all 1048577 full short))
       | inr long ↦
-        let size : length (take 1048577 full) ≡ 1048577 = length-take-le 1048577 full (omega (arith, long)) in
-        setup_long full (omega (arith, long)) ∙ sym (setup_long (take 1048577 full) (omega (arith, size)))
+          let size : length (take 1048577 full) ≡ 1048577 = length-take-le 1048577 full (omega (arith, long)) in
+          setup_long full (omega (arith, long)) ∙ sym (setup_long (take 1048577 full) (omega (arith, size)))
     ]
 
 first_onto : (b : ℕ) (lines : List (List ℕ)) → first_of (onto_first b lines) ≡ b ∷ first_of lines
@@ -136,7 +136,7 @@ none_replayed setup lines o ended ends holds = record {
 pub alone_replayed : (setup : Setup) (reading : Option Setup) (ended : Ended) (o : Option Told) → IsSetupAlone ended reading → reading ≡ Some setup → WhatHolds setup [] → Replayed setup [] o o ended
 alone_replayed setup reading Done o alone is holds = none_replayed setup [] o Done (tt, refl, refl) holds
 alone_replayed setup reading NoSetup o alone is holds = let no : None ≡ Some setup = sym alone ∙ is in absurd cc
-alone_replayed setup reading Memory o alone is holds = none_replayed setup [] o Memory refl holds
+alone_replayed setup reading Memory o alone is holds = none_replayed setup [] o Memory (refl, inl tt) holds
 alone_replayed setup reading Failed o alone is holds = absurd alone
 alone_replayed setup reading WriteFault o alone is holds = absurd alone
 alone_replayed setup reading TooLong o alone is holds = absurd alone
@@ -161,10 +161,10 @@ whole_replayed setup bytes first held0 held1 taken0 taken1 taken2 s s1 s2 o o2 e
     let lone = r.had.seen_now in
     let l = r.lines u.0 u.1 in
     let after : after_first (lines_of bytes) ≡ messages_in r.turns ++ l.0 =
-      ap after_first (whole_lines bytes first held0 held1 taken0 taken1 s s1 empty told read t.0 t.2)
-      ∙ ap (λ x. lines_of (held1 ++ x)) u.2.left ∙ ap lines_of (sym (append_assoc held1 r.bytes u.0.left)) ∙ l.1 in
+    ap after_first (whole_lines bytes first held0 held1 taken0 taken1 s s1 empty told read t.0 t.2)
+    ∙ ap (λ x. lines_of (held1 ++ x)) u.2.left ∙ ap lines_of (sym (append_assoc held1 r.bytes u.0.left)) ∙ l.1 in
     let few : length h ≤ length r.turns = (let own : h ≡ entries_in r.turns = sym (own-all 0 h lone.1) ∙ r.had.own in
-      omega (arith, ap length own, all_few setup r.turns r.had.each)) in
+    omega (arith, ap length own, all_few setup r.turns r.had.each)) in
     record {
       sent = r.sent;
       told = r.prints;

@@ -1,5 +1,5 @@
 -- A replay that goes on, and how it ends.
-use Rattle.std.proofs.Common.{◌≡◌, ◌∙◌, ℕ, ◌+◌, ◌<◌, ◌≤◌, ◌^◌, List, [], ◌∷◌, ◌++◌, length, refl, ap, sym, subst, arith, append_assoc, length-append}
+use Rattle.std.proofs.Common.{◌≡◌, ◌∙◌, ℕ, ◌+◌, ◌<◌, ◌≤◌, ◌^◌, List, [], ◌∷◌, ◌++◌, length, refl, ap, sym, subst, arith, append_assoc, length-append, inl, inr}
 use Rattle.std.specs.Prelude.{Bool, true, false, Option, Some, None}
 use Rattle.std.proofs.lemmas.List.{append-nil}
 use Rattle.gnap_io.specs.Outside.{Told, IfTold, Takes, Writes, IsPrefix}
@@ -99,7 +99,7 @@ module _ (setup : Setup) (number : ℕ) (seen : List GnapEntry → Type 0) (held
     stops-full = stops TooLong (λ later. (goes.on, refl))
 
     pub stops-starved : Replays setup number seen held taken taken2 s s2 o o2 Memory
-    stops-starved = stops Memory (λ later. refl)
+    stops-starved = stops Memory (λ later. (refl, inl goes.on))
 
   -- a line had its turn
   module _ (full bytes : List ℕ) (taken2 : ℕ) (s2 : Option Told) (came : Came bytes taken1 taken2 s1 s2) (is_line : IsLine full)
@@ -134,7 +134,7 @@ module _ (setup : Setup) (number : ℕ) (seen : List GnapEntry → Type 0) (held
       sent = sent;
       prints = prints;
       lines = λ told is. let l = ends told is in
-        (l.0, lines_next bytes told.left ∙ ap (λ ls. messages_in goes.turns ++ ls) l.1 ∙ sym (append_assoc (messages_in goes.turns) (full ∷ []) l.0) ∙ ap (λ ms. ms ++ l.0) (sym messages_now), l.2);
+          (l.0, lines_next bytes told.left ∙ ap (λ ls. messages_in goes.turns ++ ls) l.1 ∙ sym (append_assoc (messages_in goes.turns) (full ∷ []) l.0) ∙ ap (λ ms. ms ++ l.0) (sym messages_now), l.2);
     }
 
     out_on : IfTold o1 o2 (Writes answer.turn.bytes) → IfTold o o2 (Writes (bytes_in (goes.turns ++ answer.turn ∷ [])))
@@ -152,8 +152,8 @@ module _ (setup : Setup) (number : ℕ) (seen : List GnapEntry → Type 0) (held
       came = came_next bytes taken2 s2 came;
       are_lines = subst AreLines (sym messages_now) (lines-next (messages_in goes.turns) full goes.are_lines is_line);
       parts = whole_next bytes ∙ ap (λ x. ended_lines (messages_in goes.turns) ++ x) (whole ∙ sym (append_assoc full (10 ∷ []) held2))
-        ∙ sym (append_assoc (ended_lines (messages_in goes.turns)) (full ++ 10 ∷ []) held2)
-        ∙ ap (λ x. x ++ held2) (sym (ended-next (messages_in goes.turns) full)) ∙ ap (λ ms. ended_lines ms ++ held2) (sym messages_now);
+          ∙ sym (append_assoc (ended_lines (messages_in goes.turns)) (full ++ 10 ∷ []) held2)
+          ∙ ap (λ x. x ++ held2) (sym (ended-next (messages_in goes.turns) full)) ∙ ap (λ ms. ended_lines ms ++ held2) (sym messages_now);
       few = omega (arith, length-next goes.turns answer.turn, goes.few, came.counted, ap length whole, length-append held1 bytes, length-append full (10 ∷ held2));
       prints = out_on prints;
     }
@@ -176,14 +176,20 @@ module _ (setup : Setup) (number : ℕ) (seen : List GnapEntry → Type 0) (held
     module _ (ends : (told : Told) → s2 ≡ Some told → (later : List (List ℕ)) × (lines_of (held1 ++ bytes ++ told.left) ≡ full ∷ later)) where
       pub turned-starved : (o2 ≡ o1) × (answer.turn.bytes ≡ []) → Replays setup number seen2 held taken taken2 s s2 o o2 Memory
       turned-starved nothing = turned Memory (bytes_in goes.turns) (subst (λ (t : Option Told). IfTold o t (Writes (bytes_in goes.turns))) (sym nothing.0) goes.prints)
-          (λ told is. let l = ends told is in
-            (l.0, l.1, sym (bytes_in-next goes.turns answer.turn ∙ ap (λ b. bytes_in goes.turns ++ b) nothing.1 ∙ append-nil (bytes_in goes.turns))))
+          (λ told is. let l = ends told is in (
+            l.0,
+            l.1,
+            (
+              sym (bytes_in-next goes.turns answer.turn ∙ ap (λ b. bytes_in goes.turns ++ b) nothing.1 ∙ append-nil (bytes_in goes.turns)),
+              inr (goes.turns, answer.turn, record { is = refl; before = goes.on }),
+            ),
+          ))
 
       pub turned-cut : ((part : List ℕ) × IsPrefix part answer.turn.bytes × IfTold o1 o2 (Writes part)) → Replays setup number seen2 held taken taken2 s s2 o o2 WriteFault
       turned-cut cut = turned WriteFault (bytes_in goes.turns ++ cut.0)
           (told_then o o1 o2 (Writes (bytes_in goes.turns)) (Writes cut.0) (Writes (bytes_in goes.turns ++ cut.0)) (writes_then (bytes_in goes.turns) cut.0) goes.prints cut.2)
           (λ told is. let l = ends told is in
-            (l.0, l.1, (goes.turns, answer.turn, record { is = refl; before = goes.on }, record { part = cut.0; is_prefix = cut.1; is = refl })))
+          (l.0, l.1, (goes.turns, answer.turn, record { is = refl; before = goes.on }, record { part = cut.0; is_prefix = cut.1; is = refl })))
 
     pub whole-ends : (held2 : List ℕ) → held1 ++ bytes ≡ full ++ 10 ∷ held2
         → (told : Told) → s2 ≡ Some told → (later : List (List ℕ)) × (lines_of (held1 ++ bytes ++ told.left) ≡ full ∷ later)

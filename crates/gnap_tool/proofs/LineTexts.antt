@@ -56,6 +56,6 @@ kept_step setup full =
     elim either [
       | inl short ↦ ap (line_step setup) (sym (take_all 131073 full short))
       | inr long ↦
-        let size : length (take 131073 full) ≡ 131073 = length-take-le 131073 full (omega (arith, long)) in
-        long_step setup full (omega (arith, long)) ∙ sym (long_step setup (take 131073 full) (omega (arith, size)))
+          let size : length (take 131073 full) ≡ 131073 = length-take-le 131073 full (omega (arith, long)) in
+          long_step setup full (omega (arith, long)) ∙ sym (long_step setup (take 131073 full) (omega (arith, size)))
     ]

@@ -28,7 +28,13 @@ module _ (setup : Setup) (number : ℕ) (line : List ℕ) (seen : List GnapEntry
       → AnswersLine setup number line seen h before after result
   without_entry was is = record {
     turn = record { message = line; moment = moment; entries = []; bytes = bytes; on = on };
-    is_turn = is; message = refl; goes = goes; history = h; seen_now = was; own = sym (append-nil (own_of number h)); prints = prints;
+    is_turn = is;
+    message = refl;
+    goes = goes;
+    history = h;
+    seen_now = was;
+    own = sym (append-nil (own_of number h));
+    prints = prints;
   }
 
   pub with_entry : (rules : Setup) (draw : List ℕ) (call : Call) (reply : Reply) → (x : Enters gnap rules number h moment draw call reply seen)
@@ -38,8 +44,13 @@ module _ (setup : Setup) (number : ℕ) (line : List ℕ) (seen : List GnapEntry
       let e : GnapEntry = entry_of gnap rules (h ++ x.others) number moment draw call in
       record {
         turn = record { message = line; moment = moment; entries = e ∷ []; bytes = bytes; on = on };
-        is_turn = is; message = refl; goes = goes; history = h ++ x.others ++ e ∷ []; seen_now = x.seen_now;
-        own = own-next number h x.others e x.not_mine refl; prints = prints;
+        is_turn = is;
+        message = refl;
+        goes = goes;
+        history = h ++ x.others ++ e ∷ [];
+        seen_now = x.seen_now;
+        own = own-next number h x.others e x.not_mine refl;
+        prints = prints;
       }
 
   pub with_lapse : (rules : Setup) (draw : List ℕ) → (x : EntersLapse gnap rules number h moment draw seen)
@@ -49,6 +60,11 @@ module _ (setup : Setup) (number : ℕ) (line : List ℕ) (seen : List GnapEntry
       let e : GnapEntry = entry_of gnap rules (h ++ x.others) number moment draw Lapse in
       record {
         turn = record { message = line; moment = moment; entries = e ∷ []; bytes = bytes; on = on };
-        is_turn = is; message = refl; goes = goes; history = h ++ x.others ++ e ∷ []; seen_now = x.seen_now;
-        own = own-next number h x.others e x.not_mine refl; prints = prints;
+        is_turn = is;
+        message = refl;
+        goes = goes;
+        history = h ++ x.others ++ e ∷ [];
+        seen_now = x.seen_now;
+        own = own-next number h x.others e x.not_mine refl;
+        prints = prints;
       }

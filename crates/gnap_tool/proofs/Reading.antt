@@ -23,13 +23,13 @@ keeps-more n full part =
     let short : (length full ≤ n) ⊎ (n ≤ length full) = grind arith in
     elim short [
       | inl within ↦
-        let all : take n full ≡ full = take_all n full within in
-        let rest : n ≡ length full + (n - length full) = omega arith in
-        ap (λ x. x ++ take (n - length x) part) all ∙ sym (take-append-add full part (n - length full)) ∙ ap (λ m. take m (full ++ part)) (sym rest)
+          let all : take n full ≡ full = take_all n full within in
+          let rest : n ≡ length full + (n - length full) = omega arith in
+          ap (λ x. x ++ take (n - length x) part) all ∙ sym (take-append-add full part (n - length full)) ∙ ap (λ m. take m (full ++ part)) (sym rest)
       | inr past ↦
-        let size : length (take n full) ≡ n = length-take n full ∙ omega arith in
-        let none : n - length (take n full) ≡ 0 = omega arith in
-        ap (λ m. take n full ++ take m part) none ∙ append-nil (take n full) ∙ sym (take-append-le n full part past)
+          let size : length (take n full) ≡ n = length-take n full ∙ omega arith in
+          let none : n - length (take n full) ≡ 0 = omega arith in
+          ap (λ m. take n full ++ take m part) none ∙ append-nil (take n full) ∙ sym (take-append-le n full part past)
     ]
 
 pub kept-more : (limit : ℕ) (line grown full part : List ℕ) → IsKept limit line full → IsLine part
@@ -109,7 +109,7 @@ module _ (limit : ℕ) (line held held_now : List ℕ) (taken taken_now : ℕ) (
     full = gathers.full;
     is_kept = gathers.is_kept;
     parts = sym (append_assoc held gathers.bytes held_next)
-      ∙ ap (λ h. h ++ held_next) (gathers.parts ∙ ap (λ h. gathers.full ++ h) none ∙ append-nil gathers.full);
+        ∙ ap (λ h. h ++ held_next) (gathers.parts ∙ ap (λ h. gathers.full ++ h) none ∙ append-nil gathers.full);
   }
 
   -- nothing was held, and the input is at its end

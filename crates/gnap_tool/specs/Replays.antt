@@ -1,5 +1,5 @@
 -- What a replay does with the lines of its file, and what it prints.
-use Rattle.std.specs.Prelude.{◌≡◌, ℕ, Bool, true, false, List, [], ◌∷◌, ◌++◌, length, nat_lt, Option, Some, None, Result, Ok, Err, if◌then◌else◌}
+use Rattle.std.specs.Prelude.{◌≡◌, ◌⊎◌, ℕ, Bool, true, false, List, [], ◌∷◌, ◌++◌, length, nat_lt, Option, Some, None, Result, Ok, Err, if◌then◌else◌}
 use Rattle.gnap_io.specs.Outside.{Told, IfTold, Takes, Writes, IsPrefix, Rose, untouched}
 use Rattle.histories.specs.Turns.{Turn, Each, messages_in, entries_in, bytes_in}
 use Rattle.histories.specs.Whole.{One, own_of}
@@ -54,12 +54,12 @@ pub record Cut (sent before piece : List ℕ) : Type 0 where
   pub is_prefix : IsPrefix part piece
   pub is : sent ≡ before ++ part
 
--- How a replay ended, by its turns, the lines that had none, and what was printed.
+-- How a replay ended, by its turns, the lines that had none, and what was printed. Memory ran out at the last of the turns, or at no turn.
 abbrev pub EndsAs : Ended → List LineTurn → List (List ℕ) → List ℕ → Type 0
 EndsAs Done turns later sent = AllOn turns × (later ≡ []) × (sent ≡ bytes_in turns)
 EndsAs NoSetup turns later sent = ⊥
 EndsAs WriteFault turns later sent = (front : List LineTurn) × (last : LineTurn) × OneMore turns front last × Cut sent (bytes_in front) last.bytes
-EndsAs Memory turns later sent = sent ≡ bytes_in turns
+EndsAs Memory turns later sent = (sent ≡ bytes_in turns) × (AllOn turns ⊎ ((front : List LineTurn) × (last : LineTurn) × OneMore turns front last))
 EndsAs Failed turns later sent = AllOn turns × (sent ≡ bytes_in turns)
 EndsAs TooLong turns later sent = AllOn turns × (sent ≡ bytes_in turns)
 

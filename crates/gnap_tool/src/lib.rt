@@ -5,8 +5,8 @@
 #![tactic(auto)]
 
 mod answering;
-mod commands;
 mod call_lines;
+mod commands;
 mod line_reader;
 mod replay;
 mod replies;

@@ -33,8 +33,8 @@ reply_line-requires-clause-reply g c =
     let rules = g.D.Desk.rules c.args.desk.now in
     let L : List GnapEntry → Setup → Type 0 = λ k r. Legal gnap r k in
     entered_fits rules _ c.requires.room.0 c.in-Ok-Ask.moment c.in-Ok-Ask.draw c.in-Ok-Ask.call c.in-Ok.reply (g.D.Desk.seen c.submit.new.self)
-      (λ k seen. subst (L k) c.in-Ok.ensures.rules (g.met.D.Desk.legal c.submit.new.self k seen))
-      (c.in-Ok.ensures.ok c.requires.room.0 c.requires.room.1)
+    (λ k seen. subst (L k) c.in-Ok.ensures.rules (g.met.D.Desk.legal c.submit.new.self k seen))
+    (c.in-Ok.ensures.ok c.requires.room.0 c.requires.room.1)
 
 pub returns-in-Err-reply_line-clause-turn : goal.returns-in-Err-reply_line-clause-turn
 returns-in-Err-reply_line-clause-turn g c h full seen same =
@@ -52,5 +52,5 @@ returns-clause-turn g c h full seen same =
     let e = entry_of gnap rules (h ++ x.others) (g.D.Desk.number c.args.desk.now) c.in-Ok-Ask.moment c.in-Ok-Ask.draw c.in-Ok-Ask.call in
     let P : List ℕ → Type 0 = λ text. Prints c.say-in-Ok-reply_line.result text (g.O.Device.told c.args.out.now) (g.O.Device.told c.say-in-Ok-reply_line.new.out) in
     with_entry _ _ full _ h _ _ _ c.in-Ok-Ask.moment (reply_line c.args.setup.now e.reply) true (goes_on _ c.say-in-Ok-reply_line.ensures.fed)
-      (subst P (c.in-Ok-reply_line.ensures ∙ ap (reply_line c.args.setup.now) x.reply_is) c.say-in-Ok-reply_line.ensures.prints)
-      rules c.in-Ok-Ask.draw c.in-Ok-Ask.call c.in-Ok.reply x (called full e asked)
+    (subst P (c.in-Ok-reply_line.ensures ∙ ap (reply_line c.args.setup.now) x.reply_is) c.say-in-Ok-reply_line.ensures.prints)
+    rules c.in-Ok-Ask.draw c.in-Ok-Ask.call c.in-Ok.reply x (called full e asked)

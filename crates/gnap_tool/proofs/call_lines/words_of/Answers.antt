@@ -29,7 +29,7 @@ loop-item-preserved c =
       size = length-set words place c.in_ok-word.word ∙ inv.size;
       rest = rest_next words place c.in_ok-word.word short inv.rest;
       so_far = word_next words place c.in_ok-word.word (view c.item-item.result) (items_view (drop (i + 1) values)) (let size = inv.size in omega (arith, short, size)) (sym c.as_u64.ensures ∙ c.in_ok-word.was)
-        ∙ ap (words_from (take place words)) (sym (view_next values i c.item-item.result c.loop-item-test.true c.item-item.is)) ∙ inv.so_far;
+          ∙ ap (words_from (take place words)) (sym (view_next values i c.item-item.result c.loop-item-test.true c.item-item.is)) ∙ inv.so_far;
       items_are = inv.items_are;
     }
 

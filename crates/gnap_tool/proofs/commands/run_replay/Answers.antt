@@ -14,7 +14,7 @@ use Rattle.gnap_tool.proofs.commands.run_replay.Goals as goal
 
 pub returns-in_default-clause-history : goal.returns-in_default-clause-history
 returns-in_default-clause-history g c = λ bytes setup told is.
-    none_replayed setup _ _ Memory refl (c.what_holds.ensures setup [] (legal-nil gnap setup) (omega arith))
+    none_replayed setup _ _ Memory (refl, inl tt) (c.what_holds.ensures setup [] (legal-nil gnap setup) (omega arith))
 
 pub returns-in_default-clause-given_back : goal.returns-in_default-clause-given_back
 returns-in_default-clause-given_back g c = inl (refl, refl)
@@ -34,7 +34,7 @@ returns-in-Err-Failed-clause-given_back g c = inl (ap (λ s. s.opened) c.in-Err-
 
 pub returns-in-Err-OutOfMemory-clause-history : goal.returns-in-Err-OutOfMemory-clause-history
 returns-in-Err-OutOfMemory-clause-history g c = λ bytes setup told is.
-    none_replayed setup _ _ Memory refl (c.what_holds.ensures setup [] (legal-nil gnap setup) (omega arith))
+    none_replayed setup _ _ Memory (refl, inl tt) (c.what_holds.ensures setup [] (legal-nil gnap setup) (omega arith))
 
 pub returns-in-Err-OutOfMemory-clause-given_back : goal.returns-in-Err-OutOfMemory-clause-given_back
 returns-in-Err-OutOfMemory-clause-given_back g c = inl (ap (λ s. s.opened) c.in-Err-OutOfMemory.ensures.state, ap (λ s. s.files) c.in-Err-OutOfMemory.ensures.state)
@@ -62,5 +62,5 @@ returns-clause-given_back g c =
     let files = ap (λ s. s.files) c.close_file.ensures.state ∙ ap (λ s. s.files ++ file ∷ []) c.in-Ok-open_file.ensures.state in
     let name = c.in-Ok.ensures ∙ c.as_bytes.ensures.value in
     let opened = ap (λ s. s.opened) c.close_file.ensures.state ∙ ap (λ s. s.opened) c.in-Ok-open_file.ensures.state
-      ∙ ap (λ n. (g.W.World.state c.args.world.now).opened ++ File n ∷ []) name in
+    ∙ ap (λ n. (g.W.World.state c.args.world.now).opened ++ File n ∷ []) name in
     inr (opened, (file, files))

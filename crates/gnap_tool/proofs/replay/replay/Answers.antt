@@ -1,4 +1,4 @@
-use Rattle.std.proofs.Common.{◌≡◌, ◌∙◌, ℕ, List, [], sym, subst, refl, arith}
+use Rattle.std.proofs.Common.{◌≡◌, ◌∙◌, ℕ, List, [], sym, subst, refl, arith, inl}
 use Rattle.std.specs.Prelude.{Option, Some, None}
 use Rattle.histories.specs.Histories.{legal-nil}
 use Rattle.gnap_history.specs.Gnap.{gnap}
@@ -13,7 +13,7 @@ returns-in-Whole-clause-history g c = λ bytes setup told is.
     let read = c.in-Whole.ensures.read in
     let same = whole_setup bytes _ _ _ _ _ _ _ c.new-reader.ensures.held told read in
     whole_replayed setup bytes _ _ _ _ _ _ _ _ _ _ _ _ c.new-reader.ensures.held told read (c.replay_after.ensures.replays setup (sym same ∙ is)) c.replay_after.new.reader.limited
-      (λ h legal few. c.what_holds.ensures setup h legal few)
+    (λ h legal few. c.what_holds.ensures setup h legal few)
 
 pub returns-in-Whole-clause-no_setup : goal.returns-in-Whole-clause-no_setup
 returns-in-Whole-clause-no_setup g c = λ bytes told is.
@@ -29,8 +29,8 @@ returns-in-Last-clause-history g c = λ bytes setup told is.
     let read = c.in-Last.ensures.read in
     let L : List (List ℕ) → Type 0 = λ lines. Replayed setup lines (g.O.Device.told c.args.out.now) (g.O.Device.told c.args.out.now) c.only_setup.result in
     subst L (sym (last_after bytes _ _ _ _ _ _ _ c.new-reader.ensures.held told read))
-      (alone_replayed setup _ c.only_setup.result _ c.only_setup.ensures (sym (last_setup bytes _ _ _ _ _ _ _ c.new-reader.ensures.held told read) ∙ is)
-        (c.what_holds.ensures setup [] (legal-nil gnap setup) (omega arith)))
+    (alone_replayed setup _ c.only_setup.result _ c.only_setup.ensures (sym (last_setup bytes _ _ _ _ _ _ _ c.new-reader.ensures.held told read) ∙ is)
+    (c.what_holds.ensures setup [] (legal-nil gnap setup) (omega arith)))
 
 pub returns-in-Last-clause-no_setup : goal.returns-in-Last-clause-no_setup
 returns-in-Last-clause-no_setup g c = λ bytes told is.
@@ -57,4 +57,4 @@ returns-in-Failed-clause-history g c = λ bytes setup told is.
 
 pub returns-clause-history : goal.returns-clause-history
 returns-clause-history g c = λ bytes setup told is.
-    none_replayed setup _ _ Memory refl (c.what_holds.ensures setup [] (legal-nil gnap setup) (omega arith))
+    none_replayed setup _ _ Memory (refl, inl tt) (c.what_holds.ensures setup [] (legal-nil gnap setup) (omega arith))

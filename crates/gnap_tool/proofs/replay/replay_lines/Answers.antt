@@ -111,4 +111,3 @@ pub returns-in-Memory-clause-replays : goal.returns-in-Memory-clause-replays
 returns-in-Memory-clause-replays g c =
     let inv = c.loop-desk.invariant in
     stops-starved _ _ _ _ _ _ _ _ _ _ _ inv.goes _ _ _ c.in-Memory.ensures.read.came _ refl
-
