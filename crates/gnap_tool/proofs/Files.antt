@@ -1,6 +1,6 @@
 -- A file that was replayed, from its first line on.
-use Rattle.std.proofs.Common.{◌≡◌, ◌∙◌, ℕ, ◌+◌, ◌<◌, ◌≤◌, ◌^◌, List, [], ◌∷◌, ◌++◌, length, take, refl, ap, sym, subst, arith, append_assoc, length-append, ◌⊎◌, inl, inr}
-use Rattle.std.specs.Prelude.{Bool, true, false, Option, Some, None, nat_lt, if◌then◌else◌, ◌==◌}
+use Rattle.std.proofs.Common.{◌≡◌, ◌∙◌, ℕ, ◌<◌, ◌≤◌, ◌^◌, List, [], ◌∷◌, ◌++◌, length, take, refl, ap, sym, subst, arith, append_assoc, length-append, ◌⊎◌, inl, inr}
+use Rattle.std.specs.Prelude.{Option, Some, None, ◌==◌}
 use Rattle.std.proofs.lemmas.Bool.{or_parts}
 use Rattle.std.proofs.lemmas.Bool.Decides.{nat_tests}
 use Rattle.std.proofs.lemmas.List.{append-nil, take_all, length-take, length-take-le}
@@ -10,7 +10,7 @@ use Rattle.histories.specs.History.{Legal}
 use Rattle.histories.specs.Histories.{legal-nil}
 use Rattle.histories.specs.Steps.{EachOf}
 use Rattle.histories.specs.Turns.{messages_in, entries_in}
-use Rattle.histories.specs.Whole.{One, Below}
+use Rattle.histories.specs.Whole.{Below}
 use Rattle.histories.proofs.OwnEntries.{own-all}
 use Rattle.gnap_model.specs.declared.objects.Setup.{Setup}
 use Rattle.gnap_history.specs.Gnap.{GnapEntry, gnap}
@@ -21,7 +21,7 @@ use Rattle.gnap_tool.specs.declared.replay.Ended.{Ended}
 use Rattle.gnap_tool.specs.declared.replay.Ended.TheVariants.{Done, NoSetup, Failed, WriteFault, Memory, TooLong}
 use Rattle.gnap_tool.specs.Lines.{IsLine, lines_of, onto_first}
 use Rattle.gnap_tool.specs.Reading.{Came, ReadsLine, IsAtEnd}
-use Rattle.gnap_tool.specs.Replays.{IsReplay, Replayed, EndsAs, EndsWithoutSetup, TookAll, first_of, after_first, setup_in}
+use Rattle.gnap_tool.specs.Replays.{Replayed, EndsAs, EndsWithoutSetup, TookAll, first_of, after_first, setup_in}
 use Rattle.gnap_tool.specs.Replaying.{Replays}
 use Rattle.gnap_tool.specs.Setups.{IsSetupAlone, IsLoneHistory}
 use Rattle.gnap_tool.proofs.LineTexts.{line_ended, line_last}

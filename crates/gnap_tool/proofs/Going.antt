@@ -1,26 +1,22 @@
 -- A replay that goes on, and how it ends.
 use Rattle.std.proofs.Common.{◌≡◌, ◌∙◌, ℕ, ◌+◌, ◌<◌, ◌≤◌, ◌^◌, List, [], ◌∷◌, ◌++◌, length, refl, ap, sym, subst, arith, append_assoc, length-append, inl, inr}
-use Rattle.std.specs.Prelude.{Bool, true, false, Option, Some, None}
+use Rattle.std.specs.Prelude.{true, Option, Some}
 use Rattle.std.proofs.lemmas.List.{append-nil}
-use Rattle.gnap_io.specs.Outside.{Told, IfTold, Takes, Writes, IsPrefix}
+use Rattle.gnap_io.specs.Outside.{Told, IfTold, Writes, IsPrefix}
 use Rattle.gnap_io.proofs.Devices.{told_then, told_same, writes_none, writes_then}
 use Rattle.histories.specs.History.{places}
 use Rattle.histories.specs.Turns.{Each, messages_in, entries_in, bytes_in}
-use Rattle.histories.specs.Whole.{own_of}
 use Rattle.histories.proofs.OwnEntries.{places_own}
 use Rattle.histories.proofs.TurnLemmas.{messages_in-append, entries_in-next, bytes_in-next, each-next, length-next}
 use Rattle.gnap_model.specs.declared.objects.Setup.{Setup}
 use Rattle.gnap_history.specs.Gnap.{GnapEntry}
 use Rattle.gnap_tool.specs.declared.answering.After.{After}
-use Rattle.gnap_tool.specs.declared.answering.After.TheVariants.{On, Starved, Cut}
-use Rattle.gnap_tool.specs.declared.line_reader.LineEnd.{LineEnd}
-use Rattle.gnap_tool.specs.declared.line_reader.LineEnd.TheVariants as line_ends
 use Rattle.gnap_tool.specs.declared.replay.Ended.{Ended}
 use Rattle.gnap_tool.specs.declared.replay.Ended.TheVariants.{Done, Failed, WriteFault, Memory, TooLong}
 use Rattle.gnap_tool.specs.Lines.{IsLine, lines_of}
-use Rattle.gnap_tool.specs.Reading.{Came, ReadsLine, IsAtEnd}
+use Rattle.gnap_tool.specs.Reading.{Came, IsAtEnd}
 use Rattle.gnap_tool.specs.Replays.{LineTurn, IsLineTurn, direct, called, starved, lapsed, unsaid, AllOn, EndsAs}
-use Rattle.gnap_tool.specs.Replaying.{AnswersLine, Prints, Turns, Goes, Replays, ended_lines, AreLines}
+use Rattle.gnap_tool.specs.Replaying.{AnswersLine, Turns, Goes, Replays, ended_lines, AreLines}
 use Rattle.gnap_tool.proofs.Reading.{came-none, came-more}
 use Rattle.gnap_tool.proofs.LineTexts.{line_ended, line_last, lines_ended, ended-next, lines-next}
 

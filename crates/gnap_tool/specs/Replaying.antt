@@ -1,14 +1,13 @@
 -- A replay while it goes on.
-use Rattle.std.specs.Prelude.{◌≡◌, ℕ, ◌+◌, ◌≤◌, Bool, true, false, List, [], ◌∷◌, ◌++◌, length, Option, Some, None}
-use Rattle.gnap_io.specs.Outside.{Told, IfTold, Takes, Writes, IsPrefix, Rose}
-use Rattle.histories.specs.Turns.{Turn, Each, messages_in, entries_in, bytes_in}
+use Rattle.std.specs.Prelude.{◌≡◌, ℕ, ◌+◌, ◌≤◌, Bool, true, false, List, [], ◌∷◌, ◌++◌, length, Option, Some}
+use Rattle.gnap_io.specs.Outside.{Told, IfTold, Writes, IsPrefix, Rose}
+use Rattle.histories.specs.Turns.{Each, messages_in, entries_in, bytes_in}
 use Rattle.histories.specs.Whole.{own_of}
 use Rattle.gnap_model.specs.declared.objects.Setup.{Setup}
 use Rattle.gnap_history.specs.Gnap.{GnapEntry}
 use Rattle.gnap_tool.specs.declared.answering.After.{After}
 use Rattle.gnap_tool.specs.declared.answering.After.TheVariants.{On, Starved, Cut}
 use Rattle.gnap_tool.specs.declared.replay.Ended.{Ended}
-use Rattle.gnap_tool.specs.declared.replay.Ended.TheVariants.{Done}
 use Rattle.gnap_tool.specs.Lines.{IsLine, lines_of}
 use Rattle.gnap_tool.specs.Reading.{Came}
 use Rattle.gnap_tool.specs.Replays.{LineTurn, IsLineTurn, AllOn, EndsAs}

@@ -1,8 +1,8 @@
 -- What a replay does with the lines of its file, and what it prints.
-use Rattle.std.specs.Prelude.{◌≡◌, ◌⊎◌, ℕ, Bool, true, false, List, [], ◌∷◌, ◌++◌, length, nat_lt, Option, Some, None, Result, Ok, Err, if◌then◌else◌}
-use Rattle.gnap_io.specs.Outside.{Told, IfTold, Takes, Writes, IsPrefix, Rose, untouched}
+use Rattle.std.specs.Prelude.{◌≡◌, ◌⊎◌, ℕ, true, false, List, [], ◌∷◌, ◌++◌, length, nat_lt, Option, Some, None, Result, Ok, Err, if◌then◌else◌}
+use Rattle.gnap_io.specs.Outside.{Told, IfTold, Writes, IsPrefix, Rose}
 use Rattle.histories.specs.Turns.{Turn, Each, messages_in, entries_in, bytes_in}
-use Rattle.histories.specs.Whole.{One, own_of}
+use Rattle.histories.specs.Whole.{One}
 use Rattle.gnap_model.specs.declared.objects.Setup.{Setup}
 use Rattle.gnap_model.specs.declared.calls.Call.{Call}
 use Rattle.gnap_model.specs.declared.calls.Call.TheVariants.{Lapse}
@@ -14,7 +14,6 @@ use Rattle.gnap_tool.specs.declared.call_lines.LineStep.TheVariants.{Say, Ask}
 use Rattle.gnap_tool.specs.declared.replay.Ended.{Ended}
 use Rattle.gnap_tool.specs.declared.replay.Ended.TheVariants.{Done, NoSetup, Failed, WriteFault, Memory, TooLong}
 use Rattle.gnap_tool.specs.CallLines.{line_step}
-use Rattle.gnap_tool.specs.Lines.{lines_of}
 use Rattle.gnap_tool.specs.Replies.{reply_line}
 
 -- ---- lines

@@ -1,5 +1,5 @@
 -- The setup of a replay.
-use Rattle.std.specs.Prelude.{◌≡◌, ℕ, List, Option, Some, None, Result, Ok, Err}
+use Rattle.std.specs.Prelude.{◌≡◌, List, Option, Some, None, Result, Ok, Err}
 use Rattle.histories.specs.History.{Legal}
 use Rattle.histories.specs.Steps.{EachOf}
 use Rattle.gnap_model.specs.declared.objects.Setup.{Setup}

@@ -1,4 +1,4 @@
-use Rattle.std.proofs.Common.{◌≡◌, ◌≢◌, ◌∙◌, ℕ, [], ◌∷◌, ◌++◌, refl, ap, sym, subst, arith, inl, inr}
+use Rattle.std.proofs.Common.{◌∙◌, [], ◌∷◌, ◌++◌, refl, ap, subst, arith, inl, inr}
 use Rattle.histories.specs.Histories.{legal-nil}
 use Rattle.std.specs.Prelude.{option_map}
 use Rattle.gnap_io.specs.Outside.{Rose, untouched}

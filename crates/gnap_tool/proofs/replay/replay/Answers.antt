@@ -1,5 +1,5 @@
 use Rattle.std.proofs.Common.{◌≡◌, ◌∙◌, ℕ, List, [], sym, subst, refl, arith, inl}
-use Rattle.std.specs.Prelude.{Option, Some, None}
+use Rattle.std.specs.Prelude.{Some, None}
 use Rattle.histories.specs.Histories.{legal-nil}
 use Rattle.gnap_history.specs.Gnap.{gnap}
 use Rattle.gnap_tool.specs.declared.replay.Ended.TheVariants.{Failed, Memory, TooLong}
