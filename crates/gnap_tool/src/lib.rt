@@ -10,5 +10,7 @@ mod commands;
 mod line_reader;
 mod replay;
 mod replies;
+#[cfg(test)]
+mod tests;
 
 pub use commands::run;
