@@ -21,7 +21,7 @@ use Rattle.gnap_tool.specs.declared.replay.Ended.{Ended}
 use Rattle.gnap_tool.specs.declared.replay.Ended.TheVariants.{Done, NoSetup, Failed, WriteFault, Memory, TooLong}
 use Rattle.gnap_tool.specs.Lines.{IsLine, lines_of, onto_first}
 use Rattle.gnap_tool.specs.Reading.{Came, ReadsLine, IsAtEnd}
-use Rattle.gnap_tool.specs.Replays.{Replayed, EndsAs, EndsWithoutSetup, TookAll, first_of, after_first, setup_in}
+use Rattle.gnap_tool.specs.Replays.{Replayed, EndsAs, EndsWithoutSetup, EndsAt, Took, first_of, after_first, setup_in}
 use Rattle.gnap_tool.specs.Replaying.{Replays}
 use Rattle.gnap_tool.specs.Setups.{IsSetupAlone, IsLoneHistory}
 use Rattle.gnap_tool.proofs.LineTexts.{line_ended, line_last}
@@ -58,6 +58,14 @@ pub told_after : (s s1 : Option Told) (before : Told) (P : Told → Told → Typ
 told_after None s1 before P is told = absurd cc
 told_after (Some x) None before P is told = absurd told
 told_after (Some x) (Some y) before P is told = let same : x ≡ before = cc in (y, refl, subst (λ (z : Told). P z y) same told)
+
+took : (ended : Ended) (told : Told) (s : Option Told) → s ≡ Some told → EndsAt ended (length told.taken) → Took ended s
+took Done told s is at = let P : Option Told → Type 0 = λ t. Took Done t in subst P (sym is) at
+took TooLong told s is at = let P : Option Told → Type 0 = λ t. Took TooLong t in subst P (sym is) at
+took NoSetup told s is at = tt
+took Failed told s is at = tt
+took WriteFault told s is at = tt
+took Memory told s is at = tt
 
 module _ (bytes first held0 held1 : List ℕ) (taken0 taken1 : ℕ) (s s1 : Option Told) (empty : held0 ≡ []) (told : s ≡ Some (untouched bytes)) where
   -- what the source tells after its first line was read
@@ -104,14 +112,15 @@ module _ (bytes first held0 held1 : List ℕ) (taken0 taken1 : ℕ) (s s1 : Opti
       let size : length first ≤ length read.full = omega (arith, ap length (read.kept (λ no. cc)), length-take 1048577 read.full) in
       setup_long (first_of (lines_of bytes)) (omega (arith, long, size, ap length begins, length-append read.full (first_of (lines_of rest))))
 
-  -- so many bytes were taken as were counted
+  -- as many bytes were taken as were counted
   pub took_all : (end : LineEnd) → (read : ReadsLine 1048576 first held0 held1 taken0 taken1 s s1 end) → taken0 ≡ 0 → (b : List ℕ) (taken2 : ℕ) (s2 : Option Told) → Came b taken1 taken2 s1 s2
-      → taken2 ≡ 1073741824 → TookAll s2
-  took_all end read start b taken2 s2 came all =
+      → (ended : Ended) → EndsAt ended taken2 → Took ended s2
+  took_all end read start b taken2 s2 came ended at =
       let t = first_told end read in
       let u = told_after s1 s2 t.0 (Takes b) t.1 came.takes in
-      let size : length u.0.taken ≡ 1073741824 = omega (arith, ap length u.2.taken, ap length t.2.taken, length-append t.0.taken b, read.came.counted, came.counted, start, all) in
-      subst TookAll (sym u.1) size
+      let size : taken2 ≡ length u.0.taken = omega (arith, ap length u.2.taken, ap length t.2.taken, length-append t.0.taken b, read.came.counted, came.counted, start) in
+      let A : ℕ → Type 0 = λ n. EndsAt ended n in
+      took ended u.0 s2 u.1 (subst A size at)
 
 -- ---- the one history
 
@@ -148,6 +157,14 @@ alone_without reading Memory alone is = tt
 alone_without reading Failed alone is = absurd alone
 alone_without reading WriteFault alone is = absurd alone
 alone_without reading TooLong alone is = absurd alone
+
+pub alone_at : (reading : Option Setup) (ended : Ended) (taken : ℕ) → IsSetupAlone ended reading → taken < 1073741824 → EndsAt ended taken
+alone_at reading Done taken alone few = few
+alone_at reading NoSetup taken alone few = tt
+alone_at reading Memory taken alone few = tt
+alone_at reading Failed taken alone few = absurd alone
+alone_at reading WriteFault taken alone few = absurd alone
+alone_at reading TooLong taken alone few = absurd alone
 
 pub whole_replayed : (setup : Setup) (bytes first held0 held1 : List ℕ) (taken0 taken1 taken2 : ℕ) (s s1 s2 o o2 : Option Told) (ended : Ended)
     → held0 ≡ [] → (told : s ≡ Some (untouched bytes)) → (read : ReadsLine 1048576 first held0 held1 taken0 taken1 s s1 line_ends.Whole)

@@ -1,5 +1,5 @@
 -- What a replay does with the lines of its file, and what it prints.
-use Rattle.std.specs.Prelude.{◌≡◌, ◌⊎◌, ℕ, true, false, List, [], ◌∷◌, ◌++◌, length, nat_lt, Option, Some, None, Result, Ok, Err, if◌then◌else◌}
+use Rattle.std.specs.Prelude.{◌≡◌, ◌⊎◌, ◌<◌, ℕ, true, false, List, [], ◌∷◌, ◌++◌, length, nat_lt, Option, Some, None, IfSome, Result, Ok, Err, if◌then◌else◌}
 use Rattle.gnap_io.specs.Outside.{Told, IfTold, Writes, IsPrefix, Rose}
 use Rattle.histories.specs.Turns.{Turn, Each, messages_in, entries_in, bytes_in}
 use Rattle.histories.specs.Whole.{One}
@@ -117,7 +117,14 @@ abbrev pub CountsWrites : Ended → ℕ → ℕ → Type 0
 CountsWrites WriteFault faults faults_now = Rose faults faults_now
 CountsWrites _ faults faults_now = faults_now ≡ faults
 
--- as many bytes were taken as may be, without the end of the input
-abbrev pub TookAll : Option Told → Type 0
-TookAll None = Unit {0}
-TookAll (Some told) = length told.taken ≡ 1073741824
+-- so many bytes were taken: as many as may be where the replay ended by that, and fewer where it was done
+abbrev pub EndsAt : Ended → ℕ → Type 0
+EndsAt Done taken = taken < 1073741824
+EndsAt TooLong taken = taken ≡ 1073741824
+EndsAt _ taken = Unit {0}
+
+-- the same of what a source tells
+abbrev pub Took : Ended → Option Told → Type 0
+Took Done told = IfSome told (λ t. length t.taken < 1073741824)
+Took TooLong told = IfSome told (λ t. length t.taken ≡ 1073741824)
+Took _ told = Unit {0}

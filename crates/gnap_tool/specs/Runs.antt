@@ -7,7 +7,7 @@ use Rattle.gnap_io.specs.declared.world.Opening.TheVariants.{File}
 use Rattle.gnap_model.specs.declared.objects.Setup.{Setup}
 use Rattle.gnap_tool.specs.declared.replay.Ended.{Ended}
 use Rattle.gnap_tool.specs.declared.replay.Ended.TheVariants.{Done, NoSetup, Failed, WriteFault, Memory, TooLong}
-use Rattle.gnap_tool.specs.Replays.{Replayed, EndsWithoutSetup, TookAll}
+use Rattle.gnap_tool.specs.Replays.{Replayed, EndsWithoutSetup, Took}
 
 -- a word that may be an argument: it isn't empty, and doesn't begin with `-`
 abbrev pub is_argument : List ℕ → Bool
@@ -54,4 +54,8 @@ HasReadFault {Handle} faults before after =
 
 -- the file that was taken back had as many bytes read as may be, without its end
 abbrev pub HasReadAll : {Handle : Type 0} → (Handle → Option Told) → WorldState Handle → WorldState Handle → Type 0
-HasReadAll {Handle} told before after = (file : Handle) × (after.files ≡ before.files ++ file ∷ []) × TookAll (told file)
+HasReadAll {Handle} told before after = (file : Handle) × (after.files ≡ before.files ++ file ∷ []) × Took TooLong (told file)
+
+-- the file that was taken back had fewer bytes read than that
+abbrev pub HasReadFewer : {Handle : Type 0} → (Handle → Option Told) → WorldState Handle → WorldState Handle → Type 0
+HasReadFewer {Handle} told before after = (file : Handle) × (after.files ≡ before.files ++ file ∷ []) × Took Done (told file)

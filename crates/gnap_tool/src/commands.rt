@@ -3,7 +3,7 @@ ghost use Rattle.std.specs.Prelude.{◌≡◌, ◌≢◌, ◌↔◌, Some, None,
 ghost use Rattle.gnap_io.specs.Outside.{Rose};
 ghost use Rattle.gnap_tool.specs.Lines.{lines_of};
 ghost use Rattle.gnap_tool.specs.Replays.{Replayed, EndsWithoutSetup, CountsWrites, first_of, after_first, setup_in};
-ghost use Rattle.gnap_tool.specs.Runs.{is_argument, replay_name, status_of, RunsReplay, RunsWithoutSetup, GivesBack, HasReadFault, HasReadAll};
+ghost use Rattle.gnap_tool.specs.Runs.{is_argument, replay_name, status_of, RunsReplay, RunsWithoutSetup, GivesBack, HasReadFault, HasReadAll, HasReadFewer};
 
 use crate::replay::{Ended, replay};
 use gnap_history::laws::what_holds;
@@ -58,6 +58,8 @@ fn run_replay<W: World, O: Sink>(alloc: Global, name: &str, world: &mut W, out: 
     ensures writes { CountsWrites result (O.faults out.old) (O.faults out.new) }
     ensures full { result ≡ Ended.TooLong → (bytes : _) → W.text world.old name.now ≡ Some bytes
         → HasReadAll W.File.told (W.state world.old) (W.state world.new) }
+    ensures whole { result ≡ Ended.Done → (bytes : _) → W.text world.old name.now ≡ Some bytes
+        → HasReadFewer W.File.told (W.state world.old) (W.state world.new) }
     ensures given_back { GivesBack name.now (W.state world.old) (W.state world.new) }
     ensures lent { (W.state world.new).lent ≡ (W.state world.old).lent }
 {
@@ -107,6 +109,8 @@ pub fn run<W: World, O: Sink>(alloc: Global, words: &[String], world: &mut W, ou
     ensures no_writes { result ≢ 5 → O.faults out.new ≡ O.faults out.old }
     ensures full { result ≡ 8 → (name bytes : _) → replay_name (map string_bytes words.now) ≡ Some name → W.text world.old name ≡ Some bytes
         → HasReadAll W.File.told (W.state world.old) (W.state world.new) }
+    ensures whole { result ≡ 0 → (name bytes : _) → replay_name (map string_bytes words.now) ≡ Some name → W.text world.old name ≡ Some bytes
+        → HasReadFewer W.File.told (W.state world.old) (W.state world.new) }
 
     ensures given_back { (name : _) → replay_name (map string_bytes words.now) ≡ Some name → GivesBack name (W.state world.old) (W.state world.new) }
     ensures lent { (W.state world.new).lent ≡ (W.state world.old).lent }

@@ -65,7 +65,7 @@ fn newline(bytes: &[u8]) -> Option<usize>
 
 impl LineReader {
     ghost use Rattle.gnap_io.specs.Outside.{IfTold};
-    ghost use Rattle.gnap_tool.specs.Reading.{held_by, MovesPart, ReadsLine, CountsFault};
+    ghost use Rattle.gnap_tool.specs.Reading.{held_by, MovesPart, ReadsLine, CountsFault, CountsTaken};
     ghost use Rattle.gnap_tool.specs.Refills.{Refills};
 
     pub fn new(alloc: Global) -> LineReader
@@ -144,7 +144,7 @@ impl LineReader {
         ensures read { ReadsLine limit line.new (held_by self.old) (held_by self.new) self.old.taken self.new.taken
             (S.told source.old) (S.told source.new) result }
         ensures cause { CountsFault result (S.faults source.old) (S.faults source.new) }
-        ensures full { result ≡ LineEnd.Full → self.new.taken ≡ 1073741824 }
+        ensures full { CountsTaken result self.new.taken }
         ensures long { result ≡ LineEnd.Long → (through ≡ false) × (limit < length line.new) }
     {
         loop {

@@ -5,7 +5,7 @@ ghost use Rattle.gnap_tool.specs.Reading.{held_by, Came};
 ghost use Rattle.gnap_tool.specs.Lines.{lines_of};
 ghost use Rattle.gnap_tool.specs.Replaying.{Replays};
 ghost use Rattle.gnap_objects.specs.Fits.{SetupFits};
-ghost use Rattle.gnap_tool.specs.Replays.{Replayed, EndsWithoutSetup, CountsReads, CountsWrites, TookAll, first_of, after_first, setup_in};
+ghost use Rattle.gnap_tool.specs.Replays.{Replayed, EndsWithoutSetup, CountsReads, CountsWrites, EndsAt, Took, first_of, after_first, setup_in};
 ghost use Rattle.gnap_tool.specs.Setups.{GivesSetup, IsSetupAlone, IsLoneHistory};
 
 use crate::answering::{After, answer_line};
@@ -69,7 +69,7 @@ pub fn replay_lines<D: Desk<M = Gnap>, S: Source, O: Sink>(
         (S.told source.old) (S.told source.new) (O.told out.old) (O.told out.new) result }
     ensures reads { CountsReads result (S.faults source.old) (S.faults source.new) }
     ensures writes { CountsWrites result (O.faults out.old) (O.faults out.new) }
-    ensures full { result ≡ Ended.TooLong → reader.new.taken ≡ 1073741824 }
+    ensures full { EndsAt result reader.new.taken }
 {
     let mut line = Bytes::new(alloc);
     loop {
@@ -119,7 +119,7 @@ fn replay_after<S: Source, O: Sink>(
     ensures came { (bytes : _) × Came bytes reader.old.taken reader.new.taken (S.told source.old) (S.told source.new) }
     ensures reads { CountsReads result (S.faults source.old) (S.faults source.new) }
     ensures writes { CountsWrites result (O.faults out.old) (O.faults out.new) }
-    ensures full { result ≡ Ended.TooLong → reader.new.taken ≡ 1073741824 }
+    ensures full { EndsAt result reader.new.taken }
 {
     let setup = match setup_in(alloc, first) {
         Ok(setup) => setup,
@@ -152,7 +152,7 @@ pub fn replay<S: Source, O: Sink>(alloc: Global, source: &mut S, out: &mut O) ->
         → EndsWithoutSetup result × (O.told out.new ≡ O.told out.old) }
     ensures reads { CountsReads result (S.faults source.old) (S.faults source.new) }
     ensures writes { CountsWrites result (O.faults out.old) (O.faults out.new) }
-    ensures full { result ≡ Ended.TooLong → (bytes : _) → S.told source.old ≡ Some (untouched bytes) → TookAll (S.told source.new) }
+    ensures full { (bytes : _) → S.told source.old ≡ Some (untouched bytes) → Took result (S.told source.new) }
 {
     what_holds();
     let mut reader = LineReader::new(alloc);

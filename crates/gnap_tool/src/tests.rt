@@ -1,6 +1,7 @@
 //! Runs over files in memory: what is printed for each line, and the statuses.
 use crate::run;
 use gnap_io::bytes::Bytes;
+use gnap_io::device::{Device, Failed, Sink};
 use gnap_io::memory::Mem;
 use gnap_io::memory_devices::{MemSink, MemSource};
 use gnap_io::memory_world::MemWorld;
@@ -15,6 +16,13 @@ const NOT_A_REQUEST: &str = "400 {\"error\":{\"code\":\"invalid_request\"}}\n";
 const NOT_A_CLIENT: &str = "401 {\"error\":{\"code\":\"invalid_client\"}}\n";
 
 const NOT_A_SERVER: &str = "401 {\"error\":{\"code\":\"invalid_resource_server\"}}\n";
+
+const TOO_LONG: &str = "413\n";
+
+const NOT_BUILT: &str = "404\n";
+
+const BEGIN: &str =
+    r#"{"at":1000,"body":{"access_token":{"access":["photos"]},"client":"c1"},"call":"begin","key":"c1"}"#;
 
 const DENIED: &str = "400 {\"error\":{\"code\":\"request_denied\"}}\n";
 
@@ -54,11 +62,11 @@ fn replayed(
     })
 }
 
-// A line after the setup is answered so.
-fn answers(alloc: Global, line: &str, printed: &str) -> Result<bool, Mem> {
+// The lines after the setup are answered so.
+fn answers(alloc: Global, lines: &[u8], printed: &str) -> Result<bool, Mem> {
     let mut text = Bytes::from_slice(alloc, SETUP.as_bytes())?;
     text.push(b'\n')?;
-    text.extend(line.as_bytes())?;
+    text.extend(lines)?;
     Ok(replayed(alloc, text, &[], &[], printed)? == Some(0))
 }
 
@@ -86,10 +94,10 @@ fn lines_are_refused_in_order(rt: HostRuntime) {
             r#"{"at":1,"call":"begin","key":"c1","draw":[18446744073709551616]}"#,
             NOT_A_REQUEST,
         ),
-        (r#"{"at":1,"call":"dance","key":"c9"}"#, "404\n"),
+        (r#"{"at":1,"call":"dance","key":"c9"}"#, NOT_BUILT),
         (
             r#"{"at":1,"call":"cancel","key":"c1","value":"x"}"#,
-            "404\n",
+            NOT_BUILT,
         ),
         (
             r#"{"at":1,"call":"begin","key":"c9","body":{"x":1.5}}"#,
@@ -119,7 +127,7 @@ fn lines_are_refused_in_order(rt: HostRuntime) {
         ),
     ];
     for (line, printed) in cases {
-        assert!(rt; answers(rt.alloc(), line, printed) == Ok(true));
+        assert!(rt; answers(rt.alloc(), line.as_bytes(), printed) == Ok(true));
     }
 }
 
@@ -138,18 +146,121 @@ fn numbers_of_a_body_are_whole(rt: HostRuntime) {
         ("1.5,\"more\":2", DENIED),
     ];
     for (number, printed) in cases {
-        assert!(rt; with_number(rt.alloc(), number, printed) == Ok(true));
+        assert!(rt; with_member(rt.alloc(), number, printed) == Ok(true));
     }
 }
 
-fn with_number(alloc: Global, number: &str, printed: &str) -> Result<bool, Mem> {
+fn with_member(alloc: Global, member: &str, printed: &str) -> Result<bool, Mem> {
     let mut line = String::from_str(
         alloc,
         r#"{"at":1,"call":"begin","key":"c1","body":{"client":"c1","access_token":{"access":["secrets"]},"more":"#,
     )?;
-    line.push_str(number)?;
+    line.push_str(member)?;
     line.push_str("}}")?;
-    answers(alloc, line.as_str(), printed)
+    answers(alloc, line.as_bytes(), printed)
+}
+
+#[test]
+fn numbers_of_named_members_are_whole(rt: HostRuntime) {
+    let alloc = rt.alloc();
+    for number in ["1.5", "-0", "1e3", "18446744073709551616", "7"] {
+        assert!(rt; with_client(alloc, number) == Ok(true));
+    }
+    assert!(rt; with_client(alloc, "\"c1\"") == Ok(false));
+}
+
+// The request is refused for the client that it names.
+fn with_client(alloc: Global, client: &str) -> Result<bool, Mem> {
+    let mut line = String::from_str(
+        alloc,
+        r#"{"at":1,"call":"begin","key":"c1","body":{"access_token":{"access":["secrets"]},"client":"#,
+    )?;
+    line.push_str(client)?;
+    line.push_str("}}")?;
+    answers(alloc, line.as_bytes(), NOT_A_REQUEST)
+}
+
+// So many arrays, one in another.
+fn nested(alloc: Global, levels: usize) -> Result<String, Mem> {
+    let mut text = String::new(alloc);
+    for _ in 0..levels {
+        text.push('[')?;
+    }
+    for _ in 0..levels {
+        text.push(']')?;
+    }
+    Ok(text)
+}
+
+fn with_levels(alloc: Global, levels: usize, printed: &str) -> Result<bool, Mem> {
+    with_member(alloc, nested(alloc, levels)?.as_str(), printed)
+}
+
+// The arrays stand in the body's object, and that in the line's.
+#[test]
+fn lines_have_127_levels(rt: HostRuntime) {
+    assert!(rt; with_levels(rt.alloc(), 125, DENIED) == Ok(true));
+    assert!(rt; with_levels(rt.alloc(), 126, NOT_A_REQUEST) == Ok(true));
+}
+
+#[test]
+fn lines_are_in_utf8(rt: HostRuntime) {
+    let alloc = rt.alloc();
+    let text = b"{\"at\":1,\"call\":\"dance\",\"key\":\"\xc3\xa9\"}";
+    let cut = b"{\"at\":1,\"call\":\"dance\",\"key\":\"\xc3\"}";
+    assert!(rt; answers(alloc, text, NOT_BUILT) == Ok(true));
+    assert!(rt; answers(alloc, cut, NOT_A_REQUEST) == Ok(true));
+}
+
+// A call that isn't built, in a line of so many bytes.
+fn of_length(alloc: Global, length: usize, printed: &str) -> Result<bool, Mem> {
+    let mut line = Bytes::from_slice(alloc, b"{\"at\":1,\"call\":\"dance\",\"key\":\"\"}")?;
+    for _ in line.len()..length {
+        line.push(b' ')?;
+    }
+    answers(alloc, line.as_slice(), printed)
+}
+
+#[test]
+fn lines_have_131072_bytes(rt: HostRuntime) {
+    assert!(rt; of_length(rt.alloc(), 131_072, NOT_BUILT) == Ok(true));
+    assert!(rt; of_length(rt.alloc(), 131_073, TOO_LONG) == Ok(true));
+}
+
+// A token lasts 3,600 seconds, and time doesn't go back.
+#[test]
+fn tokens_end(rt: HostRuntime) {
+    let alloc = rt.alloc();
+    let printed =
+        r#"200 {"access_token":{"access":["photos"],"expires_in":3600,"manage":{"access_token":{"value":"AAAAAAAAAAIAAAAAAAAAAAAAAAAAAAAA"},"uri":"https://as.example/token"},"value":"AAAAAAAAAAEAAAAAAAAAAAAAAAAAAAAA"},"continue":{"access_token":{"value":"AAAAAAAAAAMAAAAAAAAAAAAAAAAAAAAA"},"uri":"https://as.example/continue","wait":5}}
+200 {"access":["photos"],"active":true,"exp":4600,"iat":1000,"instance_id":"c1","iss":"https://as.example/gnap","key":"c1"}
+200 {"active":false}
+200 {"active":false}
+"#;
+    assert!(rt; asked_at(alloc, &["4599", "4600", "4599"], printed) == Ok(true));
+}
+
+// A token is asked about at these moments.
+fn asked_at(alloc: Global, moments: &[&str], printed: &str) -> Result<bool, Mem> {
+    let mut lines = String::from_str(alloc, BEGIN)?;
+    for moment in moments {
+        lines.push_str("\n{\"at\":")?;
+        lines.push_str(moment)?;
+        lines.push_str(
+            r#","body":{"access_token":"AAAAAAAAAAEAAAAAAAAAAAAAAAAAAAAA","resource_server":"r1"},"call":"introspect","key":"r1"}"#,
+        )?;
+    }
+    answers(alloc, lines.as_bytes(), printed)
+}
+
+#[test]
+fn values_show_the_words_of_their_line(rt: HostRuntime) {
+    let line =
+        b"{\"at\":1000,\"body\":{\"access_token\":{\"access\":[\"photos\"]},\"client\":\"c1\"},\"call\":\"begin\",\"draw\":[18446744073709551615,18446744073709551615],\"key\":\"c1\"}";
+    let printed =
+        r#"200 {"access_token":{"access":["photos"],"expires_in":3600,"manage":{"access_token":{"value":"AAAAAAAAAAIAAAAAAAAAAAAAAAAAAAAA"},"uri":"https://as.example/token"},"value":"AAAAAAAAAAH_____________________"},"continue":{"access_token":{"value":"AAAAAAAAAAMAAAAAAAAAAAAAAAAAAAAA"},"uri":"https://as.example/continue","wait":5}}
+"#;
+    assert!(rt; answers(rt.alloc(), line, printed) == Ok(true));
 }
 
 // So many spaces after a text, and a status.
@@ -162,13 +273,51 @@ fn padded(alloc: Global, text: &str, spaces: usize, printed: &str) -> Result<Opt
 }
 
 #[test]
-fn lines_have_limits(rt: HostRuntime) {
+fn setups_have_a_limit(rt: HostRuntime) {
     let alloc = rt.alloc();
     let setup = SETUP.len();
     assert!(rt; padded(alloc, SETUP, 1_048_576 - setup, "") == Ok(Some(0)));
     assert!(rt; padded(alloc, SETUP, 1_048_577 - setup, "") == Ok(Some(3)));
+    assert!(rt; padded(alloc, SETUP, 0, "") == Ok(Some(0)));
     assert!(rt; padded(alloc, "{}", 0, "") == Ok(Some(3)));
     assert!(rt; padded(alloc, "", 0, "") == Ok(Some(3)));
+}
+
+// A sink that takes one byte at a time.
+#[derive(Drop)]
+struct ByteSink {
+    sink: MemSink,
+}
+
+impl Device for ByteSink {
+    ghost faults = { λ out. ⟦<MemSink as Device>⟧.faults out.sink };
+
+    ghost told = { λ out. ⟦<MemSink as Device>⟧.told out.sink };
+}
+
+impl Sink for ByteSink {
+    fn write(&mut self, piece: &[u8]) -> Result<usize, Failed> {
+        self.sink.write(&piece[..1])
+    }
+}
+
+fn narrow(alloc: Global, bad_writes: &[u64]) -> Result<(u8, usize), Mem> {
+    let mut text = Bytes::from_slice(alloc, SETUP.as_bytes())?;
+    text.extend(b"\n{\n{")?;
+    let mut world = world(alloc, text, &[])?;
+    let words = words(alloc, "replay", "f")?;
+    let mut out = ByteSink {
+        sink: MemSink::new(alloc, 4096, Vec::from_slice(alloc, bad_writes)?)?,
+    };
+    let status = run(alloc, words.as_slice(), &mut world, &mut out);
+    Ok((status, out.sink.written().len()))
+}
+
+#[test]
+fn a_narrow_sink_gets_all_or_a_beginning(rt: HostRuntime) {
+    let length = 2 * NOT_A_REQUEST.len();
+    assert!(rt; narrow(rt.alloc(), &[]) == Ok((0, length)));
+    assert!(rt; narrow(rt.alloc(), &[50]) == Ok((5, 49)));
 }
 
 // A setup and two lines that are refused.

@@ -8,7 +8,7 @@ use Rattle.gnap_io.specs.declared.world.Opening.TheVariants.{File}
 use Rattle.gnap_history.specs.Gnap.{gnap}
 use Rattle.gnap_tool.specs.declared.replay.Ended.{Ended}
 use Rattle.gnap_tool.specs.declared.replay.Ended.TheVariants.{Failed, Memory}
-use Rattle.gnap_tool.specs.Replays.{CountsReads}
+use Rattle.gnap_tool.specs.Replays.{CountsReads, Took}
 use Rattle.gnap_tool.proofs.Files.{none_replayed}
 use Rattle.gnap_tool.proofs.commands.run_replay.Goals as goal
 
@@ -54,7 +54,17 @@ returns-clause-full g c = λ long bytes told.
     let files = ap (λ s. s.files) c.close_file.ensures.state ∙ ap (λ s. s.files ++ file ∷ []) c.in-Ok-open_file.ensures.state in
     let name = c.in-Ok.ensures ∙ c.as_bytes.ensures.value in
     let before = c.in-Ok-open_file.ensures.file.1 ∙ ap (option_map untouched) (ap (g.W.World.text c.args.world.now) name ∙ told) in
-    (file, files, c.replay-ended.ensures.full long bytes before)
+    let T : Ended → Type 0 = λ ended. Took ended (g.W.File.Device.told file) in
+    (file, files, subst T long (c.replay-ended.ensures.full bytes before))
+
+pub returns-clause-whole : goal.returns-clause-whole
+returns-clause-whole g c = λ done bytes told.
+    let file = c.replay-ended.new.source in
+    let files = ap (λ s. s.files) c.close_file.ensures.state ∙ ap (λ s. s.files ++ file ∷ []) c.in-Ok-open_file.ensures.state in
+    let name = c.in-Ok.ensures ∙ c.as_bytes.ensures.value in
+    let before = c.in-Ok-open_file.ensures.file.1 ∙ ap (option_map untouched) (ap (g.W.World.text c.args.world.now) name ∙ told) in
+    let T : Ended → Type 0 = λ ended. Took ended (g.W.File.Device.told file) in
+    (file, files, subst T done (c.replay-ended.ensures.full bytes before))
 
 pub returns-clause-given_back : goal.returns-clause-given_back
 returns-clause-given_back g c =

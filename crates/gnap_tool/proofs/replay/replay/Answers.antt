@@ -4,7 +4,7 @@ use Rattle.histories.specs.Histories.{legal-nil}
 use Rattle.gnap_history.specs.Gnap.{gnap}
 use Rattle.gnap_tool.specs.declared.replay.Ended.TheVariants.{Failed, Memory, TooLong}
 use Rattle.gnap_tool.specs.Replays.{Replayed}
-use Rattle.gnap_tool.proofs.Files.{whole_setup, last_setup, last_after, long_setup, took_all, none_replayed, alone_replayed, alone_without, whole_replayed}
+use Rattle.gnap_tool.proofs.Files.{whole_setup, last_setup, last_after, long_setup, took_all, none_replayed, alone_replayed, alone_without, alone_at, whole_replayed}
 use Rattle.gnap_tool.proofs.Reading.{came-none}
 use Rattle.gnap_tool.proofs.replay.replay.Goals as goal
 
@@ -21,8 +21,8 @@ returns-in-Whole-clause-no_setup g c = λ bytes told is.
     c.replay_after.ensures.no_setup (sym (whole_setup bytes _ _ _ _ _ _ _ c.new-reader.ensures.held told read) ∙ is)
 
 pub returns-in-Whole-clause-full : goal.returns-in-Whole-clause-full
-returns-in-Whole-clause-full g c = λ long bytes told.
-    took_all bytes _ _ _ _ _ _ _ c.new-reader.ensures.held told _ c.in-Whole.ensures.read c.new-reader.ensures.taken _ _ _ c.replay_after.ensures.came.1 (c.replay_after.ensures.full long)
+returns-in-Whole-clause-full g c = λ bytes told.
+    took_all bytes _ _ _ _ _ _ _ c.new-reader.ensures.held told _ c.in-Whole.ensures.read c.new-reader.ensures.taken _ _ _ c.replay_after.ensures.came.1 _ c.replay_after.ensures.full
 
 pub returns-in-Last-clause-history : goal.returns-in-Last-clause-history
 returns-in-Last-clause-history g c = λ bytes setup told is.
@@ -37,6 +37,11 @@ returns-in-Last-clause-no_setup g c = λ bytes told is.
     let read = c.in-Last.ensures.read in
     (alone_without _ c.only_setup.result c.only_setup.ensures (sym (last_setup bytes _ _ _ _ _ _ _ c.new-reader.ensures.held told read) ∙ is), refl)
 
+pub returns-in-Last-clause-full : goal.returns-in-Last-clause-full
+returns-in-Last-clause-full g c = λ bytes told.
+    took_all bytes _ _ _ _ _ _ _ c.new-reader.ensures.held told _ c.in-Last.ensures.read c.new-reader.ensures.taken [] _ _ (came-none _ _) c.only_setup.result
+    (alone_at _ c.only_setup.result _ c.only_setup.ensures c.in-Last.ensures.full)
+
 pub returns-in-Long-clause-history : goal.returns-in-Long-clause-history
 returns-in-Long-clause-history g c = λ bytes setup told is.
     let read = c.in-Long.ensures.read in
@@ -48,8 +53,8 @@ returns-in-Full-clause-history g c = λ bytes setup told is.
     none_replayed setup _ _ TooLong (tt, refl) (c.what_holds.ensures setup [] (legal-nil gnap setup) (omega arith))
 
 pub returns-in-Full-clause-full : goal.returns-in-Full-clause-full
-returns-in-Full-clause-full g c = λ long bytes told.
-    took_all bytes _ _ _ _ _ _ _ c.new-reader.ensures.held told _ c.in-Full.ensures.read c.new-reader.ensures.taken [] _ _ (came-none _ _) (c.in-Full.ensures.full refl)
+returns-in-Full-clause-full g c = λ bytes told.
+    took_all bytes _ _ _ _ _ _ _ c.new-reader.ensures.held told _ c.in-Full.ensures.read c.new-reader.ensures.taken [] _ _ (came-none _ _) TooLong c.in-Full.ensures.full
 
 pub returns-in-Failed-clause-history : goal.returns-in-Failed-clause-history
 returns-in-Failed-clause-history g c = λ bytes setup told is.
