@@ -1,6 +1,7 @@
 //! A core that adds.
 ghost use Rattle.std.specs.Prelude.{◌≡◌, ◌+◌, [], ◌∷◌, ◌++◌, OnOk, OnErr};
-ghost use Rattle.adding_machine.specs.Adding.{capped};
+ghost use Rattle.adding_machine.specs.Adding.{capped, added};
+ghost use Rattle.histories.specs.History.{notes_of};
 
 use crate::adding::{Adding, Call, Reply};
 use gnap_io::memory::Mem;
@@ -35,8 +36,10 @@ impl Adder {
         }
     }
 
-    /// The sum so far.
-    pub fn total(&self) -> u64 {
+    /// The start and all amounts of the history that it stands for, summed up to the end of the type.
+    pub fn total(&self) -> u64
+        ensures { (h : _) → ⟦<Adder as Core>⟧.stands self.now h → result ≡ capped (⟦<Adder as Core>⟧.rules self.now + added (notes_of h)) }
+    {
         self.total
     }
 }
