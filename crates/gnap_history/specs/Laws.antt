@@ -4,8 +4,11 @@ use Rattle.histories.specs.History.{now, notes_of}
 use Rattle.gnap_model.specs.Common.{Text, AreDistinct}
 use Rattle.gnap_model.specs.Keys.{key_of, server_names}
 use Rattle.gnap_model.specs.Judging.{serves_all, active}
+use Rattle.gnap_model.specs.Refusals.{HasCause}
 use Rattle.gnap_model.specs.Provenance.{is_active, tells_all, drawn_by, IsOnce, IsRefusedAfter}
 use Rattle.gnap_model.specs.declared.calls.Call.TheVariants.{Introspect}
+use Rattle.gnap_model.specs.declared.calls.Reply.TheVariants.{Error}
+use Rattle.gnap_model.specs.declared.objects.ErrorCode.{ErrorCode}
 use Rattle.gnap_model.specs.declared.objects.Setup.{Setup}
 use Rattle.gnap_history.specs.Fits.{ReplyFits}
 use Rattle.gnap_history.specs.Gnap.{GnapEntry}
@@ -20,6 +23,9 @@ pub record WhatHolds (rules : Setup) (h : List GnapEntry) : Type 0 where
   -- an introspection is answered Active exactly where requests and replies alone show a token that serves
   pub tells : tells_all rules (reverse h) ≡ true
   pub says_active : (before : List GnapEntry) (e : GnapEntry) (after : List GnapEntry) → h ≡ before ++ e ∷ after → SaysActiveAt rules before e
+  -- an error reply has the cause that belongs to its code (RFC 9635, section 3.6)
+  pub have_causes : (before : List GnapEntry) (e : GnapEntry) (after : List GnapEntry) (code : ErrorCode) → h ≡ before ++ e ∷ after → e.reply ≡ Error code
+      → HasCause rules (reverse (notes_of before)) (now before e.moment) e.call code
   -- all values that the replies draw differ
   pub values_differ : AreDistinct (drawn_by (reverse h))
   -- a continuation value succeeds at most once, and is refused after it was used up (RFC 9635, section 5)

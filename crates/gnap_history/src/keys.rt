@@ -1,28 +1,17 @@
 //! What the setup says of a key.
-ghost use Rattle.std.specs.Prelude.{◌≡◌, List, [], option_map};
+ghost use Rattle.std.specs.Prelude.{◌≡◌, List, []};
 ghost use Rattle.gnap_model.specs.Keys.{key_of, client_rights, server_names as names_of_server};
 
-use gnap_model::objects::{KeyRow, Role, Setup};
+use gnap_model::objects::{Role, Setup};
 use gnap_model::rights::{Names, Rights};
-
-/// The first row with this id.
-pub fn key_row<'a>(setup: &'a Setup, id: &[u8]) -> Option<&'a KeyRow>
-    ensures { option_map (λ k. k.now) result ≡ key_of setup.now id.now }
-{
-    for row in setup.keys.as_slice() {
-        if row.id.as_slice() == id {
-            return Some(row);
-        }
-    }
-    None
-}
+use gnap_objects::find_key;
 
 /// The rights that a client has at once; a key that is no client's has `none`.
 pub fn rights_at_once<'a>(setup: &'a Setup, id: &[u8], none: &'a Rights) -> &'a Rights
     requires { none.now ≡ [] }
     ensures { result.now ≡ client_rights (λ k. k.auto_rights) (key_of setup.now id.now) }
 {
-    match key_row(setup, id) {
+    match find_key(setup, id) {
         Some(row) => match row.role {
             Role::Client => &row.auto_rights,
             _ => none,
@@ -36,7 +25,7 @@ pub fn server_names<'a>(setup: &'a Setup, id: &[u8], none: &'a Names) -> &'a Nam
     requires { none.now ≡ [] }
     ensures { result.now ≡ names_of_server (key_of setup.now id.now) }
 {
-    match key_row(setup, id) {
+    match find_key(setup, id) {
         Some(row) => match row.role {
             Role::Server => &row.serves,
             _ => none,

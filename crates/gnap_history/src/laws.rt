@@ -5,7 +5,9 @@ ghost use Rattle.gnap_history.specs.Gnap.{gnap};
 ghost use Rattle.gnap_history.specs.Laws.{WhatHolds};
 
 use crate::grant_machine::Gnap;
-use gnap_model::laws::{doors_open_once, drawn_values_differ, says_active, tells_what_came};
+use gnap_model::laws::{
+    doors_open_once, drawn_values_differ, refusals_have_causes, says_active, tells_what_came,
+};
 use histories::machine::Desk;
 
 /// What holds of each legal history.
@@ -14,6 +16,7 @@ pub fn what_holds()
 {
     tells_what_came();
     says_active();
+    refusals_have_causes();
     drawn_values_differ();
     doors_open_once();
 }

@@ -1,8 +1,10 @@
-use Rattle.std.proofs.Common.{◌∙◌, ap}
-use Rattle.histories.specs.History.{now, notes_of}
+use Rattle.std.proofs.Common.{◌∙◌, List, ap, subst}
+use Rattle.histories.specs.History.{Legal, now, notes_of}
 use Rattle.gnap_model.specs.Answer.{gnap_answer}
 use Rattle.gnap_model.specs.Provenance.{is_active}
 use Rattle.gnap_model.specs.declared.calls.Call.{Call}
+use Rattle.gnap_model.specs.Legal.{grant_law}
+use Rattle.gnap_history.specs.Gnap.{GnapEntry}
 use Rattle.gnap_history.proofs.FitsThrough.{replies_fit}
 use Rattle.gnap_history.proofs.Weaker.{grant_legal}
 use Rattle.gnap_history.proofs.laws.what_holds.Goals as goal
@@ -16,6 +18,9 @@ returns c = λ rules h legal few.
           let follows = legal before e after is in
           ap is_active (follows.reply ∙ ap (λ (x : Call). (gnap_answer rules (notes_of before) (now before e.moment) e.draw x).reply) call)
           ∙ c.says_active.ensures rules (notes_of before) (now before e.moment) e.draw server value binding wanted;
+      have_causes = λ before e after code is error.
+          let L : List GnapEntry → Type 0 = λ x. Legal grant_law rules x in
+          c.refusals_have_causes.ensures rules before e after code (subst L is weaker) error;
       values_differ = c.drawn_values_differ.ensures rules h weaker few;
       values_once = λ value. c.doors_open_once.ensures rules h value weaker few;
       replies_fit = λ before e after is. replies_fit rules h before e after legal is;
