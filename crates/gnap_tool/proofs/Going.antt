@@ -11,8 +11,8 @@ use Rattle.histories.proofs.TurnLemmas.{messages_in-append, entries_in-next, byt
 use Rattle.gnap_model.specs.declared.objects.Setup.{Setup}
 use Rattle.gnap_history.specs.Gnap.{GnapEntry}
 use Rattle.gnap_tool.specs.declared.answering.After.{After}
-use Rattle.gnap_tool.specs.declared.replay.Ended.{Ended}
-use Rattle.gnap_tool.specs.declared.replay.Ended.TheVariants.{Done, Failed, WriteFault, Memory, TooLong}
+use Rattle.gnap_tool.specs.declared.ended.Ended.{Ended}
+use Rattle.gnap_tool.specs.declared.ended.Ended.TheVariants.{Done, Failed, WriteFault, Memory, TooLong}
 use Rattle.gnap_tool.specs.Lines.{IsLine, lines_of}
 use Rattle.gnap_tool.specs.Reading.{Came, IsAtEnd}
 use Rattle.gnap_tool.specs.Replays.{LineTurn, IsLineTurn, direct, called, starved, lapsed, unsaid, AllOn, EndsAs}

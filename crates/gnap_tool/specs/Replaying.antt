@@ -7,7 +7,7 @@ use Rattle.gnap_model.specs.declared.objects.Setup.{Setup}
 use Rattle.gnap_history.specs.Gnap.{GnapEntry}
 use Rattle.gnap_tool.specs.declared.answering.After.{After}
 use Rattle.gnap_tool.specs.declared.answering.After.TheVariants.{On, Starved, Cut}
-use Rattle.gnap_tool.specs.declared.replay.Ended.{Ended}
+use Rattle.gnap_tool.specs.declared.ended.Ended.{Ended}
 use Rattle.gnap_tool.specs.Lines.{IsLine, lines_of}
 use Rattle.gnap_tool.specs.Reading.{Came}
 use Rattle.gnap_tool.specs.Replays.{LineTurn, IsLineTurn, AllOn, EndsAs}

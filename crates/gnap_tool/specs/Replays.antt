@@ -1,6 +1,6 @@
 -- What a replay does with the lines of its file, and what it prints.
-use Rattle.std.specs.Prelude.{◌≡◌, ◌⊎◌, ◌<◌, ℕ, true, false, List, [], ◌∷◌, ◌++◌, length, nat_lt, Option, Some, None, IfSome, Result, Ok, Err, if◌then◌else◌}
-use Rattle.gnap_io.specs.Outside.{Told, IfTold, Writes, IsPrefix, Rose}
+use Rattle.std.specs.Prelude.{◌≡◌, ◌⊎◌, ℕ, true, false, List, [], ◌∷◌, ◌++◌, length, nat_lt, Option, Some, None, Result, Ok, Err, if◌then◌else◌}
+use Rattle.gnap_io.specs.Outside.{Told, IfTold, Writes, IsPrefix}
 use Rattle.histories.specs.Turns.{Turn, Each, messages_in, entries_in, bytes_in}
 use Rattle.histories.specs.Whole.{One}
 use Rattle.gnap_model.specs.declared.objects.Setup.{Setup}
@@ -11,8 +11,8 @@ use Rattle.gnap_objects.specs.declared.setups.SetupFault.{SetupFault}
 use Rattle.gnap_history.specs.Gnap.{GnapEntry, gnap}
 use Rattle.gnap_history.specs.Laws.{WhatHolds}
 use Rattle.gnap_tool.specs.declared.call_lines.LineStep.TheVariants.{Say, Ask}
-use Rattle.gnap_tool.specs.declared.replay.Ended.{Ended}
-use Rattle.gnap_tool.specs.declared.replay.Ended.TheVariants.{Done, NoSetup, Failed, WriteFault, Memory, TooLong}
+use Rattle.gnap_tool.specs.declared.ended.Ended.{Ended}
+use Rattle.gnap_tool.specs.declared.ended.Ended.TheVariants.{Done, NoSetup, Failed, WriteFault, Memory, NotInGrammar, TooLong}
 use Rattle.gnap_tool.specs.CallLines.{line_step}
 use Rattle.gnap_tool.specs.Replies.{reply_line}
 
@@ -57,6 +57,7 @@ pub record Cut (sent before piece : List ℕ) : Type 0 where
 abbrev pub EndsAs : Ended → List LineTurn → List (List ℕ) → List ℕ → Type 0
 EndsAs Done turns later sent = AllOn turns × (later ≡ []) × (sent ≡ bytes_in turns)
 EndsAs NoSetup turns later sent = ⊥
+EndsAs NotInGrammar turns later sent = ⊥
 EndsAs WriteFault turns later sent = (front : List LineTurn) × (last : LineTurn) × OneMore turns front last × Cut sent (bytes_in front) last.bytes
 EndsAs Memory turns later sent = (sent ≡ bytes_in turns) × (AllOn turns ⊎ ((front : List LineTurn) × (last : LineTurn) × OneMore turns front last))
 EndsAs Failed turns later sent = AllOn turns × (sent ≡ bytes_in turns)
@@ -106,25 +107,5 @@ pub record Replayed (setup : Setup) (lines : List (List ℕ)) (before after : Op
 abbrev pub EndsWithoutSetup : Ended → Type 0
 EndsWithoutSetup Done = ⊥
 EndsWithoutSetup WriteFault = ⊥
+EndsWithoutSetup NotInGrammar = ⊥
 EndsWithoutSetup _ = Unit {0}
-
--- a count of faults rose where the replay ended by a fault of that kind, and stays elsewhere
-abbrev pub CountsReads : Ended → ℕ → ℕ → Type 0
-CountsReads Failed faults faults_now = Rose faults faults_now
-CountsReads _ faults faults_now = faults_now ≡ faults
-
-abbrev pub CountsWrites : Ended → ℕ → ℕ → Type 0
-CountsWrites WriteFault faults faults_now = Rose faults faults_now
-CountsWrites _ faults faults_now = faults_now ≡ faults
-
--- so many bytes were taken: as many as may be where the replay ended by that, and fewer where it was done
-abbrev pub EndsAt : Ended → ℕ → Type 0
-EndsAt Done taken = taken < 1073741824
-EndsAt TooLong taken = taken ≡ 1073741824
-EndsAt _ taken = Unit {0}
-
--- the same of what a source tells
-abbrev pub Took : Ended → Option Told → Type 0
-Took Done told = IfSome told (λ t. length t.taken < 1073741824)
-Took TooLong told = IfSome told (λ t. length t.taken ≡ 1073741824)
-Took _ told = Unit {0}

@@ -1,4 +1,4 @@
-//! Runs over files in memory: what is printed for each line, and the statuses.
+//! Runs over files in memory: what is printed for each line and for each field, and the statuses.
 use crate::run;
 use gnap_io::bytes::Bytes;
 use gnap_io::device::{Device, Failed, Sink};
@@ -24,6 +24,8 @@ const NOT_BUILT: &str = "404\n";
 const BEGIN: &str =
     r#"{"at":1000,"body":{"access_token":{"access":["photos"]},"client":"c1"},"call":"begin","key":"c1"}"#;
 
+const NO_FIELD: &str = "not in the grammar\n";
+
 const DENIED: &str = "400 {\"error\":{\"code\":\"request_denied\"}}\n";
 
 // A world with one file, named f.
@@ -36,14 +38,34 @@ fn world(alloc: Global, text: Bytes, bad_reads: &[u64]) -> Result<MemWorld, Mem>
     Ok(MemWorld::new(files, Vec::new(alloc)))
 }
 
-fn words(alloc: Global, first: &str, second: &str) -> Result<Vec<String>, Mem> {
+fn words(alloc: Global, parts: &[&str]) -> Result<Vec<String>, Mem> {
     let mut words = Vec::new(alloc);
-    words.push(String::from_str(alloc, first)?)?;
-    words.push(String::from_str(alloc, second)?)?;
+    for part in parts {
+        words.push(String::from_str(alloc, part)?)?;
+    }
     Ok(words)
 }
 
-// The status of a replay of the text, where this is printed.
+// The status of a command over the text, where this is printed.
+fn ran(
+    alloc: Global,
+    parts: &[&str],
+    text: Bytes,
+    bad_reads: &[u64],
+    bad_writes: &[u64],
+    printed: &[u8],
+) -> Result<Option<u8>, Mem> {
+    let mut world = world(alloc, text, bad_reads)?;
+    let words = words(alloc, parts)?;
+    let mut out = MemSink::new(alloc, 32_768, Vec::from_slice(alloc, bad_writes)?)?;
+    let status = run(alloc, words.as_slice(), &mut world, &mut out);
+    Ok(if out.written() == printed {
+        Some(status)
+    } else {
+        None
+    })
+}
+
 fn replayed(
     alloc: Global,
     text: Bytes,
@@ -51,15 +73,14 @@ fn replayed(
     bad_writes: &[u64],
     printed: &str,
 ) -> Result<Option<u8>, Mem> {
-    let mut world = world(alloc, text, bad_reads)?;
-    let words = words(alloc, "replay", "f")?;
-    let mut out = MemSink::new(alloc, 4096, Vec::from_slice(alloc, bad_writes)?)?;
-    let status = run(alloc, words.as_slice(), &mut world, &mut out);
-    Ok(if out.written() == printed.as_bytes() {
-        Some(status)
-    } else {
-        None
-    })
+    ran(
+        alloc,
+        &["replay", "f"],
+        text,
+        bad_reads,
+        bad_writes,
+        printed.as_bytes(),
+    )
 }
 
 // The lines after the setup are answered so.
@@ -301,11 +322,14 @@ impl Sink for ByteSink {
     }
 }
 
-fn narrow(alloc: Global, bad_writes: &[u64]) -> Result<(u8, usize), Mem> {
-    let mut text = Bytes::from_slice(alloc, SETUP.as_bytes())?;
-    text.extend(b"\n{\n{")?;
+fn narrow(
+    alloc: Global,
+    parts: &[&str],
+    text: Bytes,
+    bad_writes: &[u64],
+) -> Result<(u8, usize), Mem> {
     let mut world = world(alloc, text, &[])?;
-    let words = words(alloc, "replay", "f")?;
+    let words = words(alloc, parts)?;
     let mut out = ByteSink {
         sink: MemSink::new(alloc, 4096, Vec::from_slice(alloc, bad_writes)?)?,
     };
@@ -313,11 +337,32 @@ fn narrow(alloc: Global, bad_writes: &[u64]) -> Result<(u8, usize), Mem> {
     Ok((status, out.sink.written().len()))
 }
 
+// Two lines that are refused.
+fn narrow_replay(alloc: Global, bad_writes: &[u64]) -> Result<(u8, usize), Mem> {
+    let mut text = Bytes::from_slice(alloc, SETUP.as_bytes())?;
+    text.extend(b"\n{\n{")?;
+    narrow(alloc, &["replay", "f"], text, bad_writes)
+}
+
+fn narrow_field(alloc: Global, text: &[u8], bad_writes: &[u64]) -> Result<(u8, usize), Mem> {
+    narrow(
+        alloc,
+        &["field", "item", "f"],
+        Bytes::from_slice(alloc, text)?,
+        bad_writes,
+    )
+}
+
 #[test]
 fn a_narrow_sink_gets_all_or_a_beginning(rt: HostRuntime) {
+    let alloc = rt.alloc();
     let length = 2 * NOT_A_REQUEST.len();
-    assert!(rt; narrow(rt.alloc(), &[]) == Ok((0, length)));
-    assert!(rt; narrow(rt.alloc(), &[50]) == Ok((5, 49)));
+    assert!(rt; narrow_replay(alloc, &[]) == Ok((0, length)));
+    assert!(rt; narrow_replay(alloc, &[50]) == Ok((5, 49)));
+    assert!(rt; narrow_field(alloc, b"1.50", &[]) == Ok((0, 4)));
+    assert!(rt; narrow_field(alloc, b"1.50", &[4]) == Ok((5, 3)));
+    assert!(rt; narrow_field(alloc, b"1.", &[]) == Ok((7, NO_FIELD.len())));
+    assert!(rt; narrow_field(alloc, b"1.", &[5]) == Ok((5, 4)));
 }
 
 // A setup and two lines that are refused.
@@ -341,18 +386,114 @@ fn faults_have_their_statuses(rt: HostRuntime) {
     assert!(rt; with_faults(alloc, &[], &[2], NOT_A_REQUEST) == Ok(Some(5)));
 }
 
-fn status(alloc: Global, first: &str, second: &str) -> Result<u8, Mem> {
-    let mut world = world(alloc, Bytes::new(alloc), &[])?;
-    let words = words(alloc, first, second)?;
-    let mut out = MemSink::new(alloc, 0, Vec::new(alloc))?;
-    Ok(run(alloc, words.as_slice(), &mut world, &mut out))
+// The status of a field of this kind, where this is printed.
+fn field(alloc: Global, kind: &str, text: &str, printed: &str) -> Result<Option<u8>, Mem> {
+    ran(
+        alloc,
+        &["field", kind, "f"],
+        Bytes::from_slice(alloc, text.as_bytes())?,
+        &[],
+        &[],
+        printed.as_bytes(),
+    )
+}
+
+// What RFC 8941, section 4, makes of them. One LF at the end of the file is no part of the text.
+#[test]
+fn fields_are_printed_or_refused(rt: HostRuntime) {
+    let cases = [
+        ("dictionary", "a=1, b;x=?0, a=2", 0, "a=2, b;x=?0\n"),
+        ("dictionary", "a, b", 0, "a, b\n"),
+        ("dictionary", "a, (b)", 7, NO_FIELD),
+        ("list", "a, (b)", 0, "a, (b)\n"),
+        ("list", "(  a  :YQ: );x=?1 ,b", 0, "(a :YQ==:);x, b\n"),
+        ("list", "a, b,", 7, NO_FIELD),
+        ("list", "", 0, "\n"),
+        ("list", "\n", 0, "\n"),
+        ("item", "", 7, NO_FIELD),
+        ("item", "a, b", 7, NO_FIELD),
+        ("item", "999999999999999", 0, "999999999999999\n"),
+        ("item", "1000000000000000", 7, NO_FIELD),
+        ("item", "1.50", 0, "1.5\n"),
+        ("item", "1.", 7, NO_FIELD),
+        ("item", "-0", 0, "0\n"),
+        ("item", ":YQ:", 0, ":YQ==:\n"),
+        ("item", ":YR==:", 7, NO_FIELD),
+        ("item", "a\n", 0, "a\n"),
+        ("item", "a\n\n", 7, NO_FIELD),
+        ("item", "a\r\n", 7, NO_FIELD),
+    ];
+    for (kind, text, status, printed) in cases {
+        assert!(rt; field(rt.alloc(), kind, text, printed) == Ok(Some(status)));
+    }
+}
+
+// The status of a token of so many bytes. Its line is printed where no read and no write fails, and else nothing.
+fn token(
+    alloc: Global,
+    length: usize,
+    bad_reads: &[u64],
+    bad_writes: &[u64],
+) -> Result<Option<u8>, Mem> {
+    let mut text = Bytes::new(alloc);
+    for _ in 0..length {
+        text.push(b'a')?;
+    }
+    let mut printed = Bytes::new(alloc);
+    if bad_reads.is_empty() && bad_writes.is_empty() {
+        printed.extend(text.as_slice())?;
+        printed.push(b'\n')?;
+    }
+    ran(
+        alloc,
+        &["field", "item", "f"],
+        text,
+        bad_reads,
+        bad_writes,
+        printed.as_slice(),
+    )
+}
+
+// A file is read in pieces of 16,384 bytes.
+#[test]
+fn long_fields_are_read_to_their_end(rt: HostRuntime) {
+    let alloc = rt.alloc();
+    for length in [1, 16_383, 16_384, 16_385, 32_767] {
+        assert!(rt; token(alloc, length, &[], &[]) == Ok(Some(0)));
+    }
+    for bad_read in [1, 2, 3] {
+        assert!(rt; token(alloc, 20_000, &[bad_read], &[]) == Ok(Some(4)));
+    }
+    assert!(rt; token(alloc, 20_000, &[], &[1]) == Ok(Some(5)));
+}
+
+// The status of words, where nothing is printed.
+fn status(alloc: Global, parts: &[&str]) -> Result<Option<u8>, Mem> {
+    ran(alloc, parts, Bytes::new(alloc), &[], &[], b"")
 }
 
 #[test]
 fn words_are_commands_or_not(rt: HostRuntime) {
     let alloc = rt.alloc();
-    assert!(rt; status(alloc, "replay", "g") == Ok(4));
-    assert!(rt; status(alloc, "replay", "-f") == Ok(2));
-    assert!(rt; status(alloc, "replay", "") == Ok(2));
-    assert!(rt; status(alloc, "as", "f") == Ok(2));
+    assert!(rt; status(alloc, &["replay", "g"]) == Ok(Some(4)));
+    assert!(rt; status(alloc, &["field", "item", "g"]) == Ok(Some(4)));
+    let others: [&[&str]; 14] = [
+        &[],
+        &["replay"],
+        &["replay", "-f"],
+        &["replay", ""],
+        &["replay", "f", "f"],
+        &["replay", "item", "f"],
+        &["as", "f"],
+        &["field"],
+        &["field", "item"],
+        &["field", "items", "f"],
+        &["field", "", "f"],
+        &["field", "item", "-f"],
+        &["field", "item", ""],
+        &["field", "item", "f", "f"],
+    ];
+    for words in others {
+        assert!(rt; status(alloc, words) == Ok(Some(2)));
+    }
 }
