@@ -16,7 +16,7 @@ use Rattle.structured_fields.proofs.Whole.{dictionary_of_takes, dictionary_of_ag
 use Rattle.content_digest.specs.declared.fault.DigestFault.{DigestFault}
 use Rattle.content_digest.specs.declared.fault.DigestFault.TheVariants.{NotAField, NoKnown, Differs, OutOfMemory}
 use Rattle.content_digest.specs.Digest.{is_known, digest_by, sequence_of, has_right_kind, are_sequences, has_known}
-use Rattle.content_digest.specs.Judged.{IsRight, Says, Gives, AnswersWhatIsSo, difference, first_difference, answer_to, judged, checked}
+use Rattle.content_digest.specs.Judged.{Fits, IsRight, Says, Gives, AnswersWhatIsSo, difference, first_difference, answer_to, judged, checked}
 
 abbrev Entry : Type 0
 Entry = List ℕ × Member
@@ -198,10 +198,14 @@ read_as : (field body : List ℕ) (d : List Entry) → IsDictionaryText field d 
 unfolding checked
 read_as field body d is = rw (dictionary_of_again field d is) refl
 
+-- a field that fits passes
+pub fits_checked : (field body : List ℕ) → Fits field body → checked field body ≡ Ok tt
+unfolding checked judged
+fits_checked field body s = read_as field body s.dictionary s.is ∙ rw (all_kinds body s.dictionary s.all, s.some, none_differs body s.dictionary s.all) refl
+
 pub says_checked : (field body : List ℕ) (a : Result (Unit {0}) DigestFault) → IsBytes field → Says field body a → checked field body ≡ a
 unfolding checked judged
-says_checked field body (Ok u) fits s =
-    read_as field body s.dictionary s.is ∙ rw (all_kinds body s.dictionary s.all, s.some, none_differs body s.dictionary s.all) refl
+says_checked field body (Ok u) fits s = fits_checked field body s
 says_checked field body (Err NoKnown) fits s =
     read_as field body s.dictionary s.is ∙ rw (none_known s.dictionary s.none, s.none) refl
 says_checked field body (Err (Differs wanted found)) fits s =

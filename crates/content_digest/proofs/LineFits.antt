@@ -32,7 +32,7 @@ unfolding digest_bytes
 digest_is_bytes h zero i = omega arith
 digest_is_bytes h (suc n) i = append_bytes (digest_bytes h n) _ (digest_is_bytes h n) (word_bytes _) i
 
-sha_bytes : (body : List ℕ) → IsBytes (sha256 body)
+pub sha_bytes : (body : List ℕ) → IsBytes (sha256 body)
 unfolding sha256
 sha_bytes body = digest_is_bytes _ 8
 

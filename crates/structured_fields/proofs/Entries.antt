@@ -120,7 +120,8 @@ module _ {V : Type 0} where
   absent [] n v ps d = refl
   absent (q ∷ qs) n v ps d = rw (turned q.0 n (apart_if qs n v ps q.0 d.0)) (absent qs n v ps d.1)
 
-  goes_last : (qs : List (List ℕ × V)) (n : List ℕ) (v : V) → value_at qs n ≡ None → with_value qs n v ≡ qs ++ (n, v) ∷ []
+  -- a new name goes last
+  pub goes_last : (qs : List (List ℕ × V)) (n : List ℕ) (v : V) → value_at qs n ≡ None → with_value qs n v ≡ qs ++ (n, v) ∷ []
   goes_last [] n v e = refl
   goes_last (q ∷ qs) n v e = by (bytes_eq n q.0) e (goes_last qs n v)
     where

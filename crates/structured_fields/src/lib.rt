@@ -24,7 +24,9 @@ pub use fault::FieldFault;
 pub use item::{Dictionary, InnerList, Item, Items, List, Member, Params};
 pub use named::Named;
 pub use reading::{read_dictionary, read_item, read_list};
-pub use writing::{write_dictionary, write_inner, write_item, write_list};
+pub use writing::{
+    append_inner, append_item, write_dictionary, write_inner, write_item, write_list,
+};
 
 #[cfg(test)]
 mod tests;

@@ -197,6 +197,24 @@ fn put_entries(alloc: Global, out: &mut Bytes, v: &Dictionary) -> Result<(), Mem
     Ok(())
 }
 
+/// The text with the canonical text of an item behind it (RFC 8941, section 4.1.3). At an `Err` it is let go.
+pub fn append_item(alloc: Global, text: Bytes, v: &Item) -> Result<Bytes, Mem>
+    ensures { IfOk result (λ b. b ≡ text ++ item_text v.now) }
+{
+    let mut out = text;
+    put_item(alloc, &mut out, v)?;
+    Ok(out)
+}
+
+/// The text with the canonical text of an inner list behind it (RFC 8941, section 4.1.1.1). At an `Err` it is let go.
+pub fn append_inner(alloc: Global, text: Bytes, v: &InnerList) -> Result<Bytes, Mem>
+    ensures { IfOk result (λ b. b ≡ text ++ inner_text v.now) }
+{
+    let mut out = text;
+    put_inner(alloc, &mut out, v)?;
+    Ok(out)
+}
+
 /// The canonical text of an item (RFC 8941, section 4.1.3).
 pub fn write_item(alloc: Global, v: &Item) -> Result<Bytes, Mem>
     requires { IsItemInRange v.now }

@@ -1,0 +1,3 @@
+pub mod Blocks
+pub mod Mapped
+pub mod Rings

@@ -1,0 +1,55 @@
+//! HMAC-SHA-256 (RFC 2104, section 2).
+ghost use Rattle.std.specs.Prelude.{◌≡◌, ◌↔◌, IsTrue};
+ghost use Rattle.hmac_key.specs.Hmac.{block_key, xor_each, hmac_sha256};
+
+use sha2::{Digest, Sha256};
+
+// How many bytes a block of SHA-256 has (B in the RFC).
+const BLOCK_LEN: usize = 64;
+
+// The byte that the inner pad repeats.
+const IPAD: u8 = 0x36;
+
+// The byte that the outer pad repeats.
+const OPAD: u8 = 0x5c;
+
+fn block_of(key: &[u8]) -> [u8; BLOCK_LEN]
+    ensures { result ≡ block_key key.now }
+{
+    let mut block = [0; BLOCK_LEN];
+    if key.len() > BLOCK_LEN {
+        let digest = Sha256::digest(key);
+        block[..digest.len()].copy_from_slice(&digest);
+    } else {
+        block[..key.len()].copy_from_slice(key);
+    }
+    block
+}
+
+fn xored(block: [u8; BLOCK_LEN], pad: u8) -> [u8; BLOCK_LEN]
+    ensures { result ≡ xor_each pad block }
+{
+    block.map(|b| b ^ pad)
+}
+
+/// The HMAC-SHA-256 of a message under a key of any length: 32 bytes (RFC 2104, section 2). Takes no memory.
+#[tactic(auto, unfolding(crate::specs::Hmac::hmac_sha256))]
+pub fn hmac(key: &[u8], message: &[u8]) -> [u8; 32]
+    ensures { result ≡ hmac_sha256 key.now message.now }
+{
+    let block = block_of(key);
+    let mut inner = Sha256::new();
+    inner.update(&xored(block, IPAD));
+    inner.update(message);
+    let mut outer = Sha256::new();
+    outer.update(&xored(block, OPAD));
+    outer.update(&inner.finalize());
+    outer.finalize()
+}
+
+/// Whether two lists of bytes are equal. Takes no memory. That it takes the same time wherever they differ isn't claimed.
+pub fn same(a: &[u8], b: &[u8]) -> bool
+    ensures { IsTrue result ↔ (a.now ≡ b.now) }
+{
+    a == b
+}

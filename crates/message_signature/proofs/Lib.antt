@@ -1,0 +1,15 @@
+pub mod Examples
+pub mod Fields
+pub mod Lines
+pub mod Rest
+pub mod Tags
+pub mod Appended
+pub mod SignedFields
+pub mod SignedBase
+pub mod Passes
+pub mod SigningSteps
+pub mod AcceptedSteps
+pub mod AcceptedTests
+pub mod AcceptedTag
+pub mod AcceptedParts
+pub mod Accepted

@@ -1,0 +1,8 @@
+use Rattle.message_signature.proofs.Accepted.{verified_accepted, accepted_verified}
+use Rattle.message_signature.proofs.laws.accepted_laws.Goals as goal
+
+pub returns-clause-says : goal.returns-clause-says
+returns-clause-says c = λ m base ring now tag id is. verified_accepted m base ring now tag id is
+
+pub returns-clause-only : goal.returns-clause-only
+returns-clause-only c = λ m base ring now tag id accepted. accepted_verified m base ring now tag id accepted

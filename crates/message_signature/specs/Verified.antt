@@ -1,0 +1,185 @@
+-- What the verifying of a message's signature answers (RFC 9421, section 3.2, with this project's limits): the id of the key, or the first fault.
+use Rattle.std.specs.Prelude.{ℕ, ◌+◌, nat_le, Bool, true, false, not, ◌&&◌, ◌||◌, if◌then◌else◌, List, [], ◌∷◌, Option, Some, None, is_some, Result, Ok, Err, pos, negsuc, codes}
+use Rattle.std.specs.List.{list_all}
+use Rattle.std.specs.Str.{bytes_eq}
+use Rattle.gnap_io.specs.declared.message.Message.{Message}
+use Rattle.structured_fields.specs.declared.bare.Bare.{Bare}
+use Rattle.structured_fields.specs.declared.bare.Bare.TheVariants.{Integer, Decimal, Str, Token, Binary, Boolean}
+use Rattle.structured_fields.specs.declared.item.InnerList.{InnerList}
+use Rattle.structured_fields.specs.declared.item.Member.{Member}
+use Rattle.structured_fields.specs.declared.item.Member.TheVariants.{Item as Single, Inner}
+use Rattle.structured_fields.specs.Named.{value_at}
+use Rattle.structured_fields.specs.Reading.{dictionary_of}
+use Rattle.content_digest.specs.declared.fault.DigestFault.{DigestFault}
+use Rattle.content_digest.specs.Digest.{sequence_of}
+use Rattle.content_digest.specs.Judged.{checked}
+use Rattle.hmac_key.specs.Hmac.{hmac_sha256}
+use Rattle.message_signature.specs.declared.fault.SigFault.{SigFault}
+use Rattle.message_signature.specs.declared.fault.SigFault.TheVariants.{NoField, NotAField, NoTag, SeveralTags, Malformed, Unsupported, Uncovered, Created, Expired, Alg, UnknownKey, Differs, Digest}
+use Rattle.message_signature.specs.Components.{field_value}
+use Rattle.message_signature.specs.Base.{is_string, is_named, signature_base}
+use Rattle.message_signature.specs.Faults.{◌>>=◌, need, must}
+
+-- ---- the one signature with the tag
+
+-- an option of a bare item is this String
+abbrev pub is_text : List ℕ → Option Bare → Bool
+is_text s (Some v) = is_string s v
+is_text s None = false
+
+-- the inner list of a member, where it has this tag
+abbrev pub tagged_list : List ℕ → Member → Option InnerList
+tagged_list tag (Inner list) = if is_text tag (value_at list.params (codes "tag")) then Some list else None
+tagged_list tag (Single item) = None
+
+-- the inner lists with this tag, with their labels
+abbrev pub with_tag : List ℕ → List (List ℕ × Member) → List (List ℕ × InnerList)
+with_tag tag [] = []
+with_tag tag (e ∷ es) = put e.0 (tagged_list tag e.1) (with_tag tag es)
+  where
+    put : List ℕ → Option InnerList → List (List ℕ × InnerList) → List (List ℕ × InnerList)
+    put label (Some list) others = (label, list) ∷ others
+    put label None others = others
+
+abbrev pub only_one : {A : Type 0} → List A → Result A SigFault
+only_one [] = Err NoTag
+only_one (x ∷ []) = Ok x
+only_one (x ∷ y ∷ xs) = Err SeveralTags
+
+-- ---- its form
+
+-- the bytes of a signature under a label
+abbrev pub signature_under : List ℕ → List (List ℕ × Member) → Option (List ℕ)
+signature_under label signatures = bytes_of (value_at signatures label)
+  where
+    bytes_of : Option Member → Option (List ℕ)
+    bytes_of (Some member) = sequence_of member
+    bytes_of None = None
+
+abbrev pub is_integer : Bare → Bool
+is_integer (Integer n) = true
+is_integer (Decimal n) = false
+is_integer (Str s) = false
+is_integer (Token s) = false
+is_integer (Binary b) = false
+is_integer (Boolean b) = false
+
+abbrev pub is_any_string : Bare → Bool
+is_any_string (Integer n) = false
+is_any_string (Decimal n) = false
+is_any_string (Str s) = true
+is_any_string (Token s) = false
+is_any_string (Binary b) = false
+is_any_string (Boolean b) = false
+
+-- the parameter isn't there, or passes
+abbrev pub absent_or : (Bare → Bool) → Option Bare → Bool
+absent_or test None = true
+absent_or test (Some v) = test v
+
+-- Strings cover, and the parameters have their types (section 2.3)
+abbrev pub is_well_formed : InnerList → Bool
+is_well_formed list =
+    list_all (λ i. is_any_string i.bare) list.items
+    && absent_or is_integer (value_at list.params (codes "created")) && absent_or is_integer (value_at list.params (codes "expires"))
+    && absent_or is_any_string (value_at list.params (codes "keyid")) && absent_or is_any_string (value_at list.params (codes "alg"))
+
+-- ---- what it covers
+
+abbrev pub has_body : Message → Bool
+has_body m = not_empty m.body
+  where
+    not_empty : List ℕ → Bool
+    not_empty [] = false
+    not_empty (byte ∷ bytes) = true
+
+abbrev pub has_field : List ℕ → Message → Bool
+has_field name m = is_some (field_value name m.fields)
+
+-- The method and the target URI are covered, the digest of a body, and an access token that is presented (RFC 9635, section 7.3.1).
+abbrev pub covers_enough : Message → InnerList → Bool
+covers_enough m list =
+    is_named (codes "@method") list.items && is_named (codes "@target-uri") list.items
+    && (not (has_body m) || is_named (codes "content-digest") list.items)
+    && (not (has_field (codes "authorization") m) || is_named (codes "authorization") list.items)
+
+-- ---- its time, in seconds
+
+-- `created` is there, and at most 300 from now
+abbrev pub is_in_window : ℕ → Option Bare → Bool
+is_in_window now (Some (Integer (pos created))) = nat_le created (now + 300) && nat_le now (created + 300)
+is_in_window now (Some (Integer (negsuc before))) = nat_le (now + (before + 1)) 300
+is_in_window now _ = false
+
+-- now isn't past `expires`, where that is there
+abbrev pub is_not_expired : ℕ → Option Bare → Bool
+is_not_expired now (Some (Integer (pos expires))) = nat_le now expires
+is_not_expired now (Some (Integer (negsuc before))) = false
+is_not_expired now _ = true
+
+-- ---- its key, and the digest of the body
+
+-- the id and the secret, where the ring has the id
+abbrev pub key_in : List (List ℕ × List ℕ) → Option Bare → Option (List ℕ × List ℕ)
+key_in ring (Some (Str id)) = with_id (value_at ring id)
+  where
+    with_id : Option (List ℕ) → Option (List ℕ × List ℕ)
+    with_id (Some secret) = Some (id, secret)
+    with_id None = None
+key_in ring _ = None
+
+-- A Content-Digest field that is there passes, and where there is a body it is there.
+abbrev pub has_right_digest : Message → Bool
+has_right_digest m = passes (field_value (codes "content-digest") m.fields)
+  where
+    fits : Result (Unit {0}) DigestFault → Bool
+    fits (Ok u) = true
+    fits (Err fault) = false
+
+    passes : Option (List ℕ) → Bool
+    passes None = not (has_body m)
+    passes (Some field) = fits (checked field m.body)
+
+-- ---- the checks, in their order
+
+-- the fields `Signature-Input` and `Signature` (sections 4.1 and 4.2)
+abbrev pub signature_fields : Message → Result (List (List ℕ × Member) × List (List ℕ × Member)) SigFault
+signature_fields m = do
+  input ← need NoField (field_value (codes "signature-input") m.fields)
+  signature ← need NoField (field_value (codes "signature") m.fields)
+  inputs ← need NotAField (dictionary_of input)
+  signatures ← need NotAField (dictionary_of signature)
+  Ok (inputs, signatures)
+
+-- the one inner list with the tag, and the signature under its label
+abbrev pub tagged_in : List ℕ → List (List ℕ × Member) → List (List ℕ × Member) → Result (InnerList × List ℕ) SigFault
+tagged_in tag inputs signatures = do
+  one ← only_one (with_tag tag inputs)
+  _ ← must Malformed (is_well_formed one.1)
+  bytes ← need Malformed (signature_under one.0 signatures)
+  Ok (one.1, bytes)
+
+-- the signature with the tag: its inner list, and its bytes
+unfoldable pub tagged : Message → List ℕ → Result (InnerList × List ℕ) SigFault
+tagged m tag = do
+  both ← signature_fields m
+  tagged_in tag both.0 both.1
+
+-- the id of the key that signed the message to the server with this base, under this list and at this time
+unfoldable pub judged : Message → List ℕ → List (List ℕ × List ℕ) → ℕ → InnerList × List ℕ → Result (List ℕ) SigFault
+judged m base ring now one = do
+  text ← need Unsupported (signature_base m base one.0)
+  _ ← must Uncovered (covers_enough m one.0)
+  _ ← must Created (is_in_window now (value_at one.0.params (codes "created")))
+  _ ← must Expired (is_not_expired now (value_at one.0.params (codes "expires")))
+  _ ← must Alg (absent_or (is_string (codes "hmac-sha256")) (value_at one.0.params (codes "alg")))
+  key ← need UnknownKey (key_in ring (value_at one.0.params (codes "keyid")))
+  _ ← must Differs (bytes_eq one.1 (hmac_sha256 key.1 text))
+  _ ← must Digest (has_right_digest m)
+  Ok key.0
+
+-- The id of the key, or the first fault.
+unfoldable pub verified : Message → List ℕ → List (List ℕ × List ℕ) → ℕ → List ℕ → Result (List ℕ) SigFault
+verified m base ring now tag = do
+  one ← tagged m tag
+  judged m base ring now one

@@ -1,0 +1,259 @@
+//! The values of a message's components (RFC 9421, section 2).
+ghost use Rattle.std.specs.Prelude.{◌≡◌, ◌≤◌, ◌++◌, ◌∷◌, if◌then◌else◌, Some, length, reverse, IfOk, OnOk};
+ghost use Rattle.std.specs.List.{prefix_len, list_any};
+ghost use Rattle.std.specs.Option.{option_map};
+ghost use Rattle.std.specs.Str.{bytes_eq};
+ghost use Rattle.structured_fields.specs.Letters.{is_ows};
+ghost use Rattle.structured_fields.specs.Reading.{behind};
+ghost use Rattle.message_signature.specs.Faults.{GivesBase};
+ghost use Rattle.message_signature.specs.Components.{trimmed, field_value, with_next, text_of, until, or_default, scheme_of, authority_of, path_of, query_of, begins_with_at, is_upper, component};
+ghost use Rattle.message_signature.specs.Verified.{has_body, has_field};
+
+use crate::fault::BaseFault;
+use gnap_io::bytes::Bytes;
+use gnap_io::memory::Mem;
+use gnap_io::message::{Fields, Message};
+use std::alloc::Global;
+
+/// The value of a field: borrowed where one line has it, joined where several have.
+#[derive(Drop)]
+pub(crate) enum FieldValue<'a> {
+    Line(&'a [u8]),
+    Joined(Bytes),
+}
+
+impl FieldValue<'_> {
+    pub(crate) fn as_slice(&self) -> &[u8]
+        ensures { result.now ≡ text_of self.now }
+    {
+        match self {
+            FieldValue::Line(line) => line,
+            FieldValue::Joined(text) => text.as_slice(),
+        }
+    }
+}
+
+fn is_ows(b: u8) -> bool
+    ensures { result ≡ is_ows b }
+{
+    b == b' ' || b == b'\t'
+}
+
+fn ows_run(bytes: &[u8]) -> usize
+    ensures len { result ≡ prefix_len is_ows bytes.now }
+    ensures within { result ≤ length bytes.now }
+{
+    bytes.iter().take_while(|b| is_ows(**b)).count()
+}
+
+// How many SP and HTAB stand at the end.
+fn ows_run_back(bytes: &[u8]) -> usize
+    ensures len { result ≡ prefix_len is_ows (reverse bytes.now) }
+    ensures within { result ≤ length bytes.now }
+{
+    bytes.iter().rev().take_while(|b| is_ows(**b)).count()
+}
+
+// Without SP and HTAB at the end.
+#[tactic(auto, using(crate::proofs::Fields::dropped_back))]
+fn trimmed_back(bytes: &[u8]) -> &[u8]
+    ensures { result.now ≡ reverse (behind is_ows (reverse bytes.now)) }
+{
+    &bytes[..bytes.len() - ows_run_back(bytes)]
+}
+
+fn trimmed(value: &[u8]) -> &[u8]
+    ensures { result.now ≡ trimmed value.now }
+{
+    trimmed_back(&value[ows_run(value)..])
+}
+
+// What is joined so far, and one more value behind it.
+fn with_next<'a>(
+    alloc: Global,
+    so_far: Option<FieldValue<'a>>,
+    value: &'a [u8],
+) -> Result<FieldValue<'a>, Mem>
+    ensures { IfOk result (λ v. text_of v ≡ with_next (option_map text_of so_far.entry) value.now) }
+{
+    let mut text = match so_far {
+        None => return Ok(FieldValue::Line(value)),
+        Some(FieldValue::Line(line)) => Bytes::from_slice(alloc, line)?,
+        Some(FieldValue::Joined(text)) => text,
+    };
+    put_line(&mut text, false, value)?;
+    Ok(FieldValue::Joined(text))
+}
+
+/// The value of a field (section 2.1): those of its lines without outer blanks, with `, ` between them. None exactly where no line has the name.
+pub(crate) fn field_value<'a>(
+    alloc: Global,
+    fields: &'a Fields,
+    name: &[u8],
+) -> Result<Option<FieldValue<'a>>, Mem>
+    ensures { IfOk result (λ o. option_map text_of o ≡ field_value name.now fields.now) }
+{
+    let mut found = None;
+    for field in fields.as_slice() {
+        if field.name.as_slice() == name {
+            found = Some(with_next(alloc, found, trimmed(field.value.as_slice()))?);
+        }
+    }
+    Ok(found)
+}
+
+// The value of a line behind the text, and behind `, ` where others stand before it.
+fn put_line(out: &mut Bytes, is_first: bool, value: &[u8]) -> Result<(), Mem>
+    ensures { OnOk result (out.new ≡ out.old ++ (if is_first then value.now else 44 ∷ 32 ∷ value.now)) }
+{
+    if !is_first {
+        out.extend(b", ")?;
+    }
+    out.extend(value)
+}
+
+/// The text with the value of a field behind it. Unsupported exactly where no line has the name.
+pub(crate) fn append_field(text: Bytes, fields: &Fields, name: &[u8]) -> Result<Bytes, BaseFault>
+    ensures { GivesBase (λ b. b) result (option_map (λ v. text ++ v) (field_value name.now fields.now)) }
+{
+    let mut out = text;
+    let mut is_first = true;
+    for field in fields.as_slice() {
+        if field.name.as_slice() == name {
+            put_line(&mut out, is_first, trimmed(field.value.as_slice()))?;
+            is_first = false;
+        }
+    }
+    if is_first {
+        return Err(BaseFault::Unsupported);
+    }
+    Ok(out)
+}
+
+fn has_line(fields: &Fields, name: &[u8]) -> bool
+    ensures { result ≡ list_any (λ f. bytes_eq f.name name.now) fields.now }
+{
+    fields
+        .as_slice()
+        .iter()
+        .any(|field| field.name.as_slice() == name)
+}
+
+/// Whether a line has the name.
+pub(crate) fn has_field(message: &Message, name: &[u8]) -> bool
+    ensures { result ≡ has_field name.now message.now }
+{
+    has_line(&message.fields, name)
+}
+
+pub(crate) fn has_body(message: &Message) -> bool
+    ensures { result ≡ has_body message.now }
+{
+    message.body.len() > 0
+}
+
+fn until(byte: u8, text: &[u8]) -> usize
+    ensures len { result ≡ until byte text.now }
+    ensures within { result ≤ length text.now }
+{
+    text.iter().take_while(|b| **b != byte).count()
+}
+
+fn or_default<'a>(default: &'a [u8], text: &'a [u8]) -> &'a [u8]
+    ensures { result.now ≡ or_default default.now text.now }
+{
+    match text {
+        [] => default,
+        _ => text,
+    }
+}
+
+fn scheme_of(base: &[u8]) -> &[u8]
+    ensures { result.now ≡ scheme_of base.now }
+{
+    &base[..until(b':', base)]
+}
+
+fn authority_of(base: &[u8]) -> &[u8]
+    ensures { result.now ≡ authority_of base.now }
+{
+    match base.get(until(b':', base) + 3..) {
+        Some(authority) => authority,
+        None => b"",
+    }
+}
+
+fn path_of(target: &[u8]) -> &[u8]
+    ensures { result.now ≡ path_of target.now }
+{
+    or_default(b"/", &target[..until(b'?', target)])
+}
+
+fn query_of(target: &[u8]) -> &[u8]
+    ensures { result.now ≡ query_of target.now }
+{
+    or_default(b"?", &target[until(b'?', target)..])
+}
+
+fn begins_with_at(name: &[u8]) -> bool
+    ensures { result ≡ begins_with_at name.now }
+{
+    match name {
+        [] => false,
+        [c, ..] => *c == b'@',
+    }
+}
+
+fn has_upper(name: &[u8]) -> bool
+    ensures { result ≡ list_any is_upper name.now }
+{
+    name.iter().any(|c| c.is_ascii_uppercase())
+}
+
+// The text with the value behind it.
+pub(crate) fn appended(text: Bytes, value: &[u8]) -> Result<Bytes, BaseFault>
+    ensures { GivesBase (λ b. b) result (Some (text ++ value.now)) }
+{
+    let mut out = text;
+    out.extend(value)?;
+    Ok(out)
+}
+
+#[tactic(auto, using(std::proofs::Common::append_assoc))]
+fn append_both(text: Bytes, front: &[u8], back: &[u8]) -> Result<Bytes, BaseFault>
+    ensures { GivesBase (λ b. b) result (Some (text ++ (front.now ++ back.now))) }
+{
+    let mut out = text;
+    out.extend(front)?;
+    out.extend(back)?;
+    Ok(out)
+}
+
+/// The text with the value of a component behind it (sections 2.1 and 2.2). Unsupported exactly where there is no such component.
+#[tactic(auto, unfolding(crate::specs::Components::component))]
+pub(crate) fn append_component(
+    text: Bytes,
+    message: &Message,
+    base: &Bytes,
+    name: &[u8],
+) -> Result<Bytes, BaseFault>
+    ensures { GivesBase (λ b. b) result (option_map (λ v. text ++ v) (component message.now base.now name.now)) }
+{
+    if name == b"@method".as_slice() {
+        appended(text, message.method.as_slice())
+    } else if name == b"@target-uri".as_slice() {
+        append_both(text, base.as_slice(), message.target.as_slice())
+    } else if name == b"@authority".as_slice() {
+        appended(text, authority_of(base.as_slice()))
+    } else if name == b"@scheme".as_slice() {
+        appended(text, scheme_of(base.as_slice()))
+    } else if name == b"@path".as_slice() {
+        appended(text, path_of(message.target.as_slice()))
+    } else if name == b"@query".as_slice() {
+        appended(text, query_of(message.target.as_slice()))
+    } else if begins_with_at(name) || has_upper(name) {
+        Err(BaseFault::Unsupported)
+    } else {
+        append_field(text, &message.fields, name)
+    }
+}

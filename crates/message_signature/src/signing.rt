@@ -1,0 +1,225 @@
+//! Making the signature of a message.
+ghost use Rattle.std.specs.Prelude.{◌≡◌, ◌↔◌, ◌<◌, ◌^◌, true, if◌then◌else◌, [], ◌∷◌, ◌++◌, map, length, Some, option_map, Err, IsSome, IfOk, OnOk, OnErr};
+ghost use Rattle.std.specs.List.{list_all};
+ghost use Rattle.structured_fields.specs.declared.bare.Bare.TheVariants.{Binary};
+ghost use Rattle.structured_fields.specs.Letters.{is_string_byte};
+ghost use Rattle.structured_fields.specs.Canonical.{dictionary_text, IsInRange, IsInnerInRange, IsMemberInRange};
+ghost use Rattle.hmac_key.specs.Hmac.{hmac_sha256};
+ghost use Rattle.message_signature.specs.declared.fault.SignFault.TheVariants.{HasSignature};
+ghost use Rattle.message_signature.specs.Base.{signature_base};
+ghost use Rattle.message_signature.specs.Signed.{field, has_signature, with_digest, covered, component_item, params_of, signature_input, under_label, signature_lines, signed, cut};
+
+use crate::base::base_of;
+use crate::components::{has_body, has_field};
+use crate::fault::{BaseFault, SignFault};
+use content_digest::digest_line;
+use gnap_io::bytes::Bytes;
+use gnap_io::memory::{Duplicate, Mem};
+use gnap_io::message::{Field, Fields, Message};
+use hmac_key::hmac;
+use std::alloc::Global;
+use std::mem;
+use structured_fields::{
+    Bare, Dictionary, InnerList, Item, Items, Member, Params, write_dictionary,
+};
+
+fn has_signature(message: &Message) -> bool
+    ensures { result ≡ has_signature message.now }
+{
+    has_field(message, b"signature-input") || has_field(message, b"signature")
+}
+
+fn field(alloc: Global, name: &[u8], value: Bytes) -> Result<Field, Mem>
+    ensures { IfOk result (λ f. f ≡ field name.now value) }
+{
+    Ok(Field {
+        name: Bytes::from_slice(alloc, name)?,
+        value,
+    })
+}
+
+// Adds the digest of a body that has none. An `Err` changes nothing.
+fn add_digest(alloc: Global, message: &mut Message) -> Result<(), Mem>
+    ensures ok { OnOk result (message.new ≡ with_digest message.old) }
+    ensures err { OnErr result (message.new ≡ message.old) }
+{
+    if !has_body(message) || has_field(message, b"content-digest") {
+        return Ok(());
+    }
+    let value = digest_line(alloc, message.body.as_slice())?;
+    message.fields.push(field(alloc, b"content-digest", value)?)
+}
+
+fn component_item(alloc: Global, name: &[u8]) -> Result<Item, Mem>
+    ensures { IfOk result (λ item. item ≡ component_item name.now) }
+{
+    Ok(Item {
+        bare: Bare::Str(Bytes::from_slice(alloc, name)?),
+        params: Params::new(alloc),
+    })
+}
+
+fn push_if(alloc: Global, items: &mut Items, is_covered: bool, name: &[u8]) -> Result<(), Mem>
+    ensures { OnOk result (items.new ≡ items.old ++ (if is_covered then component_item name.now ∷ [] else [])) }
+{
+    if is_covered {
+        items.push(component_item(alloc, name)?)?;
+    }
+    Ok(())
+}
+
+fn covered_by(alloc: Global, message: &Message) -> Result<Items, Mem>
+    ensures { IfOk result (λ items. items ≡ map component_item (covered message.now)) }
+{
+    let mut items = Items::new(alloc);
+    items.push(component_item(alloc, b"@method")?)?;
+    items.push(component_item(alloc, b"@target-uri")?)?;
+    push_if(alloc, &mut items, has_body(message), b"content-digest")?;
+    push_if(
+        alloc,
+        &mut items,
+        has_field(message, b"authorization"),
+        b"authorization",
+    )?;
+    Ok(items)
+}
+
+fn params_of(alloc: Global, id: &Bytes, created: u64, tag: &Bytes) -> Result<Params, Mem>
+    requires { created < 10 ^ 15 }
+    ensures { IfOk result (λ params. params ≡ params_of id.now created tag.now) }
+{
+    let mut params = Params::new(alloc);
+    params.set(
+        Bytes::from_slice(alloc, b"created")?,
+        Bare::Integer(created as i64),
+    )?;
+    params.set(Bytes::from_slice(alloc, b"keyid")?, Bare::Str(id.copy()?))?;
+    params.set(Bytes::from_slice(alloc, b"tag")?, Bare::Str(tag.copy()?))?;
+    Ok(params)
+}
+
+fn signature_input(
+    alloc: Global,
+    message: &Message,
+    id: &Bytes,
+    created: u64,
+    tag: &Bytes,
+) -> Result<InnerList, Mem>
+    requires { created < 10 ^ 15 }
+    ensures { IfOk result (λ list. list ≡ signature_input message.now id.now created tag.now) }
+{
+    Ok(InnerList {
+        items: covered_by(alloc, message)?,
+        params: params_of(alloc, id, created, tag)?,
+    })
+}
+
+// The dictionary of one member, under the label of the one signature.
+fn labelled(alloc: Global, member: Member) -> Result<Bytes, Mem>
+    requires { IsMemberInRange member }
+    ensures { IfOk result (λ text. text ≡ dictionary_text (under_label member)) }
+{
+    let mut entries = Dictionary::new(alloc);
+    entries.set(Bytes::from_slice(alloc, b"sig1")?, member)?;
+    write_dictionary(alloc, &entries)
+}
+
+fn signature_lines(alloc: Global, list: InnerList, bytes: Bytes) -> Result<Fields, Mem>
+    requires list { IsInnerInRange list }
+    requires bytes { IsInRange (Binary bytes) }
+    ensures { IfOk result (λ lines. lines ≡ signature_lines list bytes) }
+{
+    let signature = Item {
+        bare: Bare::Binary(bytes),
+        params: Params::new(alloc),
+    };
+    let input = labelled(alloc, Member::Inner(list))?;
+    let signature = labelled(alloc, Member::Item(signature))?;
+    let mut lines = Fields::new(alloc);
+    lines.push(field(alloc, b"signature-input", input)?)?;
+    lines.push(field(alloc, b"signature", signature)?)?;
+    Ok(lines)
+}
+
+// The bytes of the signature, where there is a signature base.
+fn signature_of(
+    alloc: Global,
+    message: &Message,
+    base: &Bytes,
+    list: &InnerList,
+    secret: &Bytes,
+) -> Result<Bytes, Mem>
+    requires { IsSome (signature_base message.now base.now list.now) }
+    ensures { IfOk result (λ bytes. option_map (hmac_sha256 secret.now) (signature_base message.now base.now list.now) ≡ Some bytes) }
+{
+    match base_of(alloc, message, base, list) {
+        Ok(text) => Bytes::from_slice(alloc, &hmac(secret.as_slice(), text.as_slice())),
+        Err(BaseFault::Unsupported) => unreachable!(),
+        Err(BaseFault::OutOfMemory) => Err(Mem),
+    }
+}
+
+// Adds the fields of a signature. At an `Err` the digest may stand behind the fields that were there.
+#[tactic(auto, using(crate::proofs::SigningSteps::cut_digest))]
+fn add_signature(
+    alloc: Global,
+    message: &mut Message,
+    base: &Bytes,
+    id: &Bytes,
+    secret: &Bytes,
+    created: u64,
+    tag: &Bytes,
+) -> Result<(), Mem>
+    requires created { created < 10 ^ 15 }
+    requires id { list_all is_string_byte id.now ≡ true }
+    requires tag { list_all is_string_byte tag.now ≡ true }
+    ensures ok { OnOk result (signed message.old base.now id.now secret.now created tag.now ≡ Some message.new) }
+    ensures err { OnErr result (cut (length message.old.fields) message.new ≡ message.old) }
+{
+    add_digest(alloc, message)?;
+    let list = signature_input(alloc, message, id, created, tag)?;
+    let bytes = signature_of(alloc, message, base, &list, secret)?;
+    let lines = signature_lines(alloc, list, bytes)?;
+    message.fields.append(lines)
+}
+
+// The message with its first fields alone. Takes no memory.
+fn cut(alloc: Global, message: &mut Message, kept: usize)
+    ensures { message.new ≡ cut kept message.old }
+{
+    let mut fields = mem::replace(&mut message.fields, Fields::new(alloc)).into_vec();
+    fields.truncate(kept);
+    message.fields = Fields::from_vec(fields);
+}
+
+/// Signs a message to the server with this base by HMAC-SHA-256 under the secret (RFC 9421, section 3.1), and covers what a GNAP request has to cover (RFC 9635, section 7.3.1): `@method`, `@target-uri`, `content-digest` where there is a body, and `authorization` where that field is there.
+///
+/// The base is scheme, `://` and authority, without a `/` at its end. `created` is in seconds since 1970. The id and the tag hold characters from SP to `~`.
+/// Fields are added behind the others: `content-digest` (RFC 9530) where there is a body and no such field, then `signature-input` and `signature`, each with one member under the label `sig1`. The parameters are `created`, `keyid` and `tag`.
+/// HasSignature comes exactly where a `signature-input` or a `signature` field is there already. An `Err` changes nothing.
+pub fn sign(
+    alloc: Global,
+    message: &mut Message,
+    base: &Bytes,
+    id: &Bytes,
+    secret: &Bytes,
+    created: u64,
+    tag: &Bytes,
+) -> Result<(), SignFault>
+    requires created { created < 10 ^ 15 }
+    requires id { list_all is_string_byte id.now ≡ true }
+    requires tag { list_all is_string_byte tag.now ≡ true }
+    ensures ok { OnOk result (signed message.old base.now id.now secret.now created tag.now ≡ Some message.new) }
+    ensures signed_before { (result ≡ Err HasSignature) ↔ (has_signature message.old ≡ true) }
+    ensures err { OnErr result (message.new ≡ message.old) }
+{
+    if has_signature(message) {
+        return Err(SignFault::HasSignature);
+    }
+    let kept = message.fields.len();
+    if add_signature(alloc, message, base, id, secret, created, tag).is_err() {
+        cut(alloc, message, kept);
+        return Err(SignFault::OutOfMemory);
+    }
+    Ok(())
+}
