@@ -64,10 +64,13 @@ Says field body (Err OutOfMemory) = ⊥
 
 -- ---- as a function
 
--- the digest that is wanted and the bytes that are found, where an entry is no digest of the body
+-- the digest that is wanted and the bytes that are found, where they are others
+abbrev pub other_than : List ℕ → Option (List ℕ) → Option (List ℕ × List ℕ)
+other_than wanted sequence = sequence >>= λ found. if bytes_eq wanted found then None else Some (wanted, found)
+
+-- the same of an entry and a body
 abbrev pub difference : List ℕ → List ℕ × Member → Option (List ℕ × List ℕ)
-difference body e =
-    digest_by e.0 body >>= λ wanted. sequence_of e.1 >>= λ found. if bytes_eq wanted found then None else Some (wanted, found)
+difference body e = digest_by e.0 body >>= λ wanted. other_than wanted (sequence_of e.1)
 
 abbrev pub first_difference : List ℕ → List (List ℕ × Member) → Option (List ℕ × List ℕ)
 first_difference body [] = None

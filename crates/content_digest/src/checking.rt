@@ -1,13 +1,13 @@
 //! Whether a field is of a body.
-ghost use Rattle.std.specs.Prelude.{◌≡◌, ◌≢◌, Err, IfOk};
+ghost use Rattle.std.specs.Prelude.{◌≡◌, ◌≢◌, Err};
 ghost use Rattle.std.specs.Option.{option_copied};
 ghost use Rattle.content_digest.specs.declared.fault.DigestFault.TheVariants.{OutOfMemory};
-ghost use Rattle.content_digest.specs.Digest.{is_known, digest_by, sequence_of, has_right_kind, are_sequences, has_known};
-ghost use Rattle.content_digest.specs.Judged.{difference, first_difference, answer_to, judged, checked, Gives, Says, AnswersWhatIsSo};
+ghost use Rattle.content_digest.specs.Digest.{is_known, sequence_of, has_right_kind, are_sequences, has_known};
+ghost use Rattle.content_digest.specs.Judged.{other_than, difference, first_difference, answer_to, judged, checked, Gives, Says, AnswersWhatIsSo};
 
 use crate::fault::DigestFault;
 use gnap_io::bytes::Bytes;
-use gnap_io::memory::{Duplicate, Mem};
+use gnap_io::memory::Duplicate;
 use sha2::{Digest, Sha256, Sha512};
 use std::alloc::Global;
 use structured_fields::{Bare, Dictionary, FieldFault, Item, Member, read_dictionary};
@@ -16,18 +16,6 @@ fn is_known(name: &[u8]) -> bool
     ensures { result ≡ is_known name.now }
 {
     name == b"sha-256".as_slice() || name == b"sha-512".as_slice()
-}
-
-fn digest_by(alloc: Global, name: &[u8], body: &[u8]) -> Result<Option<Bytes>, Mem>
-    ensures { IfOk result (λ digest. digest ≡ digest_by name.now body.now) }
-{
-    if name == b"sha-256".as_slice() {
-        Ok(Some(Bytes::from_slice(alloc, &Sha256::digest(body))?))
-    } else if name == b"sha-512".as_slice() {
-        Ok(Some(Bytes::from_slice(alloc, &Sha512::digest(body))?))
-    } else {
-        Ok(None)
-    }
 }
 
 fn sequence_of(member: &Member) -> Option<&Bytes>
@@ -74,23 +62,33 @@ fn has_known(members: &Dictionary) -> bool
     false
 }
 
-// Whether an entry under a known name is the digest of the body.
-fn compare(alloc: Global, name: &[u8], member: &Member, body: &[u8]) -> Result<(), DigestFault>
-    ensures { Gives result (answer_to (difference body.now (name.now, member.now))) }
+// Whether a byte sequence is this digest.
+fn compare_with(alloc: Global, wanted: &[u8], member: &Member) -> Result<(), DigestFault>
+    ensures { Gives result (answer_to (other_than wanted.now (sequence_of member.now))) }
 {
-    let Some(wanted) = digest_by(alloc, name, body)? else {
-        return Ok(());
-    };
     let Some(found) = sequence_of(member) else {
         return Ok(());
     };
-    if wanted.as_slice() == found.as_slice() {
+    if wanted == found.as_slice() {
         return Ok(());
     }
     Err(DigestFault::Differs {
-        wanted,
+        wanted: Bytes::from_slice(alloc, wanted)?,
         found: found.copy()?,
     })
+}
+
+// Whether an entry under a known name is the digest of the body. Where it is, this takes no memory.
+fn compare(alloc: Global, name: &[u8], member: &Member, body: &[u8]) -> Result<(), DigestFault>
+    ensures { Gives result (answer_to (difference body.now (name.now, member.now))) }
+{
+    if name == b"sha-256".as_slice() {
+        compare_with(alloc, &Sha256::digest(body), member)
+    } else if name == b"sha-512".as_slice() {
+        compare_with(alloc, &Sha512::digest(body), member)
+    } else {
+        Ok(())
+    }
 }
 
 fn compare_all(alloc: Global, members: &Dictionary, body: &[u8]) -> Result<(), DigestFault>

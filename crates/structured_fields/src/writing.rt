@@ -12,11 +12,10 @@ use gnap_io::bytes::Bytes;
 use gnap_io::memory::Mem;
 use std::alloc::Global;
 
-fn put_number(alloc: Global, out: &mut Bytes, n: u64) -> Result<(), Mem>
+fn put_number(out: &mut Bytes, n: u64) -> Result<(), Mem>
     ensures { OnOk result (out.new ≡ out.old ++ decimal n) }
 {
-    let text = format!(in alloc; "{n}")?;
-    out.extend(text.as_bytes())
+    out.extend(itoa::Buffer::new().format(n).as_bytes())
 }
 
 fn put_part(out: &mut Bytes, n: u64) -> Result<(), Mem>
@@ -35,23 +34,23 @@ fn put_part(out: &mut Bytes, n: u64) -> Result<(), Mem>
     }
 }
 
-fn put_integer(alloc: Global, out: &mut Bytes, n: i64) -> Result<(), Mem>
+fn put_integer(out: &mut Bytes, n: i64) -> Result<(), Mem>
     ensures { OnOk result (out.new ≡ out.old ++ integer_text n) }
 {
     if n < 0 {
         out.push(b'-')?;
     }
-    put_number(alloc, out, n.unsigned_abs())
+    put_number(out, n.unsigned_abs())
 }
 
-fn put_decimal(alloc: Global, out: &mut Bytes, n: i64) -> Result<(), Mem>
+fn put_decimal(out: &mut Bytes, n: i64) -> Result<(), Mem>
     ensures { OnOk result (out.new ≡ out.old ++ decimal_text n) }
 {
     if n < 0 {
         out.push(b'-')?;
     }
     let thousandths = n.unsigned_abs();
-    put_number(alloc, out, thousandths / 1000)?;
+    put_number(out, thousandths / 1000)?;
     out.push(b'.')?;
     put_part(out, thousandths % 1000)
 }
@@ -72,8 +71,8 @@ fn put_bare(alloc: Global, out: &mut Bytes, v: &Bare) -> Result<(), Mem>
     ensures { OnOk result (out.new ≡ out.old ++ bare_text v.now) }
 {
     match v {
-        Bare::Integer(n) => put_integer(alloc, out, *n),
-        Bare::Decimal(n) => put_decimal(alloc, out, *n),
+        Bare::Integer(n) => put_integer(out, *n),
+        Bare::Decimal(n) => put_decimal(out, *n),
         Bare::Str(s) => {
             out.push(b'"')?;
             put_escaped(out, s.as_slice())?;
