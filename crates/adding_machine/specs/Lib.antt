@@ -1,2 +1,3 @@
 pub mod Adding
+pub mod Amounts
 pub mod Standing

@@ -25,6 +25,7 @@ impl Adder {
     pub fn new(alloc: Global, start: u64, refuses_each: u64) -> Adder
         ensures rules { ⟦<Adder as Core>⟧.rules result ≡ start }
         ensures empty { ⟦<Adder as Core>⟧.stands result [] }
+        ensures kept { (result.refuses_each ≡ refuses_each) × (result.steps ≡ 0) }
     {
         Adder {
             start,

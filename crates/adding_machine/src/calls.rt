@@ -1,11 +1,13 @@
 //! Calls made one after another, at any desk.
-ghost use Rattle.std.specs.Prelude.{◌≡◌, ◌+◌, ◌<◌, ◌^◌, length};
+ghost use Rattle.std.specs.Prelude.{◌≡◌, ◌+◌, ◌<◌, ◌^◌, length, IfOk, OnErr};
 ghost use Rattle.histories.specs.History.{places};
+ghost use Rattle.adding_machine.specs.Amounts.{sum_or, GrewBy};
 
 use crate::adding::{Adding, Call, Reply};
+use gnap_io::memory::Mem;
 use histories::machine::Desk;
 
-/// What calls came to: how many were answered, at how many memory ran out, and the last sum that was answered.
+/// What calls came to: how many were answered, at how many memory ran out, and the last sum that was answered, 0 where none was.
 #[derive(Clone, Copy, Debug, PartialEq, Eq)]
 pub struct Made {
     pub answered: u64,
@@ -13,14 +15,37 @@ pub struct Made {
     pub last: u64,
 }
 
-/// Adds an amount so many times. The desk has that many own entries more in what it has seen.
+impl Made {
+    /// Counts one more call by what came of it.
+    fn count(&mut self, outcome: Result<Reply, Mem>)
+        requires room { self.old.answered + self.old.lapsed + 1 < 2 ^ 64 }
+        ensures ok { IfOk outcome (λ reply. (self.new.answered ≡ self.old.answered + 1) × (self.new.lapsed ≡ self.old.lapsed)
+            × (self.new.last ≡ sum_or self.old.last reply)) }
+        ensures err { OnErr outcome ((self.new.answered ≡ self.old.answered) × (self.new.lapsed ≡ self.old.lapsed + 1)
+            × (self.new.last ≡ self.old.last)) }
+    {
+        match outcome {
+            Ok(reply) => {
+                self.answered += 1;
+                if let Reply::Sum(total) = reply {
+                    self.last = total;
+                }
+            }
+            Err(_) => self.lapsed += 1,
+        }
+    }
+}
+
+/// Adds an amount so many times. What the desk has seen grew by as many own entries: the calls that were answered, and a lapse for each
+/// at which memory ran out.
 pub fn add_often<D: Desk<M = Adding>>(desk: &mut D, amount: u64, times: u64) -> Made
     requires room { (h : _) × D.seen desk.old h × (length (places (D.number desk.old) h) + times < 2 ^ 52) }
     ensures rules { D.rules desk.new ≡ D.rules desk.old }
     ensures number { D.number desk.new ≡ D.number desk.old }
     ensures home { D.home desk.new ≡ D.home desk.old }
-    ensures entered { (h : _) → D.seen desk.old h → (k : _) × D.seen desk.new k
-        × (length (places (D.number desk.old) k) ≡ length (places (D.number desk.old) h) + times) }
+    ensures made { (h : _) → D.seen desk.old h → (k : _) × D.seen desk.new k
+        × GrewBy (D.number desk.old) amount times result h k }
+    ensures all { result.answered + result.lapsed ≡ times }
 {
     let mut made = Made {
         answered: 0,
@@ -28,17 +53,8 @@ pub fn add_often<D: Desk<M = Adding>>(desk: &mut D, amount: u64, times: u64) -> 
         last: 0,
     };
     let draw = [0; 48];
-    let mut count = 0u64;
-    while count < times {
-        match desk.submit(0, &draw, Call::Add(amount)) {
-            Ok(Reply::Sum(total)) => {
-                made.answered = made.answered.wrapping_add(1);
-                made.last = total;
-            }
-            Ok(Reply::Lapsed) => {}
-            Err(_) => made.lapsed = made.lapsed.wrapping_add(1),
-        }
-        count += 1;
+    for _ in 0..times {
+        made.count(desk.submit(0, &draw, Call::Add(amount)));
     }
     made
 }

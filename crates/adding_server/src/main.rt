@@ -26,10 +26,10 @@ fn main(rt: HostRuntime) -> Result<()> {
     }
     for workers in [1, 2, 4, 8] {
         let start = Instant::now(&rt)?;
-        let sum = sum_of_workers(&rt, rt.alloc(), workers, CALLS, 0).unwrap_or(0);
+        let sums = sum_of_workers(&rt, rt.alloc(), workers, CALLS, 0);
         let passed = start.elapsed(&rt)?;
         let micros = u64::try_from(passed.as_micros()).unwrap_or(u64::MAX).max(1);
-        let rate = sum.saturating_mul(1_000_000) / micros;
+        let rate = sums.map_or(0, |s| s.total).saturating_mul(1_000_000) / micros;
         println!(rt; "{workers} workers: {rate} calls a second")?;
     }
     Ok(())

@@ -1,18 +1,14 @@
-use Rattle.std.proofs.Common.{◌≡◌, ◌+◌, ◌-◌, ◌≤◌, length}
-use Rattle.histories.specs.History.{places}
+use Rattle.std.proofs.Common.{◌≡◌, ◌+◌}
+use Rattle.adding_machine.specs.Amounts.{GrewBy}
 use Rattle.adding_machine.proofs.calls.add_often.Given as goal
 
-abbrev pub invariant-loop-count : goal.invariant-loop-count
-invariant-loop-count g l =
+abbrev pub invariant-loop : goal.invariant-loop
+invariant-loop g l =
     let D = g.D.Desk in
     record {
       same_rules : D.rules l.desk ≡ D.rules l.fn.desk;
       same_number : D.number l.desk ≡ D.number l.fn.desk;
       same_home : D.home l.desk ≡ D.home l.fn.desk;
-      some_left : l.count ≤ l.times;
-      entered : (h : _) → D.seen l.fn.desk h → (k : _) × D.seen l.desk k
-          × (length (places (D.number l.fn.desk) k) ≡ length (places (D.number l.fn.desk) h) + l.count);
+      all : l.made.answered + l.made.lapsed ≡ l.counter;
+      grew : (h : _) → D.seen l.fn.desk h → (k : _) × D.seen l.desk k × GrewBy (D.number l.fn.desk) l.amount l.counter l.made h k;
     }
-
-abbrev pub decreases-loop-count : goal.decreases-loop-count
-decreases-loop-count g l = l.times - l.count
