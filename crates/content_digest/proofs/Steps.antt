@@ -8,7 +8,8 @@ use Rattle.content_digest.specs.declared.fault.DigestFault.TheVariants.{NotAFiel
 use Rattle.content_digest.specs.Judged.{difference, first_difference, answer_to, Gives}
 
 module _ {X : Type 0} where
-  opened : (xs : List X) (i : ℕ) (x : X) → slice_get xs i ≡ Some x → drop i xs ≡ x ∷ drop (i + 1) xs
+  -- what is left of a list, by its next element
+  pub opened : (xs : List X) (i : ℕ) (x : X) → slice_get xs i ≡ Some x → drop i xs ≡ x ∷ drop (i + 1) xs
   opened [] i x e = absurd cc
   opened (y ∷ xs) zero x e = let same : y ≡ x = cc in ap (λ (z : X). z ∷ xs) same
   opened (y ∷ xs) (suc i) x e = let k : suc i + 1 ≡ suc (i + 1) = omega arith in rw k (opened xs i x e)

@@ -1,7 +1,6 @@
 pub mod Examples
 pub mod Fields
 pub mod Lines
-pub mod Rest
 pub mod Tags
 pub mod Appended
 pub mod SignedFields

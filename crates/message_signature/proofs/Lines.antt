@@ -5,11 +5,11 @@ use Rattle.std.specs.Option.{option_map}
 use Rattle.gnap_io.specs.declared.message.Message.{Message}
 use Rattle.structured_fields.specs.declared.item.Item.{Item}
 use Rattle.structured_fields.specs.Reading.{◌>>=◌}
+use Rattle.content_digest.proofs.Steps.{opened}
 use Rattle.message_signature.specs.declared.fault.BaseFault.{BaseFault}
 use Rattle.message_signature.specs.declared.fault.BaseFault.TheVariants.{Unsupported, OutOfMemory}
 use Rattle.message_signature.specs.Faults.{FailsBase}
 use Rattle.message_signature.specs.Base.{line_of, base_lines}
-use Rattle.message_signature.proofs.Rest.{opened}
 
 abbrev behind : List ℕ → Option (List ℕ) → Option (List ℕ)
 behind text o = option_map (λ t. text ++ t) o

@@ -4,9 +4,9 @@ use Rattle.std.specs.Prelude.{is_some}
 use Rattle.std.specs.Option.{option_map}
 use Rattle.structured_fields.specs.declared.item.InnerList.{InnerList}
 use Rattle.structured_fields.specs.declared.item.Member.{Member}
+use Rattle.content_digest.proofs.Steps.{opened}
 use Rattle.message_signature.specs.declared.fault.SigFault.TheVariants.{SeveralTags}
 use Rattle.message_signature.specs.Verified.{tagged_list, with_tag, only_one}
-use Rattle.message_signature.proofs.Rest.{opened}
 
 -- the one that was met so far
 abbrev pub held : Option (List ℕ × InnerList) → List (List ℕ × InnerList)
