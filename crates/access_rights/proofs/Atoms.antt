@@ -23,11 +23,11 @@ map_any : {A B : Type 0} (p : B → Bool) (f : A → B) (xs : List A) → list_a
 map_any p f [] = refl
 map_any p f (x ∷ xs) = ap (λ b. p (f x) || b) (map_any p f xs)
 
-all_same : {A : Type 0} (p q : A → Bool) (xs : List A) → ((x : A) → p x ≡ q x) → list_all p xs ≡ list_all q xs
+pub all_same : {A : Type 0} (p q : A → Bool) (xs : List A) → ((x : A) → p x ≡ q x) → list_all p xs ≡ list_all q xs
 all_same p q [] e = refl
 all_same p q (x ∷ xs) e = rw (e x) (ap (λ b. q x && b) (all_same p q xs e))
 
-any_same : {A : Type 0} (p q : A → Bool) (xs : List A) → ((x : A) → p x ≡ q x) → list_any p xs ≡ list_any q xs
+pub any_same : {A : Type 0} (p q : A → Bool) (xs : List A) → ((x : A) → p x ≡ q x) → list_any p xs ≡ list_any q xs
 any_same p q [] e = refl
 any_same p q (x ∷ xs) e = rw (e x) (ap (λ b. q x || b) (any_same p q xs e))
 

@@ -1,4 +1,5 @@
 pub mod Atoms
-pub mod Loops
-pub mod Parts
+pub mod Lengths
+pub mod MaskedChoices
+pub mod Others
 pub mod Whole

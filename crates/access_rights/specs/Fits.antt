@@ -5,17 +5,10 @@ use Rattle.std.specs.Str.{bytes_eq, IsUtf8}
 use Rattle.serde_json.specs.Data.{object, Members, no_members, member}
 use Rattle.serde_json.specs.Read.{read}
 use Rattle.serde_json.specs.Written.{compact_text, members_have_float}
+pub use Rattle.json_objects.specs.Texts.{IsUtf8Or, AreUtf8}
 use Rattle.gnap_model.specs.declared.rights.RightObject.{RightObject}
 use Rattle.gnap_model.specs.declared.rights.Right.{Right}
 use Rattle.gnap_model.specs.declared.rights.Right.TheVariants as rights
-
-abbrev pub IsUtf8Or : Option (List ℕ) → Type 0
-IsUtf8Or None = Unit {0}
-IsUtf8Or (Some s) = IsUtf8 s
-
-abbrev pub AreUtf8 : Option (List (List ℕ)) → Type 0
-AreUtf8 None = Unit {0}
-AreUtf8 (Some ss) = AllByRecursion IsUtf8 ss
 
 -- the members that a right in full has a field for (RFC 9635, section 8)
 unfoldable pub is_own : List ℕ → Bool

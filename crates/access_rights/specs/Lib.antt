@@ -1,6 +1,6 @@
 pub use Rattle.gnap_model.specs.Rights
 pub mod Inclusion
-pub mod Json
+pub mod Masks
 pub mod Fits
 pub mod Reading
 pub mod Printing

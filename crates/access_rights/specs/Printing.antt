@@ -6,7 +6,7 @@ use Rattle.serde_json.specs.Read.{read}
 use Rattle.gnap_model.specs.declared.rights.RightObject.{RightObject}
 use Rattle.gnap_model.specs.declared.rights.Right.{Right}
 use Rattle.gnap_model.specs.declared.rights.Right.TheVariants as rights
-use Rattle.access_rights.specs.Json.{members_onto, items, texts_data}
+use Rattle.json_objects.specs.Objects.{members_onto, items, texts_data}
 
 abbrev pub members_of : Option Members → Members
 members_of None = no_members

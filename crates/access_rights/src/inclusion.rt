@@ -6,6 +6,7 @@ ghost use Rattle.gnap_model.specs.Rights.Atom.{Name};
 ghost use Rattle.gnap_model.specs.Rights.{values_of, right_atoms, same_atom, covers};
 ghost use Rattle.access_rights.specs.Inclusion.{has_atom, atom_at, covers_privileges, covers_datatypes, covers_locations, covers_object};
 
+use crate::masks::covers_by_masks;
 use gnap_io::bytes::Bytes;
 use gnap_model::rights::{Right, RightObject, Rights, Texts};
 
@@ -28,7 +29,10 @@ fn covers_right(granted: &Rights, wanted: &Right) -> bool
 {
     match wanted {
         Right::Reference(name) => has_reference(granted, name),
-        Right::Object(object) => covers_object(granted, object),
+        Right::Object(object) => match covers_by_masks(granted, object) {
+            Some(covered) => covered,
+            None => covers_object(granted, object),
+        },
     }
 }
 
@@ -166,7 +170,7 @@ fn right_has_parts(
     }
 }
 
-fn same_option(a: &Option<Bytes>, b: &Option<Bytes>) -> bool
+pub(crate) fn same_option(a: &Option<Bytes>, b: &Option<Bytes>) -> bool
     ensures { result ≡ same_option a.now b.now }
 {
     match (a, b) {
@@ -177,7 +181,7 @@ fn same_option(a: &Option<Bytes>, b: &Option<Bytes>) -> bool
 }
 
 #[tactic(auto, using(crate::proofs::Atoms::none_of, crate::proofs::Atoms::some_of))]
-fn is_value(value: Option<&Bytes>, dimension: &Option<Texts>) -> bool
+pub(crate) fn is_value(value: Option<&Bytes>, dimension: &Option<Texts>) -> bool
     ensures { result ≡ list_any (same_option (option_map (λ b. b.now) value.entry)) (values_of dimension.now) }
 {
     match dimension {

@@ -5,10 +5,11 @@
 #![tactic(auto)]
 
 pub mod inclusion;
-pub mod json_parts;
+mod masks;
 pub mod printing;
 pub mod reading;
 pub mod served;
+pub mod sizes;
 
 pub use gnap_model::rights::{Names, Right, RightObject, Rights, Texts};
 pub use inclusion::covers;

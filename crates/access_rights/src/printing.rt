@@ -3,14 +3,15 @@ ghost use Rattle.std.specs.Prelude.{◌≡◌, ◌++◌, IfOk, OnOk, option_map,
 ghost use Rattle.std.specs.List.{AllByRecursion};
 ghost use Rattle.serde_json.specs.Read.{read};
 ghost use Rattle.serde_json.specs.View.{view, members_view};
-ghost use Rattle.access_rights.specs.Json.{texts_data};
-ghost use Rattle.access_rights.specs.Fits.{AreUtf8, IsFurther, FitsObject, Fits};
+ghost use Rattle.json_objects.specs.Objects.{texts_data};
+ghost use Rattle.json_objects.specs.Texts.{AreUtf8};
+ghost use Rattle.access_rights.specs.Fits.{IsFurther, FitsObject, Fits};
 ghost use Rattle.access_rights.specs.Printing.{members_read, right_members, right_data, rights_data};
 
-use crate::json_parts::{optional_value, put, text_value, texts_value};
 use gnap_io::bytes::Bytes;
 use gnap_io::memory::Mem;
 use gnap_model::rights::{Right, RightObject, Rights, Texts};
+use json_objects::{optional_value, put, text_value, texts_value};
 use serde_json::{Map, Value};
 use std::alloc::Global;
 

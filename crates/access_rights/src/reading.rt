@@ -1,25 +1,29 @@
 //! Rights, read from JSON (RFC 9635, section 8).
-ghost use Rattle.std.specs.Prelude.{◌≡◌, IfOk};
+ghost use Rattle.std.specs.Prelude.{◌≡◌, ◌≤◌, IfOk, IsUtf8};
 ghost use Rattle.std.specs.List.{AllByRecursion};
-ghost use Rattle.serde_json.specs.View.{view, items_view};
+ghost use Rattle.serde_json.specs.Data.{object};
+ghost use Rattle.serde_json.specs.View.{view, items_view, members_view};
+ghost use Rattle.json_objects.specs.Bodies.{IsBody, AreBodies};
+ghost use Rattle.json_objects.specs.Reading.{Gives, each};
+ghost use Rattle.json_objects.specs.Texts.{IsUtf8Or, AreUtf8};
 ghost use Rattle.access_rights.specs.declared.reading.RightsFault.TheVariants.{OutOfMemory};
-ghost use Rattle.access_rights.specs.Fits.{Fits};
-ghost use Rattle.access_rights.specs.Json.{IsBody};
-ghost use Rattle.access_rights.specs.Reading.{Gives, sized, each, right_of, rights_of};
+ghost use Rattle.access_rights.specs.Fits.{is_own, IsFurther, FitsObject, Fits};
+ghost use Rattle.access_rights.specs.Reading.{any_text, sized, type_of, dimension_of, identifier_of, others, further_of, extent, right_object_of, right_of, rights_of};
 
 use gnap_io::bytes::Bytes;
 use gnap_io::memory::Mem;
 use gnap_io::seq::Seq;
-use gnap_model::rights::{Right, Rights};
-use serde_json::Value;
-use std::alloc::{AllocError, AllocFailed, Global};
+use gnap_model::rights::{Right, RightObject, Rights, Texts};
+use json_objects::compact_text;
+use serde_json::{Map, Value};
+use std::alloc::Global;
 
 /// Why a JSON value isn't an array of rights.
 #[derive(Clone, Copy, Debug, PartialEq, Eq)]
 pub enum RightsFault {
-    /// Another JSON type, or a form that isn't read.
+    /// Another JSON type, an empty text or array, or a right in full without a type.
     Wrong,
-    /// A text is too long.
+    /// A text, an array or the number of a right's atoms passes its limit.
     TooMany,
     OutOfMemory,
 }
@@ -32,24 +36,18 @@ impl From<Mem> for RightsFault {
     }
 }
 
-impl From<AllocError> for RightsFault {
-    ghost from_gives = { λ _ e. e ≡ OutOfMemory };
-
-    fn from(_e: AllocError) -> RightsFault {
-        RightsFault::OutOfMemory
-    }
-}
-
-impl<T: Drop> From<AllocFailed<T>> for RightsFault {
-    ghost from_gives = { λ _ e. e ≡ OutOfMemory };
-
-    fn from(_e: AllocFailed<T>) -> RightsFault {
-        RightsFault::OutOfMemory
-    }
+fn any_text(alloc: Global, value: &Value) -> Result<Bytes, RightsFault>
+    ensures value { Gives OutOfMemory (λ s. s) result (any_text (view value.now)) }
+    ensures utf8 { IfOk result IsUtf8 }
+{
+    let Some(text) = value.as_str() else {
+        return Err(RightsFault::Wrong);
+    };
+    Ok(Bytes::from_slice(alloc, text.as_bytes())?)
 }
 
 fn sized(text: Bytes) -> Result<Bytes, RightsFault>
-    ensures value { Gives result (sized text) }
+    ensures value { Gives OutOfMemory (λ s. s) result (sized text) }
     ensures same { IfOk result (λ s. s ≡ text) }
 {
     if text.len() == 0 {
@@ -61,20 +59,154 @@ fn sized(text: Bytes) -> Result<Bytes, RightsFault>
     Ok(text)
 }
 
-#[tactic(auto, unfolding(crate::specs::Reading::right_of))]
-fn right_of(alloc: Global, value: &Value) -> Result<Right, RightsFault>
-    ensures value { Gives result (right_of (view value.now)) }
-    ensures fits { IfOk result Fits }
+#[tactic(auto, unfolding(crate::specs::Reading::type_of))]
+fn type_of(alloc: Global, right: &Value) -> Result<Bytes, RightsFault>
+    ensures value { Gives OutOfMemory (λ s. s) result (type_of (view right.now)) }
+    ensures utf8 { IfOk result IsUtf8 }
 {
-    let Some(text) = value.as_str() else {
+    let Some(member) = right.get("type") else {
         return Err(RightsFault::Wrong);
     };
-    let name = sized(Bytes::from_slice(alloc, text.as_bytes())?)?;
-    Ok(Right::Reference(name))
+    sized(any_text(alloc, member)?)
+}
+
+fn texts_of(alloc: Global, items: &Vec<Value>) -> Result<Texts, RightsFault>
+    ensures value { Gives OutOfMemory (λ s. s) result (each any_text (items_view items.now.items)) }
+    ensures utf8 { IfOk result (AllByRecursion IsUtf8) }
+{
+    let mut texts = Seq::new(alloc);
+    for item in items {
+        texts.push(any_text(alloc, item)?)?;
+    }
+    Ok(texts)
+}
+
+#[tactic(auto, unfolding(crate::specs::Reading::dimension_of))]
+fn dimension_of(alloc: Global, right: &Value, name: &str) -> Result<Option<Texts>, RightsFault>
+    ensures value { Gives OutOfMemory (λ s. s) result (dimension_of name.now (view right.now)) }
+    ensures few { IfOk result (λ t. extent t ≤ 16) }
+    ensures utf8 { IfOk result AreUtf8 }
+{
+    let Some(member) = right.get(name) else {
+        return Ok(None);
+    };
+    let Some(items) = member.as_array() else {
+        return Err(RightsFault::Wrong);
+    };
+    let texts = texts_of(alloc, items)?;
+    if texts.len() == 0 {
+        return Err(RightsFault::Wrong);
+    }
+    if 16 < texts.len() {
+        return Err(RightsFault::TooMany);
+    }
+    Ok(Some(texts))
+}
+
+#[tactic(auto, unfolding(crate::specs::Reading::identifier_of))]
+fn identifier_of(alloc: Global, right: &Value) -> Result<Option<Bytes>, RightsFault>
+    ensures value { Gives OutOfMemory (λ s. s) result (identifier_of (view right.now)) }
+    ensures utf8 { IfOk result IsUtf8Or }
+{
+    let Some(member) = right.get("identifier") else {
+        return Ok(None);
+    };
+    Ok(Some(any_text(alloc, member)?))
+}
+
+#[tactic(auto, unfolding(crate::specs::Fits::is_own))]
+fn is_own(name: &str) -> bool
+    ensures { result ≡ is_own name.now }
+{
+    name == "type"
+        || name == "actions"
+        || name == "locations"
+        || name == "datatypes"
+        || name == "privileges"
+        || name == "identifier"
+}
+
+fn others(alloc: Global, members: &Map<String, Value>) -> Result<Map<String, Value>, Mem>
+    ensures { IfOk result (λ m. members_view m.entries
+        ≡ others (members_view members.now.entries)) }
+{
+    let mut found = Map::new(alloc);
+    for (key, member) in members.iter() {
+        if !is_own(key.as_str()) {
+            serde_json::put(&mut found, alloc, key.as_str(), member.clone()?)?;
+        }
+    }
+    Ok(found)
+}
+
+fn further_of(alloc: Global, members: &Map<String, Value>) -> Result<Bytes, Mem>
+    requires { IsBody (object (members_view members.now.entries)) }
+    ensures value { IfOk result (λ b. b ≡ further_of (members_view members.now.entries)) }
+    ensures fits { IfOk result IsFurther }
+{
+    let others = Value::Object(others(alloc, members)?);
+    Ok(Bytes::from_vec(others.to_vec(alloc)?))
+}
+
+fn extent(dimension: &Option<Texts>) -> usize
+    ensures { result ≡ extent dimension.now }
+{
+    match dimension {
+        None => 1,
+        Some(values) => values.len(),
+    }
+}
+
+#[tactic(auto, unfolding(crate::specs::Reading::right_object_of))]
+fn right_object_of(
+    alloc: Global,
+    right: &Value,
+    members: &Map<String, Value>,
+) -> Result<RightObject, RightsFault>
+    requires { IsBody (object (members_view members.now.entries)) }
+    ensures value { Gives OutOfMemory (λ r. r) result (right_object_of (view right.now) (members_view members.now.entries)) }
+    ensures fits { IfOk result FitsObject }
+{
+    let kind = type_of(alloc, right)?;
+    let actions = dimension_of(alloc, right, "actions")?;
+    let locations = dimension_of(alloc, right, "locations")?;
+    let datatypes = dimension_of(alloc, right, "datatypes")?;
+    let privileges = dimension_of(alloc, right, "privileges")?;
+    let identifier = identifier_of(alloc, right)?;
+    let atoms = extent(&actions) * extent(&locations) * extent(&datatypes) * extent(&privileges);
+    let further = further_of(alloc, members)?;
+    if 1024 < atoms {
+        return Err(RightsFault::TooMany);
+    }
+    Ok(RightObject {
+        kind,
+        actions,
+        locations,
+        datatypes,
+        privileges,
+        identifier,
+        further,
+    })
+}
+
+#[tactic(auto, unfolding(crate::specs::Reading::right_of))]
+fn right_of(alloc: Global, value: &Value) -> Result<Right, RightsFault>
+    requires { IsBody (view value.now) }
+    ensures value { Gives OutOfMemory (λ r. r) result (right_of (view value.now)) }
+    ensures fits { IfOk result Fits }
+{
+    if let Some(text) = value.as_str() {
+        return Ok(Right::Reference(sized(Bytes::from_slice(alloc, text.as_bytes())?)?));
+    }
+    let Some(members) = value.as_object() else {
+        return Err(RightsFault::Wrong);
+    };
+    Ok(Right::Object(right_object_of(alloc, value, members)?))
 }
 
 fn each_right(alloc: Global, items: &Vec<Value>) -> Result<Rights, RightsFault>
-    ensures value { Gives result (each right_of (items_view items.now.items)) }
+    requires { AreBodies (items_view items.now.items) }
+    ensures value { Gives OutOfMemory (λ r. r) result (each right_of (items_view items.now.items)) }
     ensures fits { IfOk result (AllByRecursion Fits) }
 {
     let mut rights = Seq::new(alloc);
@@ -84,12 +216,14 @@ fn each_right(alloc: Global, items: &Vec<Value>) -> Result<Rights, RightsFault>
     Ok(rights)
 }
 
-/// The rights that a JSON array is: references, each a string of 1 to 256 bytes. The first fault in it is named. A right in full (an object) is
-/// `Wrong`.
+/// The rights that a JSON array is. A right is a string of 1 to 256 bytes, its reference, or an object, the right in full, with `type`, a string of 1
+/// to 256 bytes, and where they are there `actions`, `locations`, `datatypes` and `privileges`, arrays of 1 to 16 strings, and `identifier`, a string;
+/// its other members are kept as one text. A right in full has at most 1,024 atoms: the choices of one value from each of the four arrays. The members
+/// are read in this order, and the first fault in the array is the answer.
 #[tactic(auto, unfolding(crate::specs::Reading::rights_of))]
 pub fn read_rights(alloc: Global, value: &Value) -> Result<Rights, RightsFault>
     requires { IsBody (view value.now) }
-    ensures value { Gives result (rights_of (view value.now)) }
+    ensures value { Gives OutOfMemory (λ r. r) result (rights_of (view value.now)) }
     ensures fits { IfOk result (AllByRecursion Fits) }
 {
     let Some(items) = value.as_array() else {

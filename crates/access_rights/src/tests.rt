@@ -1,4 +1,3 @@
-use crate::json_parts::has_fraction;
 use crate::{
     Names, Right, RightObject, Rights, RightsFault, covers, read_rights, rights_value, served_part,
     serves,
@@ -6,6 +5,7 @@ use crate::{
 use gnap_io::bytes::Bytes;
 use gnap_io::memory::Mem;
 use gnap_io::seq::Seq;
+use json_objects::has_fraction;
 use serde_json::Value;
 use std::alloc::Global;
 use std::test::Fail;

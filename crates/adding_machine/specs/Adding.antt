@@ -4,7 +4,7 @@ use Rattle.histories.specs.declared.entry.Entry.{Entry}
 use Rattle.histories.specs.History.{Answer, Law, by_notes}
 use Rattle.histories.specs.ByNotes.{StandsByNotes}
 use Rattle.adding_machine.specs.declared.adding.Call.{Call}
-use Rattle.adding_machine.specs.declared.adding.Call.TheVariants.{Add, Lapse}
+use Rattle.adding_machine.specs.declared.adding.Call.TheVariants.{Add, Total, Lapse}
 use Rattle.adding_machine.specs.declared.adding.Reply.{Reply}
 use Rattle.adding_machine.specs.declared.adding.Reply.TheVariants.{Sum, Lapsed}
 
@@ -16,9 +16,10 @@ abbrev pub added : List ℕ → ℕ
 added [] = 0
 added (n ∷ ns) = n + added ns
 
--- The reply to an amount is the sum of all so far.
+-- The reply is the sum of all amounts so far.
 abbrev pub add_answer : ℕ → List ℕ → ℕ → List ℕ → Call → Answer Reply ℕ
 add_answer start notes now draw (Add amount) = record { reply = Sum (capped (start + added notes + amount)); notes = amount ∷ [] }
+add_answer start notes now draw Total = record { reply = Sum (capped (start + added notes)); notes = [] }
 add_answer start notes now draw Lapse = record { reply = Lapsed; notes = [] }
 
 -- each call fits
@@ -27,6 +28,10 @@ AddFits call = Unit {0}
 
 abbrev pub adding : Law ℕ Call Reply ℕ
 adding = by_notes add_answer AddFits Lapse
+
+-- the calls for which a step takes no memory
+abbrev pub IsFrugal : Call → Type 0
+IsFrugal call = call ≡ Total
 
 -- the amounts, the sum and the greatest moment are those of the history
 pub record StandsFor (start : ℕ) (amounts : List ℕ) (total latest : ℕ) (h : List (Entry Call Reply ℕ)) : Type 0 where

@@ -3,7 +3,7 @@ use Rattle.std.specs.Prelude.{◌≡◌, ◌⊎◌, ℕ, ◌+◌, List, [], ◌�
 use Rattle.histories.specs.declared.entry.Entry.{Entry}
 use Rattle.histories.specs.Whole.{own_of}
 use Rattle.adding_machine.specs.declared.adding.Call.{Call}
-use Rattle.adding_machine.specs.declared.adding.Call.TheVariants.{Add, Lapse}
+use Rattle.adding_machine.specs.declared.adding.Call.TheVariants.{Add, Total, Lapse}
 use Rattle.adding_machine.specs.declared.adding.Reply.{Reply}
 use Rattle.adding_machine.specs.declared.adding.Reply.TheVariants.{Sum, Lapsed}
 use Rattle.adding_machine.specs.declared.calls.Made.{Made}
@@ -20,6 +20,7 @@ EachAdds amount (e ∷ h) = ((e.call ≡ Add amount) ⊎ (e.call ≡ Lapse)) × 
 -- one for a call that adds
 abbrev pub one_if_adds : Call → ℕ
 one_if_adds (Add amount) = 1
+one_if_adds Total = 0
 one_if_adds Lapse = 0
 
 -- how many of the entries add

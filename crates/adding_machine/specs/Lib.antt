@@ -1,3 +1,4 @@
 pub mod Adding
 pub mod Amounts
 pub mod Standing
+pub mod Refusals

@@ -1,12 +1,13 @@
 -- A core that adds stands for a history, step by step.
-use Rattle.std.proofs.Common.{◌≡◌, ◌∙◌, ℕ, ◌+◌, ◌<◌, ◌≤◌, ◌^◌, max, List, [], ◌∷◌, ◌++◌, refl, ap, arith}
+use Rattle.std.proofs.Common.{◌≡◌, ◌∙◌, ℕ, ◌+◌, ◌<◌, ◌≤◌, ◌^◌, max, List, [], ◌∷◌, ◌++◌, refl, ap, sym, arith}
+use Rattle.std.proofs.lemmas.List.{append-nil}
 use Rattle.histories.specs.declared.entry.Entry.{Entry}
 use Rattle.histories.specs.History.{Renumbered, last_moment}
 use Rattle.histories.specs.Steps.{Answers, Lapses}
 use Rattle.histories.specs.ByNotes.{stands-nil, answers-by_notes, lapses-by_notes}
 use Rattle.histories.specs.ByNotes.{stands-renumbered as notes-renumbered}
 use Rattle.adding_machine.specs.declared.adding.Call.{Call}
-use Rattle.adding_machine.specs.declared.adding.Call.TheVariants.{Add, Lapse}
+use Rattle.adding_machine.specs.declared.adding.Call.TheVariants.{Add, Total, Lapse}
 use Rattle.adding_machine.specs.declared.adding.Reply.{Reply}
 use Rattle.adding_machine.specs.declared.adding.Reply.TheVariants.{Sum}
 use Rattle.adding_machine.specs.Adding.{capped, added, add_answer, AddFits, adding, StandsFor}
@@ -52,3 +53,12 @@ lapses-added start amounts total latest h moment draw amounts' total' latest' s 
   by_notes = lapses-by_notes add_answer AddFits Lapse start amounts latest h moment draw latest' s.by_notes tt time top refl k;
   total_is = s.total_is;
 })
+
+-- The sum that is kept is the one that the machine answers.
+pub answers-total : (start : ℕ) (amounts : List ℕ) (total latest : ℕ) (h : List (Entry Call Reply ℕ)) (moment : ℕ) (draw : List ℕ) (latest' : ℕ)
+    → StandsFor start amounts total latest h → moment ≤ last_moment → latest' ≡ max latest moment
+    → Answers adding start h moment draw Total (Sum total) (StandsFor start amounts total latest')
+answers-total start amounts total latest h moment draw latest' s time top =
+    let by = answers-by_notes add_answer AddFits Lapse start amounts latest h moment draw Total (Sum total) amounts latest'
+    s.by_notes tt time top (ap Sum s.total_is) (sym (append-nil amounts)) in
+    record { reply_is = by.reply_is; stands_now = λ k. record { by_notes = by.stands_now k; total_is = s.total_is } }

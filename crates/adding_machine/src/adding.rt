@@ -6,13 +6,15 @@ use histories::machine::Machine;
 pub enum Call {
     /// Adds the amount.
     Add(u64),
+    /// Asks for the sum and adds nothing. It takes no memory.
+    Total,
     /// Stands where memory ran out.
     Lapse,
 }
 
 #[derive(Clone, Copy, Debug, PartialEq, Eq)]
 pub enum Reply {
-    /// The sum of all amounts so far, this one among them. It stands still at 2^64 - 1.
+    /// The sum of all amounts so far, one that is added by this call among them. It stands still at 2^64 - 1.
     Sum(u64),
     Lapsed,
 }

@@ -1,6 +1,8 @@
 //! Calls made one after another, at any desk.
-ghost use Rattle.std.specs.Prelude.{◌≡◌, ◌+◌, ◌<◌, ◌^◌, length, IfOk, OnErr};
+ghost use Rattle.std.specs.Prelude.{◌≡◌, ◌+◌, ◌<◌, ◌^◌, length, replicate, IfOk, OnErr};
 ghost use Rattle.histories.specs.History.{places};
+ghost use Rattle.histories.specs.Steps.{Enters};
+ghost use Rattle.adding_machine.specs.Adding.{adding};
 ghost use Rattle.adding_machine.specs.Amounts.{sum_or, GrewBy};
 
 use crate::adding::{Adding, Call, Reply};
@@ -57,4 +59,21 @@ pub fn add_often<D: Desk<M = Adding>>(desk: &mut D, amount: u64, times: u64) -> 
         made.count(desk.submit(0, &draw, Call::Add(amount)));
     }
     made
+}
+
+/// The sum so far, at a desk where asking for it takes no memory. So the call never lapses, and there is always an answer.
+pub fn total_at<D: Desk<M = Adding>>(desk: &mut D) -> u64
+    requires frugal { D.frugal Call.Total }
+    requires room { (h : _) × D.seen desk.old h × (length (places (D.number desk.old) h) < 2 ^ 52) }
+    ensures rules { D.rules desk.new ≡ D.rules desk.old }
+    ensures number { D.number desk.new ≡ D.number desk.old }
+    ensures home { D.home desk.new ≡ D.home desk.old }
+    ensures entered { (h : _) → D.seen desk.old h
+        → Enters adding (D.rules desk.old) (D.number desk.old) h 0 (replicate 48 0) Call.Total (Reply.Sum result) (D.seen desk.new) }
+{
+    match desk.submit(0, &[0; 48], Call::Total) {
+        Ok(Reply::Sum(total)) => total,
+        Ok(Reply::Lapsed) => unreachable!(),
+        Err(_) => unreachable!(),
+    }
 }

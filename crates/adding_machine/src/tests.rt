@@ -1,6 +1,6 @@
 use crate::adder::Adder;
 use crate::adding::{Adding, Call, Reply};
-use crate::calls::{Made, add_often};
+use crate::calls::{Made, add_often, total_at};
 use gnap_io::memory::Mem;
 use histories::laws::{by_order, one_alone, one_history};
 use histories::lone::Lone;
@@ -53,6 +53,13 @@ fn a_desk_of_ones_own_adds(rt: HostRuntime) {
         let core = desk.into_core();
         assert_eq!(rt; core.total(), total, "from {start}");
     }
+}
+
+/// A desk whose core refuses each add tells its sum all the same.
+#[test]
+fn a_sum_takes_no_memory(rt: HostRuntime) {
+    let mut desk = Lone::new(Adder::new(rt.alloc(), 5, 1));
+    assert_eq!(rt; total_at(&mut desk), 5);
 }
 
 #[test]

@@ -1,130 +1,194 @@
--- Where the calls of a history fit, so do its replies.
-use Rattle.std.proofs.Common.{◌≡◌, ℕ, ◌+◌, ◌*◌, Bool, true, false, List, [], ◌∷◌, ◌++◌, length, map, reverse, refl, sym, subst, append_assoc, append-nil, Option, Some, None}
-use Rattle.std.specs.List.{AllByRecursion, filter}
-use Rattle.std.specs.Str.{IsUtf8}
-use Rattle.std.specs.Prelude.{if◌then◌else◌, nat_le, ◌||◌}
-use Rattle.std.specs.Option.{option_or}
-use Rattle.std.proofs.lemmas.List.{reverse-append}
-use Rattle.std.proofs.lemmas.Str.{IsUtf8-from_ascii}
-use Rattle.base64.specs.Engines.{url_safe_no_pad}
-use Rattle.base64.proofs.EngineFacts.{IsAscii-encode_of}
+-- Where the calls of a history fit, so do its notes and its replies.
+use Rattle.std.proofs.Common.{◌≡◌, ℕ, ◌+◌, List, [], ◌∷◌, ◌++◌, length, reverse, refl, sym, subst, append_assoc, append-nil, Option, Some, None}
+use Rattle.std.specs.List.{AllByRecursion}
+use Rattle.std.specs.Option.{IfSome}
+use Rattle.std.specs.Prelude.{if◌then◌else◌, is_some, not, ◌&&◌, ◌||◌, nat_le}
 use Rattle.histories.specs.History.{Legal, now, notes_of, entry_of}
 use Rattle.histories.specs.Histories.{legal-front, notes-append}
 use Rattle.histories.specs.Steps.{Enters}
-use Rattle.access_rights.specs.Fits.{Fits, IsUtf8Or}
-use Rattle.gnap_model.specs.Common.{Text, first_of, some_if}
-use Rattle.gnap_model.specs.Values.{value_text}
+use Rattle.access_rights.specs.Fits.{Fits}
+use Rattle.gnap_model.specs.Common.{Text, first_of, same_text}
 use Rattle.gnap_model.specs.Rights.{serves, served_part}
-use Rattle.gnap_model.specs.Limits.{live_limit}
+use Rattle.gnap_model.specs.Asked.{asked_rights}
+use Rattle.gnap_model.specs.Limits.{live_limit, wrong_limit}
 use Rattle.gnap_model.specs.Keys.{key_of, server_names}
-use Rattle.gnap_model.specs.Standing.{live_token, live_tokens, live_grants, token_in}
+use Rattle.gnap_model.specs.Standing.{GrantState, opening_in, grant_state, named_grant, managed_token, live_token, live_tokens, live_grants, decision_of, wrongs_of, terms_of, consent_of, round_by_handle, round_by_code, is_live}
+use Rattle.gnap_model.specs.Standing.GrantState.{IsPending, IsApproved, IsFinalized}
 use Rattle.gnap_model.specs.Judging.{Settled, settle, suits, serves_all}
 use Rattle.gnap_model.specs.Judging.Settled.{AtOnce, ByAsking, Never}
-use Rattle.gnap_model.specs.Actions.{Action, Supply, outcome_of, tokens_for, token_out, door_note}
-use Rattle.gnap_model.specs.Actions.Action.{Refuse, ShowToken, ShowInactive, OpenAtOnce}
-use Rattle.gnap_model.specs.Begin.{begin_by, is_past, opening, pass_limit, show_token}
-use Rattle.gnap_model.specs.Answer.{supply_of, gnap_answer}
+use Rattle.gnap_model.specs.Actions.{Action, Supply, on_found, with_key}
+use Rattle.gnap_model.specs.Actions.Action.{Refuse, ShowToken, ShowInactive, ShowHandle, TakeDecision, OpenAtOnce, OpenAsking, RenewDoor, CollectDecision, WrongReference, LastWrongReference, RefuseAndFinalize, ModifyAtOnce, ModifyAsking}
+use Rattle.gnap_model.specs.Begin.{begin_by, is_past, opening, pass_limit, show_token, ask_user}
+use Rattle.gnap_model.specs.Continue.{with_grant, decided_asks, collect_by, collect_or_renew, is_wrong, is_early, wrong_reference, continue_round, continue_at}
+use Rattle.gnap_model.specs.Change.{modify_by, tokens_of, other_live_tokens}
+use Rattle.gnap_model.specs.Manage.{rotate_key, on_grant}
+use Rattle.gnap_model.specs.Front.{rights_or, may_decide, decide_on}
+use Rattle.gnap_model.specs.Answer.{action_of, supply_of, gnap_answer}
 use Rattle.gnap_model.specs.declared.calls.Call.{Call}
 use Rattle.gnap_model.specs.declared.calls.Call.TheVariants.{Begin, Introspect, Lapse, Continue, Modify, Cancel, Rotate, Revoke, Look, FindCode, Decide}
 use Rattle.gnap_model.specs.declared.calls.Reply.{Reply}
 use Rattle.gnap_model.specs.declared.notes.Note.{Note}
-use Rattle.gnap_model.specs.declared.notes.Note.TheVariants.{Opened, Terms, Approved, Issued, Door, Pended, DecidedAs, Finalized, Wrong, Retired}
 use Rattle.gnap_model.specs.declared.notes.OpeningNote.{OpeningNote}
+use Rattle.gnap_model.specs.declared.notes.TermsNote.{TermsNote}
+use Rattle.gnap_model.specs.declared.notes.RoundNote.{RoundNote}
+use Rattle.gnap_model.specs.declared.notes.DecisionNote.{DecisionNote}
 use Rattle.gnap_model.specs.declared.notes.TokenNote.{TokenNote}
-use Rattle.gnap_model.specs.declared.objects.Ask.{Ask}
 use Rattle.gnap_model.specs.declared.objects.Binding.{Binding}
+use Rattle.gnap_model.specs.declared.objects.DecideRequest.{DecideRequest}
 use Rattle.gnap_model.specs.declared.objects.GrantRequest.{GrantRequest}
+use Rattle.gnap_model.specs.declared.objects.Modes.{Modes}
 use Rattle.gnap_model.specs.declared.objects.Setup.{Setup}
+use Rattle.gnap_model.specs.declared.objects.Verdict.{Verdict}
+use Rattle.gnap_model.specs.declared.objects.Verdict.TheVariants.{Grant, Deny, Unknown}
+use Rattle.gnap_model.specs.declared.objects.ErrorCode.{ErrorCode}
+use Rattle.gnap_model.specs.declared.objects.ErrorCode.TheVariants.{RequestDenied, InvalidAccess, InvalidClient, InvalidContinuation, InvalidInteraction, InvalidRequest, InvalidRotation, TooFast, TooManyAttempts, UnknownInteraction}
 use Rattle.gnap_model.specs.declared.rights.Right.{Right}
-use Rattle.gnap_model.specs.declared.objects.ErrorCode.TheVariants.{RequestDenied, InvalidAccess}
-use Rattle.gnap_history.specs.Fits.{RightsFit, AskFits, TokenFits, ReplyFits}
-use Rattle.gnap_history.specs.Gnap.{gnap, GnapEntry, GnapFits}
-use Rattle.gnap_history.proofs.Shown.{introspect_silent}
+use Rattle.gnap_objects.specs.Fits.{AskFits}
+use Rattle.gnap_objects.specs.CallsFit.{RightsFit, RightsFitOr, ModesFit, ModesFitOr, DecisionFits, TextsFit, ReplyFits, NoteFits, NotesFit}
+use Rattle.gnap_history.specs.Gnap.{gnap, GnapEntry}
+use Rattle.gnap_history.proofs.ActionsFit.{ActionFits, outcome_fits}
+use Rattle.gnap_history.proofs.FoundFits.{all-append, all-reverse, all-filter, if_both, OpeningFits, TermsFit, TokenNoteFits, RoundFits, DecidedFits, opening_fits, terms_fit, token_fits, named_fits, consent_fits, decision_of_fits, by_handle_fits, by_code_fits, asked_fit, decided_fit}
 
--- ---- lists
+-- ---- from a call that fits, after notes that fit, to an action that fits
 
-all-append : {X : Type 0} (P : X → Type 0) (xs ys : List X) → AllByRecursion P xs → AllByRecursion P ys → AllByRecursion P (xs ++ ys)
-all-append P [] ys hx hy = hy
-all-append P (x ∷ xs) ys hx hy = (hx.0, all-append P xs ys hx.1 hy)
+found_fits : {X : Type 0} (P : X → Type 0) (code : ErrorCode) (act : X → Action) (found : Option X) → IfSome found P → ((x : X) → P x → ActionFits (act x)) → ActionFits (on_found code act found)
+found_fits P code act None fit each = tt
+found_fits P code act (Some x) fit each = each x fit
 
-all-reverse : {X : Type 0} (P : X → Type 0) (xs : List X) → AllByRecursion P xs → AllByRecursion P (reverse xs)
-all-reverse P [] h = tt
-all-reverse {X} P (x ∷ xs) h =
-    subst (λ (ys : List X). AllByRecursion P ys) (sym (reverse-append (x ∷ []) xs)) (all-append P (reverse xs) (x ∷ []) (all-reverse P xs h.1) (h.0, tt))
+with_key_fits : (act : OpeningNote → Action) (key : Text) (o : OpeningNote) → ActionFits (act o) → ActionFits (with_key act key o)
+with_key_fits act key o fit = if_both ActionFits (same_text o.key key) (act o) (Refuse InvalidClient) fit tt
 
-all-filter : {X : Type 0} (P : X → Type 0) (test : X → Bool) (xs : List X) → AllByRecursion P xs → AllByRecursion P (filter test xs)
-all-filter P test [] h = tt
-all-filter {X} P test (x ∷ xs) h = kept (test x) (all-filter P test xs h.1)
-  where
-    kept : (b : Bool) → AllByRecursion P (filter test xs) → AllByRecursion P (if b then x ∷ filter test xs else filter test xs)
-    kept true rest = (h.0, rest)
-    kept false rest = rest
+with_grant_fits : (trail : List Note) (now : ℕ) (key value : Text) (act : OpeningNote → Action) → NotesFit trail → ((o : OpeningNote) → OpeningFits o → ActionFits (act o))
+    → ActionFits (with_grant act key (named_grant trail now value))
+with_grant_fits trail now key value act fit each =
+    found_fits OpeningFits InvalidContinuation (with_key act key) (named_grant trail now value) (named_fits trail now value trail fit) (λ o h. with_key_fits act key o (each o h))
 
-if_both : {A : Type 0} (P : A → Type 0) (b : Bool) (x y : A) → P x → P y → P (if b then x else y)
-if_both P true x y hx hy = hx
-if_both P false x y hx hy = hy
+ask_user_fits : (ask : Modes → Action) (modes : Option Modes) → ModesFitOr modes → ((m : Modes) → ModesFit m → ActionFits (ask m)) → ActionFits (ask_user ask modes)
+ask_user_fits ask None fit each = tt
+ask_user_fits ask (Some modes) fit each = each modes fit
 
--- ---- drawn values
+begin_by_fits : (s : Settled) (trail : List Note) (now : ℕ) (o : OpeningNote) (request : GrantRequest) → OpeningFits o → AllByRecursion AskFits request.asks → ModesFitOr request.modes
+    → ActionFits (begin_by s trail now o request)
+begin_by_fits Never trail now o request key asks modes = tt
+begin_by_fits AtOnce trail now o request key asks modes =
+    if_both ActionFits (pass_limit (live_tokens trail now) (length request.asks)) (Refuse RequestDenied) (OpenAtOnce o request) tt (key, asks)
+begin_by_fits ByAsking trail now o request key asks modes = ask_user_fits (OpenAsking o request) request.modes modes (λ m fit. (key, asks, fit))
 
-value_fits : (s a b : ℕ) → IsUtf8 (value_text s a b)
-unfolding value_text
-value_fits s a b = IsUtf8-from_ascii _ (IsAscii-encode_of url_safe_no_pad _)
+modify_by_fits : (s : Settled) (trail : List Note) (now : ℕ) (o : OpeningNote) (request : GrantRequest) → NotesFit trail → OpeningFits o → AllByRecursion AskFits request.asks
+    → ModesFitOr request.modes → ActionFits (modify_by s trail now o request)
+modify_by_fits Never trail now o request fit key asks modes = tt
+modify_by_fits AtOnce trail now o request fit key asks modes = if_both ActionFits (pass_limit (other_live_tokens trail now o) (length request.asks)) (Refuse RequestDenied)
+    (ModifyAtOnce o (consent_of trail o.grant) (tokens_of trail now o) request) tt (key, consent_fits o.grant trail fit, asks)
+modify_by_fits ByAsking trail now o request fit key asks modes =
+    ask_user_fits (ModifyAsking o (tokens_of trail now o) request) request.modes modes (λ m modes_fit. (asks, modes_fit))
 
--- ---- what the notes keep
+collect_by_fits : (verdict : Verdict) (trail : List Note) (now : ℕ) (o : OpeningNote) (d : DecisionNote) (terms : TermsNote) → OpeningFits o → DecidedFits d → TermsFit terms
+    → ActionFits (collect_by verdict trail now o d terms)
+collect_by_fits Deny trail now o d terms key decided asks = tt
+collect_by_fits Unknown trail now o d terms key decided asks = tt
+collect_by_fits Grant trail now o d terms key decided asks = if_both ActionFits (pass_limit (live_tokens trail now) (length (decided_asks d.rights terms))) (Refuse RequestDenied)
+    (CollectDecision o terms d (decided_asks d.rights terms)) tt (key, decided, decided_fit d.rights terms.asks asks)
 
--- the texts of a token that was issued
-abbrev pub NoteFits : Note → Type 0
-NoteFits (Issued t) = IsUtf8Or t.label × RightsFit t.rights × IsUtf8 t.key
-NoteFits _ = Unit {0}
+collect_or_renew_fits : (trail : List Note) (now : ℕ) (o : OpeningNote) (decision : Option DecisionNote) → NotesFit trail → OpeningFits o → IfSome decision DecidedFits
+    → ActionFits (collect_or_renew trail now o decision)
+collect_or_renew_fits trail now o None fit key decided = tt
+collect_or_renew_fits trail now o (Some d) fit key decided =
+    found_fits TermsFit InvalidRequest (collect_by d.verdict trail now o d) (terms_of trail o.grant) (terms_fit o.grant trail fit)
+    (λ terms asks. collect_by_fits d.verdict trail now o d terms key decided asks)
 
-abbrev pub NotesFit : List Note → Type 0
-NotesFit notes = AllByRecursion NoteFits notes
+continue_round_fits : (trail : List Note) (now : ℕ) (o : OpeningNote) (reference : Option Text) (decision : Option DecisionNote) (round : RoundNote)
+    → NotesFit trail → OpeningFits o → IfSome decision DecidedFits → ActionFits (continue_round trail now o reference decision round)
+continue_round_fits trail now o reference decision round fit key decided =
+    let last = if is_wrong reference decision then wrong_reference trail o else collect_or_renew trail now o decision in
+    let next = if not (is_some reference) && is_some round.modes.finish then Refuse InvalidRequest else last in
+    if_both ActionFits (not (is_some decision) && nat_le round.until now) (RefuseAndFinalize o InvalidInteraction) next tt
+    (if_both ActionFits (not (is_some reference) && is_some round.modes.finish) (Refuse InvalidRequest) last tt
+    (if_both ActionFits (is_wrong reference decision) (wrong_reference trail o) (collect_or_renew trail now o decision)
+    (if_both ActionFits (nat_le wrong_limit (wrongs_of trail o.grant + 1)) (LastWrongReference o) (WrongReference o) tt tt)
+    (collect_or_renew_fits trail now o decision fit key decided)))
 
-issued_fit : (supply : Supply) (o : OpeningNote) (asks : List Ask) (k : ℕ) → IsUtf8 o.key → AllByRecursion AskFits asks → NotesFit (map Issued (tokens_for supply o asks k))
-issued_fit supply o [] k key h = tt
-issued_fit supply o (ask ∷ asks) k key h = ((h.0.0, h.0.1, key), issued_fit supply o asks (k + 2) key h.1)
+continue_at_fits : (state : GrantState) (trail : List Note) (now : ℕ) (o : OpeningNote) (reference : Option Text) → NotesFit trail → OpeningFits o
+    → ActionFits (continue_at state trail now o reference)
+continue_at_fits IsFinalized trail now o reference fit key = tt
+continue_at_fits IsApproved trail now o reference fit key =
+    if_both ActionFits (is_some reference) (RefuseAndFinalize o TooManyAttempts) (if is_early trail now o then Refuse TooFast else RenewDoor o) tt
+    (if_both ActionFits (is_early trail now o) (Refuse TooFast) (RenewDoor o) tt tt)
+continue_at_fits (IsPending round) trail now o reference fit key =
+    if_both ActionFits (not (is_some reference) && is_early trail now o) (Refuse TooFast) (continue_round trail now o reference (decision_of trail o.grant) round) tt
+    (continue_round_fits trail now o reference (decision_of trail o.grant) round fit key (decision_of_fits trail o.grant fit))
 
-granted_fit : (supply : Supply) (o : OpeningNote) (request : GrantRequest) → IsUtf8 o.key → AllByRecursion AskFits request.asks → NotesFit (outcome_of supply (OpenAtOnce o request)).notes
-granted_fit supply o request key h =
-    (tt, (tt, (tt, all-append NoteFits (map Issued (tokens_for supply o request.asks 0)) (door_note supply o (2 * length request.asks) ∷ []) (issued_fit supply o request.asks 0 key h) (tt, tt))))
+rotate_key_fits : (new_key : Option Text) (t : TokenNote) (o : OpeningNote) → TokenNoteFits t → OpeningFits o → ActionFits (rotate_key new_key t o)
+rotate_key_fits None t o token key = (key, token)
+rotate_key_fits (Some new_key) t o token key = tt
 
--- the notes of an action fit
-abbrev OutcomeNotesFit : Supply → Action → Type 0
-OutcomeNotesFit supply action = NotesFit (outcome_of supply action).notes
+on_grant_fits : (code : ErrorCode) (trail : List Note) (key : Text) (t : TokenNote) (act : OpeningNote → Action) → NotesFit trail → ((o : OpeningNote) → OpeningFits o → ActionFits (act o))
+    → ActionFits (on_grant code trail key t act)
+on_grant_fits code trail key t act fit each = found_fits OpeningFits code (with_key act key) (first_of (opening_in t.grant) trail) (opening_fits t.grant trail fit)
+    (λ o h. with_key_fits act key o (each o h))
 
-begun_fit : (s : Settled) (supply : Supply) (trail : List Note) (o : OpeningNote) (request : GrantRequest) → request.modes ≡ None → IsUtf8 o.key → AllByRecursion AskFits request.asks
-    → OutcomeNotesFit supply (begin_by s trail supply.now o request)
-begun_fit Never supply trail o request none key h = tt
-begun_fit AtOnce supply trail o request none key h =
-    if_both (OutcomeNotesFit supply) (pass_limit (live_tokens trail supply.now) (length request.asks)) (Refuse RequestDenied) (OpenAtOnce o request) tt (granted_fit supply o request key h)
-begun_fit ByAsking supply trail o request none key h = rw none tt
+show_token_fits : (names : List Text) (binding : Option Binding) (wanted : Option (List Right)) (t : Option TokenNote) → IfSome t TokenNoteFits → ActionFits (show_token names binding wanted t)
+show_token_fits names binding wanted None fit = tt
+show_token_fits names binding wanted (Some t) fit =
+    if_both ActionFits (suits names binding wanted t.rights t.bearer) (ShowToken (served_part names t.rights) t) ShowInactive (all-filter Fits (serves names) t.rights fit.1, fit) tt
 
--- The notes of a call that fits, fit.
-answer_notes_fit : (rules : Setup) (notes : List Note) (at : ℕ) (draw : List ℕ) (call : Call) → GnapFits call → NotesFit (gnap_answer rules notes at draw call).notes
-answer_notes_fit rules notes at draw (Begin key request not_after) fits =
-    let trail = reverse notes in
-    let supply = supply_of trail at draw in
-    if_both (OutcomeNotesFit supply) (is_past at not_after || nat_le live_limit (live_grants trail at)) (Refuse RequestDenied)
-    (begin_by (settle rules key [] request) trail at (opening trail at key request not_after) request) tt
-    (begun_fit (settle rules key [] request) supply trail (opening trail at key request not_after) request fits.1 fits.2.0 fits.2.1.0)
-answer_notes_fit rules notes at draw (Introspect server value binding wanted) fits =
-    subst NotesFit (sym (introspect_silent rules (reverse notes) at server value binding wanted (supply_of (reverse notes) at draw))) tt
-answer_notes_fit rules notes at draw Lapse fits = tt
-answer_notes_fit rules notes at draw (Continue key value reference) fits = absurd fits.1
-answer_notes_fit rules notes at draw (Modify key value request) fits = absurd fits.1
-answer_notes_fit rules notes at draw (Cancel key value) fits = absurd fits.1
-answer_notes_fit rules notes at draw (Rotate key value new_key) fits = absurd fits.1
-answer_notes_fit rules notes at draw (Revoke key value) fits = absurd fits.1
-answer_notes_fit rules notes at draw (Look front handle) fits = absurd fits.1
-answer_notes_fit rules notes at draw (FindCode front code) fits = absurd fits.1
-answer_notes_fit rules notes at draw (Decide front request) fits = absurd fits.1
+rights_or_fits : (asked : List Right) (rights : Option (List Right)) → RightsFit asked → RightsFitOr rights → RightsFit (rights_or asked rights)
+rights_or_fits asked None fit given = fit
+rights_or_fits asked (Some rights) fit given = given
+
+decide_on_fits : (request : DecideRequest) (round : RoundNote) (asked : List Right) → DecisionFits request → RoundFits round → RightsFit asked → ActionFits (decide_on request round asked)
+decide_on_fits request round asked decision round_fits fit = if_both ActionFits (may_decide request.verdict asked (rights_or asked request.rights))
+    (TakeDecision round (rights_or asked request.rights) request) (Refuse InvalidRequest) (round_fits, rights_or_fits asked request.rights fit decision.1, decision) tt
+
+-- After notes that fit, a call that fits leads to an action that fits.
+action_fits : (rules : Setup) (supply : Supply) (trail : List Note) (call : Call) → NotesFit trail → TextsFit call → ActionFits (action_of rules supply trail call)
+action_fits rules supply trail (Begin key request not_after) fit fits =
+    let o = opening trail supply.now key request not_after in
+    if_both ActionFits (is_past supply.now not_after || nat_le live_limit (live_grants trail supply.now)) (Refuse RequestDenied) (begin_by (settle rules key [] request) trail supply.now o request) tt
+    (begin_by_fits (settle rules key [] request) trail supply.now o request (fits.0, fits.1.2) fits.1.0 fits.2)
+action_fits rules supply trail (Introspect server value binding wanted) fit fits =
+    let names = server_names (key_of rules server) in
+    if_both ActionFits (serves_all names wanted) (show_token names binding wanted (live_token trail supply.now value)) (Refuse InvalidAccess)
+    (show_token_fits names binding wanted (live_token trail supply.now value) (token_fits _ trail fit)) tt
+action_fits rules supply trail Lapse fit fits = tt
+action_fits rules supply trail (Continue key value reference) fit fits =
+    with_grant_fits trail supply.now key value _ fit (λ o h. continue_at_fits (grant_state trail o.grant supply.now) trail supply.now o reference fit h)
+action_fits rules supply trail (Modify key value request) fit fits =
+    with_grant_fits trail supply.now key value _ fit
+    (λ o h. modify_by_fits (settle rules o.key (consent_of trail o.grant) request) trail supply.now o request fit h fits.1.0 fits.2)
+action_fits rules supply trail (Cancel key value) fit fits = with_grant_fits trail supply.now key value _ fit (λ o h. tt)
+action_fits rules supply trail (Rotate key value new_key) fit fits =
+    found_fits TokenNoteFits InvalidRotation _ (managed_token trail supply.now value) (token_fits _ trail fit)
+    (λ t h. if_both ActionFits (is_live trail supply.now t) (on_grant InvalidRotation trail key t (rotate_key new_key t)) (Refuse InvalidRotation)
+    (on_grant_fits InvalidRotation trail key t (rotate_key new_key t) fit (λ o k. rotate_key_fits new_key t o h k)) tt)
+action_fits rules supply trail (Revoke key value) fit fits =
+    found_fits TokenNoteFits InvalidRequest _ (managed_token trail supply.now value) (token_fits _ trail fit)
+    (λ t h. on_grant_fits InvalidRequest trail key t _ fit (λ o k. tt))
+action_fits rules supply trail (Look front handle) fit fits =
+    found_fits RoundFits UnknownInteraction _ (round_by_handle trail supply.now handle) (by_handle_fits trail supply.now handle fit)
+    (λ r round. found_fits TermsFit UnknownInteraction _ (terms_of trail r.grant) (terms_fit r.grant trail fit)
+    (λ t terms. found_fits OpeningFits UnknownInteraction _ (first_of (opening_in r.grant) trail) (opening_fits r.grant trail fit) (λ o key. (terms, key))))
+action_fits rules supply trail (FindCode front code) fit fits =
+    found_fits RoundFits UnknownInteraction ShowHandle (round_by_code trail supply.now code) (by_code_fits trail supply.now code fit) (λ r h. h)
+action_fits rules supply trail (Decide front request) fit fits =
+    found_fits RoundFits UnknownInteraction _ (round_by_handle trail supply.now request.handle) (by_handle_fits trail supply.now request.handle fit)
+    (λ r round. found_fits TermsFit UnknownInteraction _ (terms_of trail r.grant) (terms_fit r.grant trail fit)
+    (λ t terms. decide_on_fits request r (asked_rights t.asks) fits.1 round (asked_fit t.asks terms)))
+
+-- ---- histories
+
+-- The reply and the notes of a call that fits, after notes that fit, fit.
+answer_fits : (rules : Setup) (notes : List Note) (at : ℕ) (draw : List ℕ) (call : Call) → NotesFit notes → TextsFit call
+    → ReplyFits (gnap_answer rules notes at draw call).reply × NotesFit (gnap_answer rules notes at draw call).notes
+answer_fits rules notes at draw call fit fits =
+    let supply = supply_of (reverse notes) at draw in
+    outcome_fits supply (action_of rules supply (reverse notes) call) (action_fits rules supply (reverse notes) call (all-reverse NoteFits notes fit) fits)
 
 -- From entries whose notes fit, the rest of a legal history leads to notes that fit.
 notes_fit_on : (rules : Setup) (before rest : List GnapEntry) → Legal gnap rules (before ++ rest) → NotesFit (notes_of before) → NotesFit (notes_of (before ++ rest))
 notes_fit_on rules before [] legal fit = subst (λ (h : List GnapEntry). NotesFit (notes_of h)) (sym (append-nil before)) fit
 notes_fit_on rules before (e ∷ rest) legal fit =
     let follows = legal before e rest refl in
-    let here : NotesFit e.notes = subst NotesFit (sym follows.notes) (answer_notes_fit rules (notes_of before) (now before e.moment) e.draw e.call follows.fits) in
+    let here : NotesFit e.notes = subst NotesFit (sym follows.notes) (answer_fits rules (notes_of before) (now before e.moment) e.draw e.call fit follows.fits.2).1 in
     let joined : notes_of (before ++ e ∷ []) ≡ notes_of before ++ (e.notes ++ []) = notes-append before (e ∷ []) in
     let more : NotesFit (notes_of (before ++ e ∷ [])) = subst NotesFit (sym joined)
     (all-append NoteFits (notes_of before) (e.notes ++ []) fit (all-append NoteFits e.notes [] here tt)) in
@@ -136,90 +200,12 @@ notes_fit_on rules before (e ∷ rest) legal fit =
 pub notes_fit : (rules : Setup) (h : List GnapEntry) → Legal gnap rules h → NotesFit (notes_of h)
 notes_fit rules h legal = notes_fit_on rules [] h legal tt
 
--- ---- replies
-
-tokens_fit : (supply : Supply) (o : OpeningNote) (asks : List Ask) (k : ℕ) → AllByRecursion AskFits asks → AllByRecursion TokenFits (map (token_out supply.now) (tokens_for supply o asks k))
-tokens_fit supply o [] k h = tt
-tokens_fit supply o (ask ∷ asks) k h = ((value_fits _ _ _, value_fits _ _ _, h.0.0, h.0.1), tokens_fit supply o asks (k + 2) h.1)
-
-instance_fits : (b : Bool) (key : Text) → IsUtf8 key → IsUtf8Or (some_if b key)
-instance_fits true key h = h
-instance_fits false key h = tt
-
-abbrev OutcomeReplyFits : Supply → Action → Type 0
-OutcomeReplyFits supply action = ReplyFits (outcome_of supply action).reply
-
-grant_fits : (supply : Supply) (o : OpeningNote) (request : GrantRequest) → IsUtf8 o.key → AllByRecursion AskFits request.asks → OutcomeReplyFits supply (OpenAtOnce o request)
-grant_fits supply o request key h = (value_fits _ _ _, tokens_fit supply o request.asks 0 h, tt, instance_fits o.by_object o.key key)
-
-begin_fits : (s : Settled) (supply : Supply) (trail : List Note) (o : OpeningNote) (request : GrantRequest) → request.modes ≡ None → IsUtf8 o.key → AllByRecursion AskFits request.asks
-    → OutcomeReplyFits supply (begin_by s trail supply.now o request)
-begin_fits Never supply trail o request none key h = tt
-begin_fits AtOnce supply trail o request none key h =
-    if_both (OutcomeReplyFits supply) (pass_limit (live_tokens trail supply.now) (length request.asks)) (Refuse RequestDenied) (OpenAtOnce o request) tt (grant_fits supply o request key h)
-begin_fits ByAsking supply trail o request none key h = rw none tt
-
--- a token that was found among notes that fit
-found_fits : (test : TokenNote → Bool) (trail : List Note) (t : TokenNote) → NotesFit trail → first_of (token_in test) trail ≡ Some t → NoteFits (Issued t)
-found_fits test [] t fit found = cc found
-found_fits test (Issued x ∷ trail) t fit found = either (test x) (λ before. found_fits test trail t fit.1 before) found
-  where
-    either : (b : Bool) → (first_of (token_in test) trail ≡ Some t → NoteFits (Issued t)) → option_or (some_if b x) (first_of (token_in test) trail) ≡ Some t → NoteFits (Issued t)
-    either true before is = let same : x ≡ t = cc is in subst (λ (y : TokenNote). NoteFits (Issued y)) same fit.0
-    either false before is = before is
-found_fits test (Opened o ∷ trail) t fit found = found_fits test trail t fit.1 found
-found_fits test (Terms w ∷ trail) t fit found = found_fits test trail t fit.1 found
-found_fits test (Approved g consent ∷ trail) t fit found = found_fits test trail t fit.1 found
-found_fits test (Door g value earliest ∷ trail) t fit found = found_fits test trail t fit.1 found
-found_fits test (Pended r ∷ trail) t fit found = found_fits test trail t fit.1 found
-found_fits test (DecidedAs d ∷ trail) t fit found = found_fits test trail t fit.1 found
-found_fits test (Finalized g ∷ trail) t fit found = found_fits test trail t fit.1 found
-found_fits test (Wrong g ∷ trail) t fit found = found_fits test trail t fit.1 found
-found_fits test (Retired s why ∷ trail) t fit found = found_fits test trail t fit.1 found
-
-shown_fits : (supply : Supply) (names : List Text) (binding : Option Binding) (wanted : Option (List Right)) (t : Option TokenNote)
-    → ((x : TokenNote) → t ≡ Some x → NoteFits (Issued x)) → OutcomeReplyFits supply (show_token names binding wanted t)
-shown_fits supply names binding wanted None fit = tt
-shown_fits supply names binding wanted (Some t) fit =
-    let f = fit t refl in
-    if_both (OutcomeReplyFits supply) (suits names binding wanted t.rights t.bearer) (ShowToken (served_part names t.rights) t) ShowInactive
-    (all-filter Fits (serves names) t.rights f.1, f.2) tt
-
--- The reply to a call that fits, after notes that fit, fits.
-answer_reply_fits : (rules : Setup) (notes : List Note) (at : ℕ) (draw : List ℕ) (call : Call) → NotesFit notes → GnapFits call → ReplyFits (gnap_answer rules notes at draw call).reply
-answer_reply_fits rules notes at draw (Begin key request not_after) fit fits =
-    let trail = reverse notes in
-    let supply = supply_of trail at draw in
-    if_both (OutcomeReplyFits supply) (is_past at not_after || nat_le live_limit (live_grants trail at)) (Refuse RequestDenied)
-    (begin_by (settle rules key [] request) trail at (opening trail at key request not_after) request) tt
-    (begin_fits (settle rules key [] request) supply trail (opening trail at key request not_after) request fits.1 fits.2.0 fits.2.1.0)
-answer_reply_fits rules notes at draw (Introspect server value binding wanted) fit fits =
-    let trail = reverse notes in
-    let supply = supply_of trail at draw in
-    let names = server_names (key_of rules server) in
-    if_both (OutcomeReplyFits supply) (serves_all names wanted) (show_token names binding wanted (live_token trail at value)) (Refuse InvalidAccess)
-    (shown_fits supply names binding wanted (live_token trail at value) (λ t found. found_fits _ trail t (all-reverse NoteFits notes fit) found)) tt
-answer_reply_fits rules notes at draw Lapse fit fits = tt
-answer_reply_fits rules notes at draw (Continue key value reference) fit fits = absurd fits.1
-answer_reply_fits rules notes at draw (Modify key value request) fit fits = absurd fits.1
-answer_reply_fits rules notes at draw (Cancel key value) fit fits = absurd fits.1
-answer_reply_fits rules notes at draw (Rotate key value new_key) fit fits = absurd fits.1
-answer_reply_fits rules notes at draw (Revoke key value) fit fits = absurd fits.1
-answer_reply_fits rules notes at draw (Look front handle) fit fits = absurd fits.1
-answer_reply_fits rules notes at draw (FindCode front code) fit fits = absurd fits.1
-answer_reply_fits rules notes at draw (Decide front request) fit fits = absurd fits.1
-
--- The machine's reply after a legal history, to a call that fits, fits.
-pub answer_fits : (rules : Setup) (h : List GnapEntry) (moment : ℕ) (draw : List ℕ) (call : Call) → Legal gnap rules h → GnapFits call
-    → ReplyFits (gnap.answer rules h moment draw call).reply
-answer_fits rules h moment draw call legal fits = answer_reply_fits rules (notes_of h) (now h moment) draw call (notes_fit rules h legal) fits
-
 -- Each reply in a legal history fits.
 pub replies_fit : (rules : Setup) (h before : List GnapEntry) (e : GnapEntry) (after : List GnapEntry) → Legal gnap rules h → h ≡ before ++ e ∷ after → ReplyFits e.reply
 replies_fit rules h before e after legal is =
     let follows = legal before e after is in
     let front = legal-front gnap rules before (e ∷ after) (subst (λ (k : List GnapEntry). Legal gnap rules k) is legal) in
-    subst ReplyFits (sym follows.reply) (answer_fits rules before e.moment e.draw e.call front follows.fits)
+    subst ReplyFits (sym follows.reply) (answer_fits rules (notes_of before) (now before e.moment) e.draw e.call (notes_fit rules before front) follows.fits.2).0
 
 -- A desk's reply to a call that fits, fits.
 pub entered_fits : (rules : Setup) (number : ℕ) (h : List GnapEntry) (moment : ℕ) (draw : List ℕ) (call : Call) (reply : Reply) (seen : List GnapEntry → Type 0)

@@ -1,6 +1,9 @@
+pub mod Acting
+pub mod ActionsFit
 pub mod Bounds
 pub mod Counts
 pub mod FitsThrough
+pub mod FoundFits
 pub mod Issuing
-pub mod Shown
+pub mod Deciding
 pub mod Weaker

@@ -1,6 +1,6 @@
-pub mod AtOnce
 pub mod Counts
-pub mod Fits
+pub mod Courses
+pub mod Drawings
 pub mod Gnap
 pub mod Laws
 pub mod Rounds

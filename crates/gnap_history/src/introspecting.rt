@@ -1,16 +1,14 @@
 //! The answer to an introspection (RFC 9767, section 3.3).
-ghost use Rattle.std.specs.Prelude.{◌≡◌, IfOk, reverse};
+ghost use Rattle.std.specs.Prelude.{◌≡◌, IfOk};
 ghost use Rattle.std.specs.List.{list_any, list_all};
 ghost use Rattle.gnap_model.specs.Common.{where_given};
 ghost use Rattle.gnap_model.specs.Rights.{covers as rights_cover, serves as names_serve};
 ghost use Rattle.gnap_model.specs.Judging.{has_binding as binding_is, suits as token_suits, serves_all as all_served};
 ghost use Rattle.gnap_model.specs.Actions.{outcome_of};
-ghost use Rattle.gnap_model.specs.Actions.Action.{Refuse};
-ghost use Rattle.gnap_model.specs.Begin.{show_token};
-ghost use Rattle.gnap_model.specs.Answer.{gnap_answer};
-ghost use Rattle.gnap_model.specs.declared.calls.Call.TheVariants.{Introspect};
-ghost use Rattle.gnap_model.specs.declared.objects.ErrorCode.TheVariants.{InvalidAccess};
+ghost use Rattle.gnap_model.specs.Begin.{show_token, introspect as introspected};
+ghost use Rattle.gnap_history.specs.Drawings.{trail, supply, IsAnswer};
 
+use crate::drawing::{Answered, Drawing, refuse, silent};
 use crate::keys::server_names;
 use crate::look_ups::live_token;
 use access_rights::inclusion::covers;
@@ -19,7 +17,7 @@ use gnap_io::bytes::Bytes;
 use gnap_io::memory::{Duplicate, Mem};
 use gnap_io::seq::Seq;
 use gnap_model::calls::Reply;
-use gnap_model::notes::{Note, TokenNote};
+use gnap_model::notes::TokenNote;
 use gnap_model::objects::{Binding, ErrorCode, Setup};
 use gnap_model::rights::{Names, Right, Rights};
 use std::alloc::Global;
@@ -99,43 +97,43 @@ fn show(
     binding: Option<Binding>,
     wanted: &Option<Rights>,
     token: &TokenNote,
-) -> Result<Reply, Mem>
-    ensures { IfOk result (λ reply. (supply : _) → reply ≡ (outcome_of supply (show_token names.now binding wanted.now (Some token.now))).reply) }
+) -> Result<Answered, Mem>
+    ensures { IfOk result (λ answered. (supply : _) → IsAnswer (outcome_of supply (show_token names.now binding wanted.now (Some token.now))) answered) }
 {
     if !suits(names, binding, wanted, token) {
-        return Ok(Reply::Inactive);
+        return Ok(silent(alloc, Reply::Inactive));
     }
-    Ok(Reply::Active {
-        access: served_part(alloc, &token.rights, names)?,
-        iat: token.issued,
-        exp: token.until,
-        instance: token.key.copy()?,
-        bearer: token.bearer,
-    })
+    Ok(silent(
+        alloc,
+        Reply::Active {
+            access: served_part(alloc, &token.rights, names)?,
+            iat: token.issued,
+            exp: token.until,
+            instance: token.key.copy()?,
+            bearer: token.bearer,
+        },
+    ))
 }
 
 /// Answers an introspection, which has no notes.
 pub fn introspect(
     alloc: Global,
     setup: &Setup,
-    notes: &[Note],
-    now: u64,
+    drawing: &Drawing,
     server: &Bytes,
     value: &Bytes,
     binding: Option<Binding>,
     wanted: &Option<Rights>,
-) -> Result<Reply, Mem>
-    ensures { IfOk result (λ reply. (draw : _) → reply ≡ (gnap_answer setup.now notes.now now draw (Introspect server.now value.now binding wanted.now)).reply) }
+) -> Result<Answered, Mem>
+    ensures { IfOk result (IsAnswer (outcome_of (supply drawing.now) (introspected setup.now (trail drawing.now) drawing.now.moment server.now value.now binding wanted.now))) }
 {
     let none = Seq::new(alloc);
     let names = server_names(setup, server.as_slice(), &none);
     if !serves_all(names, wanted) {
-        return Ok(Reply::Error {
-            code: ErrorCode::InvalidAccess,
-        });
+        return Ok(refuse(alloc, ErrorCode::InvalidAccess));
     }
-    match live_token(notes, now, value.as_slice()) {
+    match live_token(drawing.notes.as_slice(), drawing.moment, value.as_slice()) {
         Some(token) => show(alloc, names, binding, wanted, token),
-        None => Ok(Reply::Inactive),
+        None => Ok(silent(alloc, Reply::Inactive)),
     }
 }

@@ -4,19 +4,37 @@ ghost use Rattle.gnap_model.specs.Keys.{key_of, client_rights, server_names as n
 
 use gnap_model::objects::{Role, Setup};
 use gnap_model::rights::{Names, Rights};
-use gnap_objects::find_key;
 
-/// The rights that a client has at once; a key that is no client's has `none`.
-pub fn rights_at_once<'a>(setup: &'a Setup, id: &[u8], none: &'a Rights) -> &'a Rights
+/// The rights that a client has at once, and those for which the user is asked.
+#[derive(Clone, Copy)]
+pub struct ClientRights<'a> {
+    /// At once.
+    pub auto: &'a Rights,
+    /// By asking the user.
+    pub ask: &'a Rights,
+}
+
+/// The rights of a client; a key that is no client's has `none`.
+pub fn rights_of_client<'a>(setup: &'a Setup, id: &[u8], none: &'a Rights) -> ClientRights<'a>
     requires { none.now ≡ [] }
-    ensures { result.now ≡ client_rights (λ k. k.auto_rights) (key_of setup.now id.now) }
+    ensures auto { result.auto.now ≡ client_rights (λ k. k.auto_rights) (key_of setup.now id.now) }
+    ensures ask { result.ask.now ≡ client_rights (λ k. k.ask_rights) (key_of setup.now id.now) }
 {
-    match find_key(setup, id) {
+    match setup.key(id) {
         Some(row) => match row.role {
-            Role::Client => &row.auto_rights,
-            _ => none,
+            Role::Client => ClientRights {
+                auto: &row.auto_rights,
+                ask: &row.ask_rights,
+            },
+            _ => ClientRights {
+                auto: none,
+                ask: none,
+            },
         },
-        None => none,
+        None => ClientRights {
+            auto: none,
+            ask: none,
+        },
     }
 }
 
@@ -25,7 +43,7 @@ pub fn server_names<'a>(setup: &'a Setup, id: &[u8], none: &'a Names) -> &'a Nam
     requires { none.now ≡ [] }
     ensures { result.now ≡ names_of_server (key_of setup.now id.now) }
 {
-    match find_key(setup, id) {
+    match setup.key(id) {
         Some(row) => match row.role {
             Role::Server => &row.serves,
             _ => none,

@@ -6,7 +6,8 @@ ghost use Rattle.gnap_history.specs.Laws.{WhatHolds};
 
 use crate::grant_machine::Gnap;
 use gnap_model::laws::{
-    doors_open_once, drawn_values_differ, refusals_have_causes, says_active, tells_what_came,
+    doors_open_once, drawn_codes_are_free, drawn_values_differ, limits_hold, refusals_have_causes,
+    says_active, tells_what_came, wrong_references_are_few,
 };
 use histories::machine::Desk;
 
@@ -17,6 +18,9 @@ pub fn what_holds()
     tells_what_came();
     says_active();
     refusals_have_causes();
+    limits_hold();
+    wrong_references_are_few();
+    drawn_codes_are_free();
     drawn_values_differ();
     doors_open_once();
 }

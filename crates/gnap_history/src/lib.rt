@@ -5,7 +5,9 @@
 //! where memory ran out. `laws` says what is known of each history that a desk of this machine has seen, and that its replies can be shown.
 #![tactic(auto)]
 
+mod drawing;
 pub mod grant_machine;
+mod granting;
 mod introspecting;
 mod keys;
 pub mod laws;
@@ -14,6 +16,7 @@ pub mod list_core;
 mod look_ups;
 mod note_list;
 mod opening;
+mod settling;
 pub mod values;
 
 pub use gnap_model::calls::{Call, FinishOut, Reply, TokenOut, Tokens};

@@ -5,7 +5,9 @@ ghost use Rattle.histories.specs.History.{last_moment};
 ghost use Rattle.gnap_model.specs.Answer.{gnap_answer};
 ghost use Rattle.gnap_model.specs.declared.calls.Call.TheVariants.{Lapse};
 ghost use Rattle.gnap_history.specs.Gnap.{GnapFits, StandsFor};
+ghost use Rattle.gnap_history.specs.Drawings.{IsAnswer};
 
+use crate::drawing::{Answered, Drawing};
 use crate::grant_machine::Gnap;
 use crate::introspecting::introspect;
 use crate::note_list::NoteList;
@@ -53,8 +55,35 @@ pub fn list_desk(alloc: Global, setup: Setup) -> ListDesk
     Lone::new(ListCore::new(alloc, setup))
 }
 
-/// Answers a call at the greatest moment so far, and adds its notes. An `Err` changes nothing.
+/// Answers a call.
 fn answer_call(
+    alloc: Global,
+    rules: &Setup,
+    drawing: &Drawing,
+    call: &Call,
+) -> Result<Answered, Mem>
+    requires fits { GnapFits call.now }
+    requires no_lapse { call.now ≢ Lapse }
+    ensures { IfOk result (IsAnswer (gnap_answer rules.now drawing.now.notes.now drawing.now.moment drawing.now.words.now call.now)) }
+{
+    match call {
+        Call::Begin {
+            key,
+            request,
+            not_after,
+        } => begin(alloc, rules, drawing, key, request, *not_after),
+        Call::Introspect {
+            server,
+            value,
+            binding,
+            wanted,
+        } => introspect(alloc, rules, drawing, server, value, *binding, wanted),
+        _ => unreachable!(),
+    }
+}
+
+/// Answers a call at the greatest moment so far, and adds its notes. An `Err` changes nothing.
+fn enter_call(
     alloc: Global,
     rules: &Setup,
     notes: &mut NoteList,
@@ -69,29 +98,14 @@ fn answer_call(
         × (notes.new ≡ notes.old ++ (gnap_answer rules.now notes.old now draw.now call.now).notes)) }
     ensures err { OnErr result (notes.new ≡ notes.old) }
 {
-    match call {
-        Call::Begin {
-            key,
-            request,
-            not_after,
-        } => begin(alloc, rules, notes, now, draw, key, request, *not_after),
-        Call::Introspect {
-            server,
-            value,
-            binding,
-            wanted,
-        } => introspect(
-            alloc,
-            rules,
-            notes.as_slice(),
-            now,
-            server,
-            value,
-            *binding,
-            wanted,
-        ),
-        _ => unreachable!(),
-    }
+    let drawing = Drawing {
+        notes: &*notes,
+        moment: now,
+        words: draw,
+    };
+    let answered = answer_call(alloc, rules, &drawing, call)?;
+    notes.append(answered.notes)?;
+    Ok(answered.reply)
 }
 
 impl Core for ListCore {
@@ -105,7 +119,7 @@ impl Core for ListCore {
 
     fn step(&mut self, moment: u64, draw: &[u64; 48], call: &Call) -> Result<Reply, Mem> {
         self.latest = self.latest.max(moment);
-        answer_call(
+        enter_call(
             self.alloc,
             &self.rules,
             &mut self.notes,

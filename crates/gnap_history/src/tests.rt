@@ -3,7 +3,8 @@ ghost use Rattle.std.specs.Str.{IsUtf8};
 ghost use Rattle.std.specs.List.{AllByRecursion};
 ghost use Rattle.histories.specs.History.{last_moment, places};
 ghost use Rattle.gnap_model.specs.declared.calls.Call.TheVariants.{Lapse};
-ghost use Rattle.gnap_history.specs.Fits.{AskFits, RightsFit, RightsFitOr};
+ghost use Rattle.gnap_objects.specs.Fits.{AskFits};
+ghost use Rattle.gnap_objects.specs.CallsFit.{RightsFit, RightsFitOr};
 ghost use Rattle.gnap_history.specs.Gnap.{GnapFits};
 
 use super::*;

@@ -2,7 +2,6 @@
 use Rattle.std.proofs.Common.{ℕ, ◌≡◌, ◌+◌, List, [], ◌∷◌, ◌++◌, Bool, true, false, length, map, reverse, refl, sym, subst, inl, inr, Option, Some, None}
 use Rattle.std.specs.Prelude.{◌*◌, ◌==◌, if◌then◌else◌}
 use Rattle.std.specs.Option.{option_or}
-use Rattle.std.proofs.lemmas.List.{reverse-append}
 use Rattle.std.proofs.lemmas.Bool.Decides.{Decides-eqb}
 use Rattle.gnap_model.specs.Common.{Text, first_of, some_if}
 use Rattle.gnap_model.specs.Keys.{Setup}
@@ -18,30 +17,8 @@ use Rattle.gnap_model.specs.Legal.{IsLegalPast}
 use Rattle.gnap_model.proofs.Causes.{chosen, Cause}
 use Rattle.gnap_model.proofs.Doors.{some_if_some}
 use Rattle.gnap_model.proofs.AliveTokens.{HasNote, first_noted}
+pub use Rattle.gnap_model.proofs.AliveTokens.{EachNote, each-append, each-reverse, each_more, each_of}
 use Rattle.gnap_model.proofs.Sound.{named_opened, note-reverse, note-append_left, note-append_right}
-
--- ---- a fact of each note
-
-abbrev pub EachNote : (Note → Type 0) → List Note → Type 0
-EachNote P [] = Unit {0}
-EachNote P (note ∷ notes) = P note × EachNote P notes
-
-each-append : (P : Note → Type 0) (xs ys : List Note) → EachNote P xs → EachNote P ys → EachNote P (xs ++ ys)
-each-append P [] ys hx hy = hy
-each-append P (x ∷ xs) ys hx hy = (hx.0, each-append P xs ys hx.1 hy)
-
-each-reverse : (P : Note → Type 0) (xs : List Note) → EachNote P xs → EachNote P (reverse xs)
-each-reverse P [] h = tt
-each-reverse P (x ∷ xs) h = subst (EachNote P) (sym (reverse-append (x ∷ []) xs)) (each-append P (reverse xs) (x ∷ []) (each-reverse P xs h.1) (h.0, tt))
-
-each_more : (P Q : Note → Type 0) (xs : List Note) → ((note : Note) → P note → Q note) → EachNote P xs → EachNote Q xs
-each_more P Q [] more h = tt
-each_more P Q (x ∷ xs) more h = (more x h.0, each_more P Q xs more h.1)
-
-each_of : (P : Note → Type 0) (xs : List Note) (note : Note) → EachNote P xs → HasNote xs note → P note
-each_of P [] note h k = absurd k
-each_of P (x ∷ xs) note h (inl e) = subst P (sym e) h.0
-each_of P (x ∷ xs) note h (inr k) = each_of P xs note h.1 k
 
 -- ---- an opened grant has terms in the trail, and an issued token has an opened grant there
 

@@ -1,8 +1,8 @@
 -- Each error reply has its cause.
-use Rattle.std.proofs.Common.{ℕ, ◌≡◌, ◌≢◌, ◌≤◌, ◌<◌, ◌+◌, ◌⊎◌, inl, inr, Bool, true, false, List, [], ◌∷◌, length, refl, sym, ◌∙◌, ap, subst, Option, Some, None}
+use Rattle.std.proofs.Common.{arith, ℕ, ◌≡◌, ◌≢◌, ◌≤◌, ◌<◌, ◌+◌, ◌⊎◌, inl, inr, Bool, true, false, List, [], ◌∷◌, length, refl, sym, ◌∙◌, ap, subst, Option, Some, None}
 use Rattle.std.specs.Prelude.{◌==◌, is_some, if◌then◌else◌, ◌&&◌, ◌||◌, not, nat_le, nat_lt}
 use Rattle.std.specs.List.{list_any, filter_map, cons_option}
-use Rattle.std.proofs.lemmas.Bool.{leb-true, leb-false, ltb-true}
+use Rattle.std.proofs.lemmas.Bool.{leb-true, leb-false, ltb-true, and_parts, or_cases}
 use Rattle.std.proofs.lemmas.Bool.Decides.{Decides-eqb}
 use Rattle.std.proofs.lemmas.Slice.Eq.{bytes_eq-Decides}
 use Rattle.gnap_model.specs.Common.{Text, same_text, first_of, some_if}
@@ -45,15 +45,16 @@ Explained rules trail now call (LastWrongReference o) = HasCause rules trail now
 Explained rules trail now call (RefuseAndFinalize o code) = HasCause rules trail now call code
 Explained rules trail now call _ = Unit {0}
 
+-- what the laws on limits say of the notes
+pub record KeepsLimits (trail : List Note) (now : ℕ) : Type 0 where
+  pub grants : live_grants trail now ≤ live_limit
+  pub wrongs : (grant : ℕ) (round : RoundNote) → grant_state trail grant now ≡ IsPending round → wrongs_of trail grant < wrong_limit
+
 -- ---- small steps
 
 none_is : {A : Type 0} (x : Option A) → not (is_some x) ≡ true → x ≡ None
 none_is None e = refl
 none_is (Some x) e = cc e
-
-both_true : (a b : Bool) → (a && b) ≡ true → (a ≡ true) × (b ≡ true)
-both_true true b e = (refl, e)
-both_true false b e = cc e
 
 other_key : (o : OpeningNote) (key : Text) → same_text o.key key ≡ false → o.key ≢ key
 other_key o key e same = let yes = (bytes_eq-Decides o.key key).1 same in cc (sym yes ∙ e)
@@ -72,10 +73,6 @@ asking_starts false true true e = refl
 asking_starts false true false e = cc e
 asking_starts false false c e = cc e
 
-either_true : (a b : Bool) → (a || b) ≡ true → (a ≡ true) ⊎ (b ≡ true)
-either_true true b e = inl refl
-either_true false b e = inr e
-
 decides_more : (v : Verdict) (asked rights : List Right) → may_decide v asked rights ≡ false → (v ≡ Grant) × (covers asked rights ≡ false)
 decides_more Grant asked rights e = (refl, e)
 decides_more Deny asked rights e = cc e
@@ -88,7 +85,7 @@ named_goes_on trail now v o e over = let r = first_noted (named_in trail now v) 
     at : (n : Note) → named_in trail now v n ≡ Some o → ⊥
     at (Opened p) h =
         let both = some_if_some (is_door_of trail p.grant v && not (is_finalized (grant_state trail p.grant now))) p o h in
-        let goes_on = (both_true (is_door_of trail p.grant v) (not (is_finalized (grant_state trail p.grant now))) both.0).1 in
+        let goes_on = (and_parts (is_door_of trail p.grant v) (not (is_finalized (grant_state trail p.grant now))) both.0).1 in
         let it : not (is_finalized (grant_state trail o.grant now)) ≡ true = subst (λ (q : OpeningNote). not (is_finalized (grant_state trail q.grant now)) ≡ true) both.1 goes_on in
         let no = sym (ap (λ s. not (is_finalized s)) over) ∙ it in cc no
     at (Door i w x) h = cc h
@@ -103,7 +100,7 @@ named_goes_on trail now v o e over = let r = first_noted (named_in trail now v) 
 
 -- ---- the grant of a live interaction was opened
 
-pending_change : (ended : Bool) (change : Option StateChange) (now : ℕ) (r : RoundNote) → (if ended then IsFinalized else state_after change now) ≡ IsPending r → change ≡ Some (ToPending r)
+pub pending_change : (ended : Bool) (change : Option StateChange) (now : ℕ) (r : RoundNote) → (if ended then IsFinalized else state_after change now) ≡ IsPending r → change ≡ Some (ToPending r)
 pending_change true change now r e = cc e
 pending_change false None now r e = cc e
 pending_change false (Some ToApproved) now r e = cc e
@@ -243,16 +240,17 @@ collect_or_renew_why rules trail now key value reference o r (Some d) origins na
     (collect_why rules trail now key value reference o r d has.0 d.verdict names decided refl found)
 
 round_why : (rules : Setup) (trail : List Note) (now : ℕ) (key value : Text) (reference : Option Text) (o : OpeningNote) (r : RoundNote) (d : Option DecisionNote)
-    → HaveOrigins trail → In trail now value o r → decision_of trail o.grant ≡ d → Explained rules trail now (Continue key value reference) (continue_round trail now o reference d r)
-round_why rules trail now key value reference o r d origins names decided =
+    → HaveOrigins trail → wrongs_of trail o.grant < wrong_limit → In trail now value o r → decision_of trail o.grant ≡ d
+    → Explained rules trail now (Continue key value reference) (continue_round trail now o reference d r)
+round_why rules trail now key value reference o r d origins few names decided =
     if_known P (not (is_some d) && nat_le r.until now) (RefuseAndFinalize o InvalidInteraction) _
-    (λ late. let both = both_true (not (is_some d)) (nat_le r.until now) late in (o, r, names, inl (decided ∙ none_is d both.0, leb-true r.until now both.1)))
+    (λ late. let both = and_parts (not (is_some d)) (nat_le r.until now) late in (o, r, names, inl (decided ∙ none_is d both.0, leb-true r.until now both.1)))
     (λ open_yet. if_known P (not (is_some reference) && is_some r.modes.finish) (Refuse InvalidRequest) _
-    (λ poll. let both = both_true (not (is_some reference)) (is_some r.modes.finish) poll in (o, r, names, none_is reference both.0, both.1))
+    (λ poll. let both = and_parts (not (is_some reference)) (is_some r.modes.finish) poll in (o, r, names, none_is reference both.0, both.1))
     (λ given. if_known P (is_wrong reference d) _ (collect_or_renew trail now o d)
     (λ wrong. let is : is_wrong reference (decision_of trail o.grant) ≡ true = ap (is_wrong reference) decided ∙ wrong in
     if_known P (nat_le wrong_limit (wrongs_of trail o.grant + 1)) (LastWrongReference o) (WrongReference o)
-    (λ last. inr (o, r, names, is, leb-true wrong_limit (wrongs_of trail o.grant + 1) last))
+    (λ last. let fifth = leb-true wrong_limit (wrongs_of trail o.grant + 1) last in inr (o, r, names, is, omega arith))
     (λ more. (o, r, names, inr (is, leb-false wrong_limit (wrongs_of trail o.grant + 1) more))))
     (λ right. collect_or_renew_why rules trail now key value reference o r d origins names decided)))
   where
@@ -260,19 +258,19 @@ round_why rules trail now key value reference o r d origins names decided =
     P = Explained rules trail now (Continue key value reference)
 
 continue_why : (rules : Setup) (trail : List Note) (now : ℕ) (key value : Text) (reference : Option Text) (o : OpeningNote) (s : GrantState)
-    → HaveOrigins trail → named_grant trail now value ≡ Some o → grant_state trail o.grant now ≡ s → Explained rules trail now (Continue key value reference) (continue_at s trail now o reference)
-continue_why rules trail now key value reference o (IsPending r) origins named e =
+    → HaveOrigins trail → KeepsLimits trail now → named_grant trail now value ≡ Some o → grant_state trail o.grant now ≡ s → Explained rules trail now (Continue key value reference) (continue_at s trail now o reference)
+continue_why rules trail now key value reference o (IsPending r) origins limits named e =
     if_known (Explained rules trail now (Continue key value reference)) (not (is_some reference) && is_early trail now o) (Refuse TooFast) _
-    (λ early. let both = both_true (not (is_some reference)) (is_early trail now o) early in
+    (λ early. let both = and_parts (not (is_some reference)) (is_early trail now o) early in
     let first = before_first now (first_of (earliest_in o.grant) trail) both.1 in (o, first.0, named, none_is reference both.0, first.1, first.2))
-    (λ due. round_why rules trail now key value reference o r (decision_of trail o.grant) origins (named, e) refl)
-continue_why rules trail now key value reference o IsApproved origins named e =
+    (λ due. round_why rules trail now key value reference o r (decision_of trail o.grant) origins (limits.wrongs o.grant r e) (named, e) refl)
+continue_why rules trail now key value reference o IsApproved origins limits named e =
     if_known (Explained rules trail now (Continue key value reference)) (is_some reference) (RefuseAndFinalize o TooManyAttempts) _
     (λ given. inl (o, named, e, given))
     (λ none. if_known (Explained rules trail now (Continue key value reference)) (is_early trail now o) (Refuse TooFast) (RenewDoor o)
     (λ early. let first = before_first now (first_of (earliest_in o.grant) trail) early in (o, first.0, named, none_is reference (ap not none), first.1, first.2))
     (λ due. tt))
-continue_why rules trail now key value reference o IsFinalized origins named e = absurd (named_goes_on trail now value o named e)
+continue_why rules trail now key value reference o IsFinalized origins limits named e = absurd (named_goes_on trail now value o named e)
 
 -- ---- management
 
@@ -297,45 +295,45 @@ round_terms trail r origins opened =
 there : {A B : Type 0} (x : Option A) (a : A) → x ≡ Some a → x ≡ None → B
 there x a some none = let no = sym some ∙ none in cc no
 
-pub explained : (rules : Setup) (supply : Supply) (trail : List Note) (call : Call) → HaveOrigins trail → Explained rules trail supply.now call (action_of rules supply trail call)
-explained rules supply trail (Begin key request not_after) origins =
+pub explained : (rules : Setup) (supply : Supply) (trail : List Note) (call : Call) → HaveOrigins trail → KeepsLimits trail supply.now → Explained rules trail supply.now call (action_of rules supply trail call)
+explained rules supply trail (Begin key request not_after) origins limits =
     if_known (Explained rules trail supply.now (Begin key request not_after)) (is_past supply.now not_after || nat_le live_limit (live_grants trail supply.now)) (Refuse RequestDenied) _
-    (λ none. elim (either_true (is_past supply.now not_after) (nat_le live_limit (live_grants trail supply.now)) none) [
+    (λ none. elim (or_cases (is_past supply.now not_after) (nat_le live_limit (live_grants trail supply.now)) none) [
       | inl past ↦ inr (inl (past_end supply.now not_after past))
-      | inr full ↦ inr (inr (inl (leb-true live_limit (live_grants trail supply.now) full)))
+      | inr full ↦ inr (inr (inl (let least = leb-true live_limit (live_grants trail supply.now) full in let most = limits.grants in omega arith)))
     ])
     (λ some. begin_why rules trail supply.now key request not_after (opening trail supply.now key request not_after) (settle rules key [] request) refl)
-explained rules supply trail (Introspect server value binding wanted) origins =
+explained rules supply trail (Introspect server value binding wanted) origins limits =
     if_known (Explained rules trail supply.now (Introspect server value binding wanted)) (serves_all (server_names (key_of rules server)) wanted) _ (Refuse InvalidAccess)
     (λ served. show_why rules trail supply.now (Introspect server value binding wanted) (server_names (key_of rules server)) binding wanted (live_token trail supply.now value)) (λ unserved. unserved)
-explained rules supply trail Lapse origins = tt
-explained rules supply trail (Look front handle) origins =
+explained rules supply trail Lapse origins limits = tt
+explained rules supply trail (Look front handle) origins limits =
     found_why rules trail supply.now (Look front handle) UnknownInteraction _ (round_by_handle trail supply.now handle) (λ none. none)
     (λ r found. let opened = handle_opened trail supply.now handle r found in
     let terms = round_terms trail r origins opened in
     let opens = opened_found trail opened.0 r.grant opened.1 opened.2 in
     found_why rules trail supply.now (Look front handle) UnknownInteraction _ (terms_of trail r.grant) (there (terms_of trail r.grant) terms.0 terms.1)
     (λ w is. found_why rules trail supply.now (Look front handle) UnknownInteraction _ (first_of (opening_in r.grant) trail) (there (first_of (opening_in r.grant) trail) opens.0 opens.1) (λ o at. tt)))
-explained rules supply trail (FindCode front code) origins =
+explained rules supply trail (FindCode front code) origins limits =
     found_why rules trail supply.now (FindCode front code) UnknownInteraction _ (round_by_code trail supply.now code) (λ none. none) (λ r found. tt)
-explained rules supply trail (Decide front request) origins =
+explained rules supply trail (Decide front request) origins limits =
     found_why rules trail supply.now (Decide front request) UnknownInteraction _ (round_by_handle trail supply.now request.handle) (λ none. none)
     (λ r found. let terms = round_terms trail r origins (handle_opened trail supply.now request.handle r found) in
     found_why rules trail supply.now (Decide front request) UnknownInteraction _ (terms_of trail r.grant) (there (terms_of trail r.grant) terms.0 terms.1)
     (λ w is. if_known (Explained rules trail supply.now (Decide front request)) (may_decide request.verdict (asked_rights w.asks) (rights_or (asked_rights w.asks) request.rights)) (TakeDecision r _ request) (Refuse InvalidRequest)
     (λ may. tt) (λ more. let why = decides_more request.verdict (asked_rights w.asks) (rights_or (asked_rights w.asks) request.rights) more in (r, w, found, is, why.0, why.1))))
-explained rules supply trail (Continue key value reference) origins =
+explained rules supply trail (Continue key value reference) origins limits =
     found_why rules trail supply.now (Continue key value reference) InvalidContinuation _ (named_grant trail supply.now value) (λ none. none)
     (λ o named. key_why rules trail supply.now (Continue key value reference) (λ o. continue_at (grant_state trail o.grant supply.now) trail supply.now o reference) o named
-    (λ same. continue_why rules trail supply.now key value reference o (grant_state trail o.grant supply.now) origins named refl))
-explained rules supply trail (Modify key value request) origins =
+    (λ same. continue_why rules trail supply.now key value reference o (grant_state trail o.grant supply.now) origins limits named refl))
+explained rules supply trail (Modify key value request) origins limits =
     found_why rules trail supply.now (Modify key value request) InvalidContinuation _ (named_grant trail supply.now value) (λ none. none)
     (λ o named. key_why rules trail supply.now (Modify key value request) (λ o. modify_by (settle rules o.key (consent_of trail o.grant) request) trail supply.now o request) o named
     (λ same. modify_why rules trail supply.now key value request o (settle rules o.key (consent_of trail o.grant) request) named refl))
-explained rules supply trail (Cancel key value) origins =
+explained rules supply trail (Cancel key value) origins limits =
     found_why rules trail supply.now (Cancel key value) InvalidContinuation _ (named_grant trail supply.now value) (λ none. none)
     (λ o named. key_why rules trail supply.now (Cancel key value) CancelGrant o named (λ same. tt))
-explained rules supply trail (Rotate key value new_key) origins =
+explained rules supply trail (Rotate key value new_key) origins limits =
     found_why rules trail supply.now (Rotate key value new_key) InvalidRotation _ (managed_token trail supply.now value) (λ none. inl none)
     (λ t managed. let opens = issued_opened trail t origins (managed_issued trail supply.now value t managed).0 in
     if_known (Explained rules trail supply.now (Rotate key value new_key)) (is_live trail supply.now t) _ (Refuse InvalidRotation)
@@ -343,7 +341,7 @@ explained rules supply trail (Rotate key value new_key) origins =
     (λ o found. key_why rules trail supply.now (Rotate key value new_key) (rotate_key new_key t) o (t, (managed, found))
     (λ same. rotate_why rules trail supply.now key value new_key t o managed found live same)))
     (λ dead. inr (t, managed, dead)))
-explained rules supply trail (Revoke key value) origins =
+explained rules supply trail (Revoke key value) origins limits =
     found_why rules trail supply.now (Revoke key value) InvalidRequest _ (managed_token trail supply.now value) (λ none. none)
     (λ t managed. let opens = issued_opened trail t origins (managed_issued trail supply.now value t managed).0 in
     found_why rules trail supply.now (Revoke key value) InvalidRequest _ (first_of (opening_in t.grant) trail) (there (first_of (opening_in t.grant) trail) opens.0 opens.1)

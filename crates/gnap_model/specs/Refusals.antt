@@ -91,13 +91,13 @@ NamesNoGrant trail now (Modify key value request) = named_grant trail now value 
 NamesNoGrant trail now (Cancel key value) = named_grant trail now value ≡ None
 NamesNoGrant trail now _ = ⊥
 
--- too_many_attempts: a reference for a grant that is approved, or a wrong one when all but one wrong ones of the round have been used up
+-- too_many_attempts: a reference for a grant that is approved, or the fifth wrong one of a round
 abbrev pub TriesTooOften : List Note → ℕ → Call → Type 0
 TriesTooOften trail now (Continue key value reference) =
     ((opening : OpeningNote) × (named_grant trail now value ≡ Some opening)
     × (grant_state trail opening.grant now ≡ IsApproved) × IsTrue (is_some reference))
     ⊎ ((opening : OpeningNote) × (round : RoundNote) × NamesRound trail now value opening round
-    × IsTrue (is_wrong reference (decision_of trail opening.grant)) × (wrong_limit ≤ wrongs_of trail opening.grant + 1))
+    × IsTrue (is_wrong reference (decision_of trail opening.grant)) × (wrongs_of trail opening.grant + 1 ≡ wrong_limit))
 TriesTooOften trail now _ = ⊥
 
 -- too_fast: a poll before the moment that was set with the continuation value
@@ -107,7 +107,7 @@ PollsTooSoon trail now (Continue key value reference) = (opening : OpeningNote) 
     × (first_of (earliest_in opening.grant) trail ≡ Some earliest) × (now < earliest)
 PollsTooSoon trail now _ = ⊥
 
--- invalid_interaction: the time for the decision is over and there is none, or a wrong reference that isn't the one too many
+-- invalid_interaction: the time for the decision is over and there is none, or one of the first four wrong references of a round
 abbrev pub LacksInteraction : List Note → ℕ → Call → Type 0
 LacksInteraction trail now (Continue key value reference) = (opening : OpeningNote) × (round : RoundNote)
     × NamesRound trail now value opening round
@@ -121,12 +121,13 @@ CollectsRefusal trail now (Continue key value reference) verdict = (opening : Op
     × NamesDecision trail now value opening decision verdict
 CollectsRefusal trail now _ verdict = ⊥
 
--- request_denied: neither the client's rights nor the user can grant what is asked; the grant would have ended; too many grants or tokens would be live
+-- request_denied: neither the client's rights nor the user can grant what is asked; the grant would have ended; as many grants are live as may be; too
+-- many tokens would be live
 abbrev pub IsDenied : Setup → List Note → ℕ → Call → Type 0
 IsDenied rules trail now (Begin key request not_after) =
     (settle rules key [] request ≡ Never)
     ⊎ ((end : ℕ) × (not_after ≡ Some end) × (end ≤ now))
-    ⊎ (live_limit ≤ live_grants trail now)
+    ⊎ (live_grants trail now ≡ live_limit)
     ⊎ ((settle rules key [] request ≡ AtOnce) × AreTooMany (live_tokens trail now) (length request.asks))
 IsDenied rules trail now (Modify key value request) = (opening : OpeningNote) × (named_grant trail now value ≡ Some opening)
     × ((settle rules opening.key (consent_of trail opening.grant) request ≡ Never)

@@ -1,8 +1,8 @@
-//! With ample memory each copy succeeds.
+//! With ample memory each copy succeeds; a key is found by its id, and codes have their texts.
 use crate::calls::{Call, FinishOut, Reply, TokenOut};
 use crate::notes::{DecisionNote, Note, OpeningNote, RoundNote, TermsNote, TokenNote};
 use crate::objects::{
-    Ask, DecideRequest, Finish, GrantRequest, KeyRow, Modes, Role, Setup, Verdict,
+    Ask, DecideRequest, ErrorCode, Finish, GrantRequest, KeyRow, Modes, Role, Setup, Verdict,
 };
 use crate::rights::{Right, RightObject, Rights};
 use gnap_io::bytes::Bytes;
@@ -56,6 +56,27 @@ fn copies_setup(alloc: Global) -> Result<bool, Mem> {
         keys,
     };
     Ok(setup.copy()?.keys.len() == 1)
+}
+
+fn finds_key(alloc: Global) -> Result<bool, Mem> {
+    let mut keys = Seq::new(alloc);
+    keys.push(KeyRow {
+        id: Bytes::from_slice(alloc, b"k")?,
+        role: Role::Front,
+        secret: Bytes::from_slice(alloc, b"s")?,
+        auto_rights: Seq::new(alloc),
+        ask_rights: Seq::new(alloc),
+        serves: Seq::new(alloc),
+    })?;
+    let setup = Setup {
+        base: Bytes::new(alloc),
+        front: Bytes::new(alloc),
+        keys,
+    };
+    Ok(match setup.key(b"k") {
+        Some(key) => key.secret.as_slice() == b"s".as_slice() && setup.key(b"K").is_none(),
+        None => false,
+    })
 }
 
 fn copies_request(alloc: Global) -> Result<bool, Mem> {
@@ -198,4 +219,11 @@ fn copies_succeed_with_ample_memory(rt: HostRuntime) {
     assert!(rt; copies_grant_notes(alloc) == Ok(true));
     assert!(rt; copies_round_notes(alloc) == Ok(true));
     assert!(rt; copies_token_note(alloc) == Ok(true));
+}
+
+#[test]
+fn keys_and_codes_have_their_names(rt: HostRuntime) {
+    assert!(rt; finds_key(rt.alloc()) == Ok(true));
+    assert!(rt; ErrorCode::InvalidClient.text() == "invalid_client");
+    assert!(rt; ErrorCode::KeyRotationNotSupported.text() == "key_rotation_not_supported");
 }

@@ -1,4 +1,2 @@
-pub mod Asks
-pub mod Bodies
+pub mod AskedSizes
 pub mod Given
-pub mod Items

@@ -1,10 +1,11 @@
 pub use Rattle.gnap_model.specs.Asked
 pub use Rattle.gnap_model.specs.Keys
-pub mod Body
-pub mod Codes
 pub mod Forms
 pub mod Fits
+pub mod CallsFit
 pub mod Reading
+pub mod TokenRequests
 pub mod Grants
 pub mod Introspections
+pub mod CallReading
 pub mod Setups

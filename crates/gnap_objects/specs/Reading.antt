@@ -1,48 +1,76 @@
--- Reading a request's object, member by member in the order of its table, up to the first fault.
-use Rattle.std.specs.Prelude.{◌≡◌, ℕ, List, Option, Some, None, Result, Ok, Err, if◌then◌else◌, is_some}
+-- Reading an object, member by member in the order of its table, up to the first fault.
+use Rattle.std.specs.Prelude.{ℕ, ◌==◌, List, length, Bool, true, false, Option, Some, None, Result, Ok, Err, nat_lt, if◌then◌else◌, is_some, codes}
 use Rattle.serde_json.specs.Data.{Data}
-use Rattle.serde_json.specs.Find.{get, as_str}
+use Rattle.serde_json.specs.Find.{get, as_str, as_object}
+use Rattle.json_objects.specs.Reading.{◌>>=◌, or_fault}
+use Rattle.json_objects.specs.Members.{other_member}
 use Rattle.gnap_objects.specs.declared.fault.ObjectFault.{ObjectFault}
 use Rattle.gnap_objects.specs.declared.fault.ObjectFault.TheVariants as faults
-use Rattle.access_rights.specs.Json.{◌>>=◌}
+use Rattle.gnap_model.specs.declared.rights.Right.{Right}
+use Rattle.access_rights.specs.declared.reading.RightsFault.{RightsFault}
+use Rattle.access_rights.specs.declared.reading.RightsFault.TheVariants as rights_faults
+use Rattle.access_rights.specs.Reading.{rights_of}
+use Rattle.gnap_objects.specs.declared.members.KeyName.{KeyName}
 use Rattle.gnap_objects.specs.Forms.{is_id}
-
--- a fault that a reader names is the reading's; want of memory may come at any time
-abbrev pub Fails : {Y : Type 0} → ObjectFault → Result Y ObjectFault → Type 0
-Fails faults.OutOfMemory reading = Unit {0}
-Fails (faults.Missing name) reading = reading ≡ Err (faults.Missing name)
-Fails (faults.Wrong name) reading = reading ≡ Err (faults.Wrong name)
-Fails (faults.TooMany name) reading = reading ≡ Err (faults.TooMany name)
-Fails (faults.Flag name) reading = reading ≡ Err (faults.Flag name)
-
--- a reader answers what the reading is, seen by view, or that memory ran out
-abbrev pub Gives : {X Y : Type 0} → (X → Y) → Result X ObjectFault → Result Y ObjectFault → Type 0
-Gives view (Ok x) reading = reading ≡ Ok (view x)
-Gives view (Err e) reading = Fails e reading
-
-abbrev pub found : List ℕ → Option Data → Result Data ObjectFault
-found name None = Err (faults.Missing name)
-found name (Some d) = Ok d
 
 -- the member of that name, which must be there
 abbrev pub required : List ℕ → Data → Result Data ObjectFault
-required name d = found name (get name d)
+required name d = or_fault (faults.Missing name) (get name d)
 
 -- what is read next; the member of that name is of a form that isn't read
 abbrev pub without : {A : Type 0} → List ℕ → Data → Result A ObjectFault → Result A ObjectFault
 without name d next = if is_some (get name d) then Err (faults.Wrong name) else next
 
-abbrev pub text_in : List ℕ → Option (List ℕ) → Result (List ℕ) ObjectFault
-text_in name None = Err (faults.Wrong name)
-text_in name (Some s) = Ok s
-
 -- any string; a fault names the member name
 unfoldable pub text_of : List ℕ → Data → Result (List ℕ) ObjectFault
-text_of name d = text_in name (as_str d)
+text_of name d = or_fault (faults.Wrong name) (as_str d)
 
-abbrev pub checked_id : List ℕ → List ℕ → Result (List ℕ) ObjectFault
-checked_id name s = if is_id s then Ok s else Err (faults.Wrong name)
+-- a text of at least one byte, and at most so many; a fault names the member name
+abbrev pub sized : ℕ → List ℕ → List ℕ → Result (List ℕ) ObjectFault
+sized most name s = if length s == 0 then Err (faults.Wrong name) else (if nat_lt most (length s) then Err (faults.TooMany name) else Ok s)
+
+-- what has passed the test; a fault names the member name
+abbrev pub checked : {A : Type 0} → (A → Bool) → List ℕ → A → Result A ObjectFault
+checked test name x = if test x then Ok x else Err (faults.Wrong name)
 
 -- an id
 unfoldable pub id_of : List ℕ → Data → Result (List ℕ) ObjectFault
-id_of name d = text_of name d >>= checked_id name
+id_of name d = text_of name d >>= checked is_id name
+
+abbrev pub key_object : List ℕ → Data → Bool → Result KeyName ObjectFault
+key_object name d false = Err (faults.Wrong name)
+key_object name d true = required (codes "key") d >>= id_of (codes "key") >>= λ id. Ok (record { id = id; by_object = true })
+
+abbrev pub key_name_in : List ℕ → Data → Option (List ℕ) → Result KeyName ObjectFault
+key_name_in name d (Some s) = id_of name d >>= λ id. Ok (record { id = id; by_object = false })
+key_name_in name d None = key_object name d (is_some (as_object d))
+
+-- the name of a key: its id, or an object with it under `key`
+unfoldable pub key_name_of : List ℕ → Data → Result KeyName ObjectFault
+key_name_of name d = key_name_in name d (as_str d)
+
+abbrev pub none_unknown : {A : Type 0} → Option (List ℕ) → A → Result A ObjectFault
+none_unknown None x = Ok x
+none_unknown (Some name) x = Err (faults.Unknown name)
+
+-- what was read of an object that has no members but these
+abbrev pub without_others : {A : Type 0} → List (List ℕ) → Data → A → Result A ObjectFault
+without_others names d x = none_unknown (other_member names d) x
+
+-- ---- rights
+
+-- a fault inside the rights stands under the member that has them
+abbrev pub under : List ℕ → Result (List Right) RightsFault → Result (List Right) ObjectFault
+under name (Ok rs) = Ok rs
+under name (Err rights_faults.Wrong) = Err (faults.Wrong name)
+under name (Err rights_faults.TooMany) = Err (faults.TooMany name)
+under name (Err rights_faults.OutOfMemory) = Err faults.OutOfMemory
+
+-- the member of that name, which must be there: an array of rights
+unfoldable pub rights_under : List ℕ → Data → Result (List Right) ObjectFault
+rights_under name d = required name d >>= λ a. under name (rights_of a)
+
+-- 1 to 16 rights
+abbrev pub counted_rights : List ℕ → List Right → Result (List Right) ObjectFault
+counted_rights name rs = if length rs == 0 then Err (faults.Wrong name)
+    else (if nat_lt 16 (length rs) then Err (faults.TooMany name) else Ok rs)

@@ -1,10 +1,10 @@
 //! Why an object isn't of its form.
 ghost use Rattle.std.specs.Prelude.{◌≡◌, ◌⊎◌};
-ghost use Rattle.gnap_objects.specs.declared.fault.ObjectFault.TheVariants.{Missing, Wrong, TooMany, OutOfMemory};
+ghost use Rattle.gnap_objects.specs.declared.fault.ObjectFault.TheVariants.{Missing, Wrong, TooMany, Flag, Unknown, OutOfMemory};
 
 use gnap_io::bytes::Bytes;
 use gnap_io::memory::Mem;
-use std::alloc::{AllocError, AllocFailed, Global};
+use std::alloc::Global;
 
 /// The first fault that a reader meets, with the name of the member in which it stands.
 #[derive(Drop)]
@@ -17,6 +17,8 @@ pub enum ObjectFault {
     TooMany(Bytes),
     /// A flag stands twice.
     Flag(Bytes),
+    /// A setup's object has no such member. Requests may have others.
+    Unknown(Bytes),
     OutOfMemory,
 }
 
@@ -28,29 +30,13 @@ impl From<Mem> for ObjectFault {
     }
 }
 
-impl From<AllocError> for ObjectFault {
-    ghost from_gives = { λ _ e. e ≡ OutOfMemory };
-
-    fn from(_e: AllocError) -> ObjectFault {
-        ObjectFault::OutOfMemory
-    }
-}
-
-impl<T: Drop> From<AllocFailed<T>> for ObjectFault {
-    ghost from_gives = { λ _ e. e ≡ OutOfMemory };
-
-    fn from(_e: AllocFailed<T>) -> ObjectFault {
-        ObjectFault::OutOfMemory
-    }
-}
-
 impl ObjectFault {
     pub(crate) fn missing(alloc: Global, name: &str) -> ObjectFault
         ensures { (result ≡ OutOfMemory) ⊎ (result ≡ Missing name.now) }
     {
         match Bytes::from_slice(alloc, name.as_bytes()) {
             Ok(name) => ObjectFault::Missing(name),
-            Err(_) => ObjectFault::OutOfMemory,
+            Err(Mem) => ObjectFault::OutOfMemory,
         }
     }
 
@@ -59,7 +45,7 @@ impl ObjectFault {
     {
         match Bytes::from_slice(alloc, name.as_bytes()) {
             Ok(name) => ObjectFault::Wrong(name),
-            Err(_) => ObjectFault::OutOfMemory,
+            Err(Mem) => ObjectFault::OutOfMemory,
         }
     }
 
@@ -68,7 +54,25 @@ impl ObjectFault {
     {
         match Bytes::from_slice(alloc, name.as_bytes()) {
             Ok(name) => ObjectFault::TooMany(name),
-            Err(_) => ObjectFault::OutOfMemory,
+            Err(Mem) => ObjectFault::OutOfMemory,
+        }
+    }
+
+    pub(crate) fn flag(alloc: Global, name: &str) -> ObjectFault
+        ensures { (result ≡ OutOfMemory) ⊎ (result ≡ Flag name.now) }
+    {
+        match Bytes::from_slice(alloc, name.as_bytes()) {
+            Ok(name) => ObjectFault::Flag(name),
+            Err(Mem) => ObjectFault::OutOfMemory,
+        }
+    }
+
+    pub(crate) fn unknown(alloc: Global, name: &str) -> ObjectFault
+        ensures { (result ≡ OutOfMemory) ⊎ (result ≡ Unknown name.now) }
+    {
+        match Bytes::from_slice(alloc, name.as_bytes()) {
+            Ok(name) => ObjectFault::Unknown(name),
+            Err(Mem) => ObjectFault::OutOfMemory,
         }
     }
 }

@@ -1,159 +1,142 @@
 //! Grant requests and modifications (RFC 9635, sections 2 and 5.3).
-ghost use Rattle.std.specs.Prelude.{◌≡◌, ◌≤◌, IfOk, length};
+ghost use Rattle.std.specs.Prelude.{◌≡◌, ◌≤◌, None, IfOk, length};
 ghost use Rattle.std.specs.List.{AllByRecursion};
 ghost use Rattle.serde_json.specs.View.{view};
 ghost use Rattle.serde_json.specs.Written.{compact_text};
 ghost use Rattle.gnap_model.specs.Asked.{asked_rights};
-ghost use Rattle.access_rights.specs.Fits.{Fits, IsUtf8Or};
-ghost use Rattle.access_rights.specs.Json.{IsBody};
+ghost use Rattle.access_rights.specs.Fits.{IsUtf8Or};
+ghost use Rattle.json_objects.specs.Bodies.{IsBody};
+ghost use Rattle.json_objects.specs.Reading.{Gives};
+ghost use Rattle.json_objects.specs.Sizes.{capped};
 ghost use Rattle.access_rights.specs.Printing.{rights_data};
 ghost use Rattle.gnap_objects.specs.Fits.{AskFits, RequestFits};
-ghost use Rattle.gnap_objects.specs.Reading.{Gives};
-ghost use Rattle.gnap_objects.specs.Grants.{access_of, ask_of, asked_of, client_of, request_of};
+ghost use Rattle.gnap_objects.specs.declared.fault.ObjectFault.TheVariants.{OutOfMemory};
+ghost use Rattle.gnap_objects.specs.Grants.{client_of, asks_too_much, grant_body_of, request_of};
 
 use crate::fault::ObjectFault;
-use crate::members::{has, id_of, required};
-use access_rights::json_parts::member;
-use access_rights::printing::push_rights;
-use access_rights::{RightsFault, read_rights};
+use crate::members::{has, key_name_of, required};
+use crate::token_requests::token_requests_of;
+use access_rights::sizes::listed_size;
 use gnap_io::bytes::Bytes;
-use gnap_io::memory::Mem;
-use gnap_io::seq::Seq;
-use gnap_model::objects::{Ask, Asks, GrantRequest};
-use gnap_model::rights::Rights;
+use gnap_model::objects::{Asks, GrantRequest};
+use json_objects::sizes::enclosed_size;
 use serde_json::Value;
 use std::alloc::Global;
 
-#[tactic(auto, unfolding(crate::specs::Grants::access_of))]
-fn access_of(alloc: Global, value: &Value) -> Result<Rights, ObjectFault>
-    requires { IsBody (view value.now) }
-    ensures value { Gives (λ r. r) result (access_of (view value.now)) }
-    ensures fits { IfOk result (AllByRecursion Fits) }
-{
-    let access = required(alloc, value, "access")?;
-    let rights = match read_rights(alloc, access) {
-        Ok(rights) => rights,
-        Err(RightsFault::Wrong) => return Err(ObjectFault::wrong(alloc, "access")),
-        Err(RightsFault::TooMany) => return Err(ObjectFault::too_many(alloc, "access")),
-        Err(RightsFault::OutOfMemory) => return Err(ObjectFault::OutOfMemory),
-    };
-    if rights.len() == 0 {
-        return Err(ObjectFault::wrong(alloc, "access"));
-    }
-    if 16 < rights.len() {
-        return Err(ObjectFault::too_many(alloc, "access"));
-    }
-    Ok(rights)
+/// Which client asks for a grant.
+#[derive(Drop)]
+struct ClientName {
+    id: Option<Bytes>,
+    by_object: bool,
 }
 
-#[tactic(auto, unfolding(crate::specs::Grants::ask_of))]
-fn ask_of(alloc: Global, value: &Value) -> Result<Ask, ObjectFault>
-    requires { IsBody (view value.now) }
-    ensures value { Gives (λ a. a) result (ask_of (view value.now)) }
-    ensures fits { IfOk result AskFits }
-{
-    if !value.is_object() {
-        return Err(ObjectFault::wrong(alloc, "access_token"));
-    }
-    let rights = access_of(alloc, value)?;
-    if has(value, "label") {
-        return Err(ObjectFault::wrong(alloc, "label"));
-    }
-    if has(value, "flags") {
-        return Err(ObjectFault::wrong(alloc, "flags"));
-    }
-    Ok(Ask {
-        label: None,
-        rights,
-        bearer: false,
-    })
-}
-
-#[tactic(auto, unfolding(crate::specs::Grants::asked_of))]
-fn asked_of(alloc: Global, value: &Value) -> Result<Asks, ObjectFault>
-    requires { IsBody (view value.now) }
-    ensures value { Gives (λ a. a) result (asked_of (view value.now)) }
-    ensures fits { IfOk result (AllByRecursion AskFits) }
-    ensures few { IfOk result (λ a. length a ≤ 8) }
-{
-    let mut asks = Seq::new(alloc);
-    if let Some(token) = member(value, "access_token") {
-        asks.push(ask_of(alloc, token)?)?;
-    }
-    Ok(asks)
+/// What the body of a grant request or of a modification says.
+#[derive(Drop)]
+pub(crate) struct GrantBody {
+    pub(crate) request: GrantRequest,
+    /// A flag stands twice in one of its token requests.
+    pub(crate) repeats_flag: bool,
 }
 
 #[tactic(auto, unfolding(crate::specs::Grants::client_of))]
-fn client_of(alloc: Global, value: &Value, modify: bool) -> Result<Option<Bytes>, ObjectFault>
-    ensures value { Gives (λ c. c) result (client_of modify (view value.now)) }
-    ensures utf8 { IfOk result IsUtf8Or }
+fn client_of(alloc: Global, value: &Value, modify: bool) -> Result<ClientName, ObjectFault>
+    ensures value { Gives OutOfMemory (λ c. c) result (client_of modify (view value.now)) }
+    ensures utf8 { IfOk result (λ c. IsUtf8Or c.id) }
 {
     if modify {
-        return Ok(None);
+        return Ok(ClientName {
+            id: None,
+            by_object: false,
+        });
     }
     let client = required(alloc, value, "client")?;
-    let id = id_of(alloc, client, "client")?;
+    let key = key_name_of(alloc, client, "client")?;
     if has(value, "user") {
         return Err(ObjectFault::wrong(alloc, "user"));
     }
-    Ok(Some(id))
+    Ok(ClientName {
+        id: Some(key.id),
+        by_object: key.by_object,
+    })
 }
 
-fn asks_value(alloc: Global, asks: &Asks) -> Result<Value, Mem>
+// The size of the compact text of the array of all asked rights.
+fn asked_size(asks: &Asks) -> usize
     requires { AllByRecursion AskFits asks.now }
-    ensures { IfOk result (λ v. view v ≡ rights_data (asked_rights asks.now)) }
+    ensures { result ≡ capped (length (compact_text (rights_data (asked_rights asks.now)))) }
 {
-    let mut items = Vec::new(alloc);
+    let mut size = 0usize;
     for ask in asks.as_slice() {
-        push_rights(alloc, &mut items, &ask.rights)?;
+        size = size.saturating_add(listed_size(&ask.rights));
     }
-    Ok(Value::Array(items))
+    enclosed_size(size)
 }
 
-// How many bytes the compact text of all asked rights has.
-fn asks_size(alloc: Global, asks: &Asks) -> Result<usize, Mem>
+fn asks_too_much(asks: &Asks) -> bool
     requires { AllByRecursion AskFits asks.now }
-    ensures { IfOk result (λ n. n ≡ length (compact_text (rights_data (asked_rights asks.now)))) }
+    ensures { result ≡ asks_too_much asks.now }
 {
-    let value = asks_value(alloc, asks)?;
-    let text = Bytes::from_vec(value.to_vec(alloc)?);
-    Ok(text.len())
+    4096 < asked_size(asks)
 }
 
-/// The grant request that a body is, or the modification, for which `client` and `user` are not looked at (RFC 9635, sections 2 and 5.3).
-///
-/// The members are read in the order `access_token` (in it `access`, `label`, `flags`), `subject`, `client`, `user`, `interact`, and the first fault is
-/// named. Read are one token request without label and flags, for 1 to 16 references whose compact text has at most 4,096 bytes in all, and a client
-/// named by its id. Any other form of these members is `Wrong`; other members are not looked at. Where no token is asked for, `access_token` is missing.
-#[tactic(auto, unfolding(crate::specs::Grants::request_of))]
-pub fn read_grant(alloc: Global, value: &Value, modify: bool) -> Result<GrantRequest, ObjectFault>
+/// The body of a grant request, or of a modification, before the test that no flag stands twice.
+#[tactic(auto, unfolding(crate::specs::Grants::grant_body_of))]
+pub(crate) fn grant_body_of(
+    alloc: Global,
+    value: &Value,
+    modify: bool,
+) -> Result<GrantBody, ObjectFault>
     requires { IsBody (view value.now) }
-    ensures value { Gives (λ r. r) result (request_of modify (view value.now)) }
-    ensures fits { IfOk result RequestFits }
-    ensures few { IfOk result (λ r. length r.asks ≤ 8) }
-    ensures plain { IfOk result (λ r. r.modes ≡ None) }
+    ensures value { Gives OutOfMemory (λ b. b) result (grant_body_of modify (view value.now)) }
+    ensures fits { IfOk result (λ b. RequestFits b.request) }
+    ensures few { IfOk result (λ b. length b.request.asks ≤ 8) }
+    ensures plain { IfOk result (λ b. b.request.modes ≡ None) }
 {
-    let asks = asked_of(alloc, value)?;
+    let tokens = token_requests_of(alloc, value)?;
     if has(value, "subject") {
         return Err(ObjectFault::wrong(alloc, "subject"));
     }
-    if asks.len() == 0 {
+    if tokens.asks.len() == 0 {
         return Err(ObjectFault::missing(alloc, "access_token"));
     }
     let client = client_of(alloc, value, modify)?;
     if has(value, "interact") {
         return Err(ObjectFault::wrong(alloc, "interact"));
     }
-    if 4096 < asks_size(alloc, &asks)? {
+    if asks_too_much(&tokens.asks) {
         return Err(ObjectFault::too_many(alloc, "access_token"));
     }
-    Ok(GrantRequest {
-        asks,
-        single: true,
-        subject: false,
-        client,
-        by_object: false,
-        user: None,
-        modes: None,
+    Ok(GrantBody {
+        request: GrantRequest {
+            asks: tokens.asks,
+            single: tokens.single,
+            subject: false,
+            client: client.id,
+            by_object: client.by_object,
+            user: None,
+            modes: None,
+        },
+        repeats_flag: tokens.repeats_flag,
     })
+}
+
+/// The grant request that a body is, or the modification, for which `client` and `user` are not looked at (RFC 9635, sections 2 and 5.3).
+///
+/// The members are read in the order `access_token` (a token request or an array of 1 to 8 of them; in each `access`, 1 to 16 rights, `label`, of 1 to
+/// 64 bytes, and `flags`), `subject`, `client` (an id, or an object with `key`, an id), `user`, `interact`, and the first fault is named. In an array
+/// each request has a label of its own. The compact JSON text of all asked rights has at most 4,096 bytes; after all else no flag may stand twice in
+/// a request. `subject`, `user` and `interact` are `Wrong`; other members are not looked at. Where no token is asked for, `access_token` is missing.
+#[tactic(auto, unfolding(crate::specs::Grants::request_of))]
+pub fn read_grant(alloc: Global, value: &Value, modify: bool) -> Result<GrantRequest, ObjectFault>
+    requires { IsBody (view value.now) }
+    ensures value { Gives OutOfMemory (λ r. r) result (request_of modify (view value.now)) }
+    ensures fits { IfOk result RequestFits }
+    ensures few { IfOk result (λ r. length r.asks ≤ 8) }
+    ensures plain { IfOk result (λ r. r.modes ≡ None) }
+{
+    let body = grant_body_of(alloc, value, modify)?;
+    if body.repeats_flag {
+        return Err(ObjectFault::flag(alloc, "flags"));
+    }
+    Ok(body.request)
 }

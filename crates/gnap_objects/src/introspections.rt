@@ -1,40 +1,66 @@
 //! Introspections (RFC 9767, section 3.3).
 ghost use Rattle.std.specs.Prelude.{IfOk};
 ghost use Rattle.serde_json.specs.View.{view};
-ghost use Rattle.access_rights.specs.Json.{IsBody};
-ghost use Rattle.gnap_objects.specs.Fits.{IntrospectionFits};
-ghost use Rattle.gnap_objects.specs.Reading.{Gives};
-ghost use Rattle.gnap_objects.specs.Introspections.{introspection_of};
+ghost use Rattle.json_objects.specs.Bodies.{IsBody};
+ghost use Rattle.json_objects.specs.Reading.{Gives};
+ghost use Rattle.gnap_objects.specs.declared.fault.ObjectFault.TheVariants.{OutOfMemory};
+ghost use Rattle.gnap_objects.specs.Fits.{WantedFit, IntrospectionFits};
+ghost use Rattle.gnap_objects.specs.Introspections.{proof_of, wanted_of, introspection_of};
 
 use crate::fault::ObjectFault;
-use crate::members::{has, id_of, required, text_of};
-use gnap_model::objects::IntrospectRequest;
+use crate::members::{counted_rights, key_name_of, required, rights_in, text_of};
+use gnap_model::objects::{Binding, IntrospectRequest};
+use gnap_model::rights::Rights;
+use json_objects::member;
 use serde_json::Value;
 use std::alloc::Global;
 
-/// The introspection that a body is. The members are read in the order `access_token`, `proof`, `resource_server`, `access`, and the first fault is
-/// named. Read are any string as the token's value, and a resource server named by its id. `proof` and `access` are `Wrong`; other members are not
-/// looked at.
+#[tactic(auto, unfolding(crate::specs::Introspections::proof_of, crate::specs::Reading::text_of))]
+fn proof_of(alloc: Global, value: &Value) -> Result<Option<Binding>, ObjectFault>
+    ensures { Gives OutOfMemory (λ b. b) result (proof_of (view value.now)) }
+{
+    let Some(proof) = member(value, "proof") else {
+        return Ok(None);
+    };
+    match proof.as_str() {
+        Some("httpsig") => Ok(Some(Binding::Httpsig)),
+        Some("bearer") => Ok(Some(Binding::Bearer)),
+        _ => Err(ObjectFault::wrong(alloc, "proof")),
+    }
+}
+
+#[tactic(auto, unfolding(crate::specs::Introspections::wanted_of))]
+fn wanted_of(alloc: Global, value: &Value) -> Result<Option<Rights>, ObjectFault>
+    requires { IsBody (view value.now) }
+    ensures value { Gives OutOfMemory (λ r. r) result (wanted_of (view value.now)) }
+    ensures fits { IfOk result WantedFit }
+{
+    let Some(access) = member(value, "access") else {
+        return Ok(None);
+    };
+    let rights = rights_in(alloc, access, "access")?;
+    Ok(Some(counted_rights(alloc, rights, "access")?))
+}
+
+/// The introspection that a body is. The members are read in the order `access_token` (any string, the token's value), `proof` (`httpsig` or `bearer`,
+/// where it is there), `resource_server` (an id, or an object with `key`, an id), `access` (1 to 16 rights, where it is there), and the first fault is
+/// named. Other members are not looked at.
 #[tactic(auto, unfolding(crate::specs::Introspections::introspection_of))]
 pub fn read_introspect(alloc: Global, value: &Value) -> Result<IntrospectRequest, ObjectFault>
     requires { IsBody (view value.now) }
-    ensures value { Gives (λ r. r) result (introspection_of (view value.now)) }
+    ensures value { Gives OutOfMemory (λ r. r) result (introspection_of (view value.now)) }
     ensures fits { IfOk result IntrospectionFits }
 {
     let token = required(alloc, value, "access_token")?;
     let presented = text_of(alloc, token, "access_token")?;
-    if has(value, "proof") {
-        return Err(ObjectFault::wrong(alloc, "proof"));
-    }
+    let binding = proof_of(alloc, value)?;
     let named = required(alloc, value, "resource_server")?;
-    let server = id_of(alloc, named, "resource_server")?;
-    if has(value, "access") {
-        return Err(ObjectFault::wrong(alloc, "access"));
-    }
+    let server = key_name_of(alloc, named, "resource_server")?;
+    let wanted = wanted_of(alloc, value)?;
     Ok(IntrospectRequest {
         value: presented,
-        binding: None,
-        server,
-        wanted: None,
+        binding,
+        server: server.id,
+        wanted,
     })
 }

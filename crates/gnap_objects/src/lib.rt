@@ -4,18 +4,16 @@
 //! order of its members, with the name of the member in which it stands. What a reader gives can be shown again: its texts are UTF-8.
 #![tactic(auto)]
 
-pub mod body;
-pub mod codes;
+pub mod call_reading;
 pub mod fault;
 pub mod forms;
 pub mod grants;
 pub mod introspections;
-pub mod keys;
 mod members;
 pub mod setups;
+mod token_requests;
 
-pub use body::{BodyFault, read_body};
-pub use codes::error_text;
+pub use call_reading::{BodyForm, CallKind, CallOrRefusal, read_call};
 pub use fault::ObjectFault;
 pub use gnap_model::objects::{
     Ask, Asks, Binding, ContinueRequest, DecideRequest, ErrorCode, Finish, GrantRequest,
@@ -23,7 +21,6 @@ pub use gnap_model::objects::{
 };
 pub use grants::read_grant;
 pub use introspections::read_introspect;
-pub use keys::find_key;
 pub use setups::{SetupFault, read_setup};
 
 #[cfg(test)]

@@ -1,14 +1,21 @@
-//! Members of a request's objects, up to the first fault.
-ghost use Rattle.std.specs.Prelude.{◌≡◌, IfOk, is_some, IsUtf8};
+//! Members of objects, up to the first fault.
+ghost use Rattle.std.specs.Prelude.{◌≡◌, IfOk, is_some, IsUtf8, map};
+ghost use Rattle.std.specs.List.{AllByRecursion};
 ghost use Rattle.serde_json.specs.Find.{get};
 ghost use Rattle.serde_json.specs.View.{view};
-ghost use Rattle.access_rights.specs.Json.{IsBody};
-ghost use Rattle.gnap_objects.specs.Reading.{Gives, required, text_of, id_of};
+ghost use Rattle.json_objects.specs.Bodies.{IsBody};
+ghost use Rattle.json_objects.specs.Reading.{Gives};
+ghost use Rattle.access_rights.specs.Fits.{Fits};
+ghost use Rattle.access_rights.specs.Reading.{rights_of};
+ghost use Rattle.gnap_objects.specs.declared.fault.ObjectFault.TheVariants.{OutOfMemory};
+ghost use Rattle.gnap_objects.specs.Reading.{required, text_of, id_of, sized, key_name_of, without_others, under, rights_under, counted_rights};
 
 use crate::fault::ObjectFault;
 use crate::forms::is_id;
-use access_rights::json_parts::member;
+use access_rights::{RightsFault, read_rights};
 use gnap_io::bytes::Bytes;
+use gnap_model::rights::Rights;
+use json_objects::{member, other_member};
 use serde_json::Value;
 use std::alloc::Global;
 
@@ -23,7 +30,7 @@ pub(crate) fn required<'v>(
     value: &'v Value,
     name: &str,
 ) -> Result<&'v Value, ObjectFault>
-    ensures value { Gives (λ v. view v.now) result (required name.now (view value.now)) }
+    ensures value { Gives OutOfMemory (λ v. view v.now) result (required name.now (view value.now)) }
     ensures body { IsBody (view value.now) → IfOk result (λ v. IsBody (view v.now)) }
 {
     match member(value, name) {
@@ -34,7 +41,7 @@ pub(crate) fn required<'v>(
 
 #[tactic(auto, unfolding(crate::specs::Reading::text_of))]
 pub(crate) fn text_of(alloc: Global, value: &Value, name: &str) -> Result<Bytes, ObjectFault>
-    ensures value { Gives (λ b. b) result (text_of name.now (view value.now)) }
+    ensures value { Gives OutOfMemory (λ b. b) result (text_of name.now (view value.now)) }
     ensures utf8 { IfOk result IsUtf8 }
 {
     let Some(text) = value.as_str() else {
@@ -45,7 +52,7 @@ pub(crate) fn text_of(alloc: Global, value: &Value, name: &str) -> Result<Bytes,
 
 #[tactic(auto, unfolding(crate::specs::Reading::id_of))]
 pub(crate) fn id_of(alloc: Global, value: &Value, name: &str) -> Result<Bytes, ObjectFault>
-    ensures value { Gives (λ b. b) result (id_of name.now (view value.now)) }
+    ensures value { Gives OutOfMemory (λ b. b) result (id_of name.now (view value.now)) }
     ensures utf8 { IfOk result IsUtf8 }
 {
     let text = text_of(alloc, value, name)?;
@@ -53,4 +60,110 @@ pub(crate) fn id_of(alloc: Global, value: &Value, name: &str) -> Result<Bytes, O
         return Err(ObjectFault::wrong(alloc, name));
     }
     Ok(text)
+}
+
+// A text of at least one byte, and at most so many.
+pub(crate) fn sized(
+    alloc: Global,
+    text: Bytes,
+    most: usize,
+    name: &str,
+) -> Result<Bytes, ObjectFault>
+    ensures value { Gives OutOfMemory (λ s. s) result (sized most name.now text) }
+    ensures same { IfOk result (λ s. s ≡ text) }
+{
+    if text.len() == 0 {
+        return Err(ObjectFault::wrong(alloc, name));
+    }
+    if most < text.len() {
+        return Err(ObjectFault::too_many(alloc, name));
+    }
+    Ok(text)
+}
+
+/// How a request names the key that makes it.
+#[derive(Drop)]
+pub(crate) struct KeyName {
+    pub(crate) id: Bytes,
+    /// By an object with the id, and not by the id itself.
+    pub(crate) by_object: bool,
+}
+
+#[tactic(auto, unfolding(crate::specs::Reading::key_name_of))]
+pub(crate) fn key_name_of(alloc: Global, value: &Value, name: &str) -> Result<KeyName, ObjectFault>
+    ensures value { Gives OutOfMemory (λ k. k) result (key_name_of name.now (view value.now)) }
+    ensures utf8 { IfOk result (λ k. IsUtf8 k.id) }
+{
+    if value.is_string() {
+        return Ok(KeyName {
+            id: id_of(alloc, value, name)?,
+            by_object: false,
+        });
+    }
+    if !value.is_object() {
+        return Err(ObjectFault::wrong(alloc, name));
+    }
+    let key = required(alloc, value, "key")?;
+    Ok(KeyName {
+        id: id_of(alloc, key, "key")?,
+        by_object: true,
+    })
+}
+
+// What was read, where the object has no members but those of these names.
+pub(crate) fn without_others<T: Drop>(
+    alloc: Global,
+    value: &Value,
+    names: &[&str],
+    read: T,
+) -> Result<T, ObjectFault>
+    ensures value { Gives OutOfMemory (λ x. x) result (without_others (map (λ n. n.now) names.now) (view value.now) read) }
+    ensures same { IfOk result (λ x. x ≡ read) }
+{
+    match other_member(value, names) {
+        Some(name) => Err(ObjectFault::unknown(alloc, name)),
+        None => Ok(read),
+    }
+}
+
+#[tactic(auto, unfolding(crate::specs::Reading::rights_under))]
+pub(crate) fn rights_under(alloc: Global, value: &Value, name: &str) -> Result<Rights, ObjectFault>
+    requires { IsBody (view value.now) }
+    ensures value { Gives OutOfMemory (λ r. r) result (rights_under name.now (view value.now)) }
+    ensures fits { IfOk result (AllByRecursion Fits) }
+{
+    let rights = required(alloc, value, name)?;
+    rights_in(alloc, rights, name)
+}
+
+// The rights that the member of that name is.
+pub(crate) fn rights_in(alloc: Global, value: &Value, name: &str) -> Result<Rights, ObjectFault>
+    requires { IsBody (view value.now) }
+    ensures value { Gives OutOfMemory (λ r. r) result (under name.now (rights_of (view value.now))) }
+    ensures fits { IfOk result (AllByRecursion Fits) }
+{
+    match read_rights(alloc, value) {
+        Ok(rights) => Ok(rights),
+        Err(RightsFault::Wrong) => Err(ObjectFault::wrong(alloc, name)),
+        Err(RightsFault::TooMany) => Err(ObjectFault::too_many(alloc, name)),
+        Err(RightsFault::OutOfMemory) => Err(ObjectFault::OutOfMemory),
+    }
+}
+
+// 1 to 16 rights.
+pub(crate) fn counted_rights(
+    alloc: Global,
+    rights: Rights,
+    name: &str,
+) -> Result<Rights, ObjectFault>
+    ensures value { Gives OutOfMemory (λ r. r) result (counted_rights name.now rights) }
+    ensures same { IfOk result (λ r. r ≡ rights) }
+{
+    if rights.len() == 0 {
+        return Err(ObjectFault::wrong(alloc, name));
+    }
+    if 16 < rights.len() {
+        return Err(ObjectFault::too_many(alloc, name));
+    }
+    Ok(rights)
 }

@@ -1,4 +1,4 @@
-use crate::{SetupFault, find_key, read_setup};
+use crate::{SetupFault, read_setup};
 use std::alloc::{AllocError, Global};
 use std::test::Fail;
 
@@ -13,8 +13,8 @@ fn repeated(alloc: Global, piece: &str, times: usize) -> Result<String, AllocErr
 fn is_setup(alloc: Global, text: &str) -> Option<bool> {
     match read_setup(alloc, text.as_bytes()) {
         Ok(_) => Some(true),
-        Err(SetupFault::NotASetup) => Some(false),
         Err(SetupFault::OutOfMemory) => None,
+        Err(_) => Some(false),
     }
 }
 
@@ -166,18 +166,5 @@ fn ids_and_secrets_have_forms(rt: HostRuntime) -> Result<(), Fail> {
             "{id} {secret}"
         );
     }
-    Ok(())
-}
-
-#[test]
-fn a_key_is_found_by_its_id(rt: HostRuntime) -> Result<(), Fail> {
-    let keys = "{\"id\":\"k\",\"role\":\"front\",\"secret\":\"c2VjcmV0LWtleS1vZi1jMQ==\"}";
-    let text = with_keys(rt.alloc(), keys)?;
-    let setup = read_setup(rt.alloc(), text.as_bytes())
-        .ok()
-        .ok_or("a setup")?;
-    let key = find_key(&setup, b"k").ok_or("a key")?;
-    assert!(rt; key.secret.as_slice() == b"secret-key-of-c1".as_slice());
-    assert!(rt; find_key(&setup, b"K").is_none());
     Ok(())
 }

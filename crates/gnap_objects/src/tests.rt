@@ -1,38 +1,7 @@
-use crate::{
-    BodyFault, ErrorCode, ObjectFault, error_text, read_body, read_grant, read_introspect,
-};
+use crate::{ObjectFault, read_grant, read_introspect};
+use json_objects::read_body;
 use std::alloc::{AllocError, Global};
 use std::test::Fail;
-
-#[test]
-fn a_body_is_an_object_of_whole_numbers(rt: HostRuntime) -> Result<(), Fail> {
-    for (text, wanted) in [
-        ("{\"a\":18446744073709551615}", None),
-        ("{\"a\":-9223372036854775808}", None),
-        ("{\"a\":1.5,\"a\":2}", None),
-        ("{\"a\":1.0}", Some(BodyFault::Number)),
-        ("{\"a\":[{\"b\":1e3}]}", Some(BodyFault::Number)),
-        ("{\"a\":-0}", Some(BodyFault::Number)),
-        ("{\"a\":18446744073709551616}", Some(BodyFault::Number)),
-        ("{\"a\":1e999}", Some(BodyFault::NotAnObject)),
-        ("{\"a\":01}", Some(BodyFault::NotAnObject)),
-        ("[1.5]", Some(BodyFault::NotAnObject)),
-        ("{} {}", Some(BodyFault::NotAnObject)),
-        ("", Some(BodyFault::NotAnObject)),
-    ] {
-        assert_eq!(rt;
-            read_body(rt.alloc(), text.as_bytes()).err(),
-            wanted,
-            "{text}"
-        );
-    }
-    let bytes = b"{\"a\":\"\xff\"}";
-    assert_eq!(rt;
-        read_body(rt.alloc(), bytes).err(),
-        Some(BodyFault::NotAnObject)
-    );
-    Ok(())
-}
 
 fn repeated(alloc: Global, piece: &str, times: usize) -> Result<String, AllocError> {
     let mut text = String::new(alloc);
@@ -42,23 +11,13 @@ fn repeated(alloc: Global, piece: &str, times: usize) -> Result<String, AllocErr
     Ok(text)
 }
 
-#[test]
-fn a_body_has_at_most_127_levels(rt: HostRuntime) -> Result<(), Fail> {
-    for (levels, wanted) in [(126, None), (127, Some(BodyFault::NotAnObject))] {
-        let open = repeated(rt.alloc(), "[", levels)?;
-        let close = repeated(rt.alloc(), "]", levels)?;
-        let text = format!(in rt.alloc(); "{{\"a\":{open}{close}}}")?;
-        assert_eq!(rt; read_body(rt.alloc(), text.as_bytes()).err(), wanted);
-    }
-    Ok(())
-}
-
 fn fault_text(alloc: Global, fault: ObjectFault) -> Result<String, AllocError> {
     let (kind, name) = match &fault {
         ObjectFault::Missing(name) => ("missing", name.as_slice()),
         ObjectFault::Wrong(name) => ("wrong", name.as_slice()),
         ObjectFault::TooMany(name) => ("too many", name.as_slice()),
         ObjectFault::Flag(name) => ("flag", name.as_slice()),
+        ObjectFault::Unknown(name) => ("unknown", name.as_slice()),
         ObjectFault::OutOfMemory => ("memory", b"".as_slice()),
     };
     let name = match str::from_utf8(name) {
@@ -211,10 +170,4 @@ fn an_introspection_names_its_first_fault(rt: HostRuntime) -> Result<(), Fail> {
         assert!(rt; found.as_str() == wanted, "{members}: {found}");
     }
     Ok(())
-}
-
-#[test]
-fn the_codes_have_texts(rt: HostRuntime) {
-    assert!(rt; error_text(ErrorCode::InvalidClient) == "invalid_client");
-    assert!(rt; error_text(ErrorCode::KeyRotationNotSupported) == "key_rotation_not_supported");
 }

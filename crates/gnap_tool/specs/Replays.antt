@@ -1,20 +1,22 @@
 -- What a replay does with the lines of its file, and what it prints.
-use Rattle.std.specs.Prelude.{◌≡◌, ◌⊎◌, ℕ, true, false, List, [], ◌∷◌, ◌++◌, length, nat_lt, Option, Some, None, Result, Ok, Err, if◌then◌else◌}
-use Rattle.gnap_io.specs.Outside.{Told, IfTold, Writes, IsPrefix}
-use Rattle.histories.specs.Turns.{Turn, Each, messages_in, entries_in, bytes_in}
-use Rattle.histories.specs.Whole.{One}
+use Rattle.std.specs.Prelude.{◌≡◌, ◌⊎◌, ◌≤◌, ℕ, false, List, [], ◌∷◌, ◌++◌, length, nat_lt, Option, Some, None, Result, Ok, Err, if◌then◌else◌}
+use Rattle.gnap_io.specs.Outside.{Told, Writes}
+use Rattle.histories.specs.Turns.{Turn, Face, IsTurn, Each, AllOn, OneMore, Cut, messages_in, entries_in, bytes_in}
+use Rattle.histories.specs.Whole.{OneHistory}
 use Rattle.gnap_model.specs.declared.objects.Setup.{Setup}
 use Rattle.gnap_model.specs.declared.calls.Call.{Call}
-use Rattle.gnap_model.specs.declared.calls.Call.TheVariants.{Lapse}
+use Rattle.gnap_model.specs.declared.calls.Reply.{Reply}
 use Rattle.gnap_objects.specs.Setups.{setup_of}
 use Rattle.gnap_objects.specs.declared.setups.SetupFault.{SetupFault}
+use Rattle.gnap_tool.specs.declared.ended.WrongSetup.{WrongSetup}
 use Rattle.gnap_history.specs.Gnap.{GnapEntry, gnap}
 use Rattle.gnap_history.specs.Laws.{WhatHolds}
 use Rattle.gnap_tool.specs.declared.call_lines.LineStep.TheVariants.{Say, Ask}
 use Rattle.gnap_tool.specs.declared.ended.Ended.{Ended}
 use Rattle.gnap_tool.specs.declared.ended.Ended.TheVariants.{Done, NoSetup, Failed, WriteFault, Memory, NotInGrammar, TooLong}
 use Rattle.gnap_tool.specs.CallLines.{line_step}
-use Rattle.gnap_tool.specs.Replies.{reply_line}
+use Rattle.gnap_tool.specs.Lines.{IsLine, lines_of, whole_lines}
+use Rattle.gnap_tool.specs.ReplyLines.{reply_line}
 
 -- ---- lines
 
@@ -22,55 +24,37 @@ use Rattle.gnap_tool.specs.Replies.{reply_line}
 abbrev pub LineTurn : Type 0
 LineTurn = Turn (List ℕ) GnapEntry
 
--- A line's turn is one of these.
-pub data IsLineTurn (setup : Setup) : LineTurn → Type 0 where
-  -- it was answered at once
-  direct : (line text : List ℕ) → line_step setup line ≡ Say text
-      → IsLineTurn setup (record { message = line; moment = 0; entries = []; bytes = text; on = true })
-  -- its call was entered, and the reply of that entry was printed
-  called : (line : List ℕ) → (e : GnapEntry) → line_step setup line ≡ Ask e.moment e.draw e.call
-      → IsLineTurn setup (record { message = line; moment = e.moment; entries = e ∷ []; bytes = reply_line setup e.reply; on = true })
-  -- memory ran out: before a call was entered, so that nothing was; so that a lapse was entered; or before the reply was printed
-  starved : (line : List ℕ) → IsLineTurn setup (record { message = line; moment = 0; entries = []; bytes = []; on = false })
-  lapsed : (line : List ℕ) → (e : GnapEntry) → (call : Call) → line_step setup line ≡ Ask e.moment e.draw call → e.call ≡ Lapse
-      → IsLineTurn setup (record { message = line; moment = e.moment; entries = e ∷ []; bytes = []; on = false })
-  unsaid : (line : List ℕ) → (e : GnapEntry) → line_step setup line ≡ Ask e.moment e.draw e.call
-      → IsLineTurn setup (record { message = line; moment = e.moment; entries = e ∷ []; bytes = []; on = false })
+-- A line is answered at once or asks a call, at the line's own moment and with its own words. Nothing is printed where memory runs out.
+abbrev pub line_face : Face (List ℕ) Setup Call Reply
+line_face = record {
+  says = λ setup last line moment text. line_step setup line ≡ Say text;
+  asks = λ setup line moment draw call. line_step setup line ≡ Ask moment draw call;
+  prints = λ setup last reply. reply_line setup reply;
+  busy = [];
+}
 
--- memory ran out at none of them
-abbrev pub AllOn : List LineTurn → Type 0
-AllOn [] = Unit {0}
-AllOn (turn ∷ turns) = (turn.on ≡ true) × AllOn turns
+abbrev pub IsLineTurn : Setup → LineTurn → Type 0
+IsLineTurn setup = IsTurn gnap line_face setup false
 
--- these turns and one more
-pub record OneMore (turns front : List LineTurn) (last : LineTurn) : Type 0 where
-  pub is : turns ≡ front ++ last ∷ []
-  pub before : AllOn front
-
--- all of a text and a beginning of the next
-pub record Cut (sent before piece : List ℕ) : Type 0 where
-  pub part : List ℕ
-  pub is_prefix : IsPrefix part piece
-  pub is : sent ≡ before ++ part
-
--- How a replay ended, by its turns, the lines that had none, and what was printed. Memory ran out at the last of the turns, or at no turn.
-abbrev pub EndsAs : Ended → List LineTurn → List (List ℕ) → List ℕ → Type 0
-EndsAs Done turns later sent = AllOn turns × (later ≡ []) × (sent ≡ bytes_in turns)
-EndsAs NoSetup turns later sent = ⊥
-EndsAs NotInGrammar turns later sent = ⊥
-EndsAs WriteFault turns later sent = (front : List LineTurn) × (last : LineTurn) × OneMore turns front last × Cut sent (bytes_in front) last.bytes
-EndsAs Memory turns later sent = (sent ≡ bytes_in turns) × (AllOn turns ⊎ ((front : List LineTurn) × (last : LineTurn) × OneMore turns front last))
-EndsAs Failed turns later sent = AllOn turns × (sent ≡ bytes_in turns)
-EndsAs TooLong turns later sent = AllOn turns × (sent ≡ bytes_in turns)
+-- How a replay ended, by its turns, the lines that were read whole, the lines that had no turn, and what was printed. Memory ran out at the last
+-- of the turns, or at none. Where the reading failed, or came to the limit, all lines that were read whole had had their turns.
+abbrev pub EndsAs : Ended → List LineTurn → List (List ℕ) → List (List ℕ) → List ℕ → Type 0
+EndsAs Done turns whole later sent = AllOn turns × (later ≡ []) × (sent ≡ bytes_in turns)
+EndsAs (NoSetup why) turns whole later sent = ⊥
+EndsAs NotInGrammar turns whole later sent = ⊥
+EndsAs WriteFault turns whole later sent = (front : List LineTurn) × (last : LineTurn) × OneMore AllOn turns front last × Cut sent (bytes_in front) last.bytes
+EndsAs Memory turns whole later sent = (sent ≡ bytes_in turns) × (AllOn turns ⊎ ((front : List LineTurn) × (last : LineTurn) × OneMore AllOn turns front last))
+EndsAs Failed turns whole later sent = AllOn turns × (sent ≡ bytes_in turns) × (whole ≡ messages_in turns)
+EndsAs TooLong turns whole later sent = AllOn turns × (sent ≡ bytes_in turns) × (whole ≡ messages_in turns)
 
 -- The account of a replay: these entries are those of the turns of its first lines, in order, and this was printed.
-pub record IsReplay (setup : Setup) (lines : List (List ℕ)) (sent : List ℕ) (ended : Ended) (own : List GnapEntry) : Type 0 where
+pub record IsReplay (setup : Setup) (whole lines : List (List ℕ)) (sent : List ℕ) (ended : Ended) (own : List GnapEntry) : Type 0 where
   pub turns : List LineTurn
   pub each : Each (IsLineTurn setup) turns
   pub own_is : own ≡ entries_in turns
   pub later : List (List ℕ)
   pub lines_are : lines ≡ messages_in turns ++ later
-  pub ends : EndsAs ended turns later sent
+  pub ends : EndsAs ended turns whole later sent
 
 -- ---- the file
 
@@ -95,17 +79,28 @@ setup_read (Err fault) = None
 abbrev pub setup_in : List ℕ → Option Setup
 setup_in line = if nat_lt setup_limit (length line) then None else setup_read (setup_of line)
 
--- A file with a setup was replayed: there is one legal history, of the one worker whose account is this replay's. What holds of all legal
+-- Lines were replayed by a setup: there is one legal history, of the one worker whose account is this replay's. What holds of all legal
 -- histories holds of it.
-pub record Replayed (setup : Setup) (lines : List (List ℕ)) (before after : Option Told) (ended : Ended) : Type 0 where
+pub record Replayed (setup : Setup) (whole lines : List (List ℕ)) (before after : Told) (ended : Ended) : Type 0 where
   pub sent : List ℕ
-  pub told : IfTold before after (Writes sent)
-  pub one : One gnap setup (IsReplay setup lines sent ended ∷ [])
+  pub told : Writes sent before after
+  pub one : OneHistory gnap setup (IsReplay setup whole lines sent ended ∷ [])
   pub holds : WhatHolds setup one.history
 
--- without a setup nothing is printed, and the replay isn't done
-abbrev pub EndsWithoutSetup : Ended → Type 0
-EndsWithoutSetup Done = ⊥
-EndsWithoutSetup WriteFault = ⊥
-EndsWithoutSetup NotInGrammar = ⊥
-EndsWithoutSetup _ = Unit {0}
+-- Without a setup a replay isn't done: memory ran out, or the first line was read and is none, or the reading failed before a whole line was
+-- read and before the line was too long.
+abbrev pub EndsWithoutSetup : Ended → List ℕ → Type 0
+EndsWithoutSetup (NoSetup why) taken = Unit {0}
+EndsWithoutSetup Memory taken = Unit {0}
+EndsWithoutSetup Failed taken = IsLine taken × (length taken ≤ setup_limit)
+EndsWithoutSetup Done taken = ⊥
+EndsWithoutSetup WriteFault taken = ⊥
+EndsWithoutSetup NotInGrammar taken = ⊥
+EndsWithoutSetup TooLong taken = ⊥
+
+-- A file was replayed of which these bytes were taken, and which has this rest. By the setup that its first line is the lines after it were
+-- replayed; or that line is none, and nothing was printed.
+pub record ReplaysFile (taken rest : List ℕ) (before after : Told) (ended : Ended) : Type 0 where
+  pub by_setup : (setup : Setup) → setup_in (first_of (lines_of (taken ++ rest))) ≡ Some setup
+      → Replayed setup (after_first (whole_lines taken)) (after_first (lines_of (taken ++ rest))) before after ended
+  pub without : setup_in (first_of (lines_of (taken ++ rest))) ≡ None → EndsWithoutSetup ended taken × (after ≡ before)

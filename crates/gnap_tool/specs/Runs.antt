@@ -1,90 +1,77 @@
--- What the words of a command line mean, and how a run of them ends.
-use Rattle.std.specs.Prelude.{◌≡◌, ◌≢◌, ◌⊎◌, ℕ, List, [], ◌∷◌, ◌++◌, Bool, false, not, ◌&&◌, ◌==◌, codes, Option, Some, None, option_map, if◌then◌else◌}
-use Rattle.std.specs.Str.{bytes_eq}
-use Rattle.gnap_io.specs.Outside.{Told, Rose}
+-- How a run of a command ends, and what it did.
+use Rattle.std.specs.Prelude.{◌≡◌, ◌≢◌, ◌⊎◌, ℕ, List, [], ◌∷◌, ◌++◌, Any, All, length, drop, slice_get, Option, Some, None, IsSome}
+use Rattle.std.specs.Io.BufRead.{strip_last}
+use Rattle.gnap_io.specs.Outside.{Told, Served, Leaves, IsRest, Rose}
+use Rattle.gnap_io.specs.declared.world.Opening.{Opening}
 use Rattle.gnap_io.specs.Worlds.{WorldState}
-use Rattle.gnap_io.specs.declared.world.Opening.TheVariants.{File}
-use Rattle.gnap_model.specs.declared.objects.Setup.{Setup}
-use Rattle.gnap_tool.specs.declared.commands.Task.{Task}
-use Rattle.gnap_tool.specs.declared.commands.Task.TheVariants.{Replay, Field}
+use Rattle.gnap_io.specs.Openings.{Gives, GivesBack, gears_in, new_files}
+use Rattle.gnap_tool.specs.declared.command.Command.{Command}
+use Rattle.gnap_tool.specs.declared.command.Command.TheVariants.{Replay, Field}
 use Rattle.gnap_tool.specs.declared.ended.Ended.{Ended}
-use Rattle.gnap_tool.specs.declared.ended.Ended.TheVariants.{Done, NoSetup, NotInGrammar, TooLong}
-use Rattle.gnap_tool.specs.declared.fields.Kind.{Kind}
-use Rattle.gnap_tool.specs.declared.fields.Kind.TheVariants.{Item, List as AList, Dictionary}
+use Rattle.gnap_tool.specs.declared.ended.Ended.TheVariants.{Done, Failed, Memory, NotInGrammar}
 use Rattle.gnap_tool.specs.Ends.{status_of, Took}
 use Rattle.gnap_tool.specs.Fields.{PrintsField}
-use Rattle.gnap_tool.specs.Replays.{Replayed, EndsWithoutSetup}
+use Rattle.gnap_tool.specs.Replays.{ReplaysFile}
 
--- a word that may be an argument: it isn't empty, and doesn't begin with `-`
-abbrev pub is_argument : List ℕ → Bool
-is_argument [] = false
-is_argument (byte ∷ bytes) = not (byte == 45)
+-- A file was to be opened. It wasn't, and that is all; or the world has it back. Then its text, where that was known, is what was taken of it and
+-- what is left, and P holds of what was taken and of each rest that may be left.
+abbrev pub Over : Option (List ℕ) → WorldState → WorldState → Type 0 → (List ℕ → List ℕ → Type 0) → Type 0
+Over text before after Unopened P =
+    ((after.files ≡ before.files) × Unopened)
+    ⊎ ((file : Served) × (after.files ≡ before.files ++ file ∷ []) × Leaves file.told.taken text file.told.left
+    × ((rest : List ℕ) → IsRest file.told rest → P file.told.taken rest))
 
--- the kind of field that a word names
-abbrev pub kind_of : List ℕ → Option Kind
-kind_of word =
-    if bytes_eq word (codes "item") then Some Item
-    else if bytes_eq word (codes "list") then Some AList
-    else if bytes_eq word (codes "dictionary") then Some Dictionary
-    else None
+-- without its file a command prints nothing, and ends by a fault or for want of memory
+abbrev pub Unopened : Told → Told → Ended → Type 0
+Unopened before after ended = (after ≡ before) × ((ended ≡ Failed) ⊎ (ended ≡ Memory))
 
--- What the words say to do, and the name of the file to do it with. They are `replay` and a name, or `field`, a kind and a name.
-abbrev pub command_of : List (List ℕ) → Option (Task × List ℕ)
-command_of (command ∷ name ∷ []) =
-    if bytes_eq command (codes "replay") && is_argument name then Some (Replay, name) else None
-command_of (command ∷ kind ∷ name ∷ []) =
-    if bytes_eq command (codes "field") && is_argument name then option_map (λ k. (Field k, name)) (kind_of kind) else None
-command_of _ = None
+-- What a command says to the text of its file, of which these bytes were taken, and which has this rest.
+abbrev pub Answers : Command → List ℕ → List ℕ → Told → Told → Ended → Type 0
+Answers (Replay file) taken rest out out_now ended = ReplaysFile taken rest out out_now ended
+Answers (Field kind file) taken rest out out_now ended = PrintsField kind (strip_last 10 (taken ++ rest)) out out_now ended
 
--- the name of the file
-abbrev pub file_of : List (List ℕ) → Option (List ℕ)
-file_of words = option_map (λ c. c.1) (command_of words)
+-- What a command carries out.
+abbrev pub CarriesOut : Command → (List ℕ → Option (List ℕ)) → WorldState → WorldState → Told → Told → Ended → Type 0
+CarriesOut (Replay file) text before after out out_now ended =
+    Over (text file) before after (Unopened out out_now ended) (λ taken rest. Answers (Replay file) taken rest out out_now ended)
+CarriesOut (Field kind file) text before after out out_now ended =
+    Over (text file) before after (Unopened out out_now ended) (λ taken rest. Answers (Field kind file) taken rest out out_now ended)
 
--- No field ends for want of a setup, and no replay because a text isn't in the grammar.
-abbrev pub MayEnd : Task → Ended → Type 0
-MayEnd Replay ended = ended ≢ NotInGrammar
-MayEnd (Field kind) ended = ended ≢ NoSetup
-
--- the status of a task that ended as it may
-pub record HasStatus (task : Task) (status : ℕ) : Type 0 where
+-- the same, of the status that says how it ended
+pub record Carries (command : Command) (text : List ℕ → Option (List ℕ)) (before after : WorldState) (out out_now : Told) (status : ℕ) : Type 0 where
   pub ended : Ended
   pub status_is : status ≡ status_of ended
-  pub may : MayEnd task ended
+  pub carried : CarriesOut command text before after out out_now ended
 
--- The file with this setup and these further lines was replayed, and the status says how that ended.
-pub record RunsReplay (setup : Setup) (lines : List (List ℕ)) (before after : Option Told) (status : ℕ) : Type 0 where
-  pub ended : Ended
-  pub status_is : status ≡ status_of ended
-  pub replayed : Replayed setup lines before after ended
+-- what was opened, in order
+abbrev pub new_openings : WorldState → WorldState → List Opening
+new_openings before after = drop (length before.opened) after.opened
 
--- The file has no setup: nothing was printed, and the status isn't that of a replay that was carried out.
-pub record RunsWithoutSetup (before after : Option Told) (status : ℕ) : Type 0 where
-  pub ended : Ended
-  pub status_is : status ≡ status_of ended
-  pub ends : EndsWithoutSetup ended
-  pub nothing : after ≡ before
+-- A failed opening, read or accept was counted: by the world, or by a file or gears that it handed out and has taken back.
+abbrev pub HasFailed : WorldState → WorldState → Type 0
+HasFailed before after = Rose before.faults after.faults
+    ⊎ Any (λ file. file.faults ≢ 0) (new_files before after)
+    ⊎ (IsSome (gears_in (new_openings before after)) × Any (λ gear. gear.faults ≢ 0) after.gears)
 
--- The answer to the text of a field was printed, and the status says how that ended.
-pub record RunsField (kind : Kind) (text : List ℕ) (before after : Option Told) (status : ℕ) : Type 0 where
-  pub ended : Ended
-  pub status_is : status ≡ status_of ended
-  pub prints : PrintsField kind text before after ended
+-- No opening, read or accept failed.
+pub record NothingFailed (before after : WorldState) : Type 0 where
+  pub world : after.faults ≡ before.faults
+  pub files : All (λ file. file.faults ≡ 0) (new_files before after)
+  pub doors : IsSome (gears_in (new_openings before after)) → All (λ gear. gear.faults ≡ 0) after.gears
 
--- The world handed nothing out, or the one file, which it has taken back.
-abbrev pub GivesBack : {Handle : Type 0} → List ℕ → WorldState Handle → WorldState Handle → Type 0
-GivesBack {Handle} name before after =
-    ((after.opened ≡ before.opened) × (after.files ≡ before.files))
-    ⊎ ((after.opened ≡ before.opened ++ File name ∷ []) × ((file : Handle) × (after.files ≡ before.files ++ file ∷ [])))
+-- so much was taken of the input, which is the file at this place among those that were opened, where it was opened
+abbrev pub InputTook : Ended → Option ℕ → WorldState → WorldState → Type 0
+InputTook ended input before after = (place : ℕ) → input ≡ Some place
+    → (file : Served) → slice_get (new_files before after) place ≡ Some file → Took ended file.told
 
--- a failed read or opening was counted: by the world, or by the file that it has taken back
-abbrev pub HasReadFault : {Handle : Type 0} → (Handle → ℕ) → WorldState Handle → WorldState Handle → Type 0
-HasReadFault {Handle} faults before after =
-    Rose before.faults after.faults ⊎ ((file : Handle) × (after.files ≡ before.files ++ file ∷ []) × (faults file ≢ 0))
+-- the command was carried out, and its input read to the end
+abbrev pub IsCarriedOut : Ended → Type 0
+IsCarriedOut ended = (ended ≡ Done) ⊎ (ended ≡ NotInGrammar)
 
--- the file that was taken back had as many bytes read as may be, without its end
-abbrev pub HasReadAll : {Handle : Type 0} → (Handle → Option Told) → WorldState Handle → WorldState Handle → Type 0
-HasReadAll {Handle} told before after = (file : Handle) × (after.files ≡ before.files ++ file ∷ []) × Took TooLong (told file)
-
--- the file that was taken back had fewer bytes read than that
-abbrev pub HasReadFewer : {Handle : Type 0} → (Handle → Option Told) → WorldState Handle → WorldState Handle → Type 0
-HasReadFewer {Handle} told before after = (file : Handle) × (after.files ≡ before.files ++ file ∷ []) × Took Done (told file)
+-- What a command that ended so did to the world.
+pub record UsesWorld (openings : List Opening) (input : Option ℕ) (before after : WorldState) (ended : Ended) : Type 0 where
+  pub given_back : GivesBack openings before after
+  pub all : IsCarriedOut ended → Gives openings before after
+  pub failed : ended ≡ Failed → HasFailed before after
+  pub sound : ended ≢ Failed → NothingFailed before after
+  pub took : InputTook ended input before after

@@ -35,7 +35,7 @@ fn world(alloc: Global, text: Bytes, bad_reads: &[u64]) -> Result<MemWorld, Mem>
         Bytes::from_slice(alloc, b"f")?,
         MemSource::new(text, Vec::from_slice(alloc, bad_reads)?),
     ))?;
-    Ok(MemWorld::new(files, Vec::new(alloc)))
+    Ok(MemWorld::new(files, Vec::new(alloc), Vec::new(alloc), Vec::new(alloc)))
 }
 
 fn words(alloc: Global, parts: &[&str]) -> Result<Vec<String>, Mem> {
@@ -58,7 +58,8 @@ fn ran(
     let mut world = world(alloc, text, bad_reads)?;
     let words = words(alloc, parts)?;
     let mut out = MemSink::new(alloc, 32_768, Vec::from_slice(alloc, bad_writes)?)?;
-    let status = run(alloc, words.as_slice(), &mut world, &mut out);
+    let mut err = MemSink::new(alloc, 1_024, Vec::new(alloc))?;
+    let status = run(alloc, words.as_slice(), &mut world, &mut out, &mut err);
     Ok(if out.written() == printed {
         Some(status)
     } else {
@@ -333,7 +334,8 @@ fn narrow(
     let mut out = ByteSink {
         sink: MemSink::new(alloc, 4096, Vec::from_slice(alloc, bad_writes)?)?,
     };
-    let status = run(alloc, words.as_slice(), &mut world, &mut out);
+    let mut err = MemSink::new(alloc, 1_024, Vec::new(alloc))?;
+    let status = run(alloc, words.as_slice(), &mut world, &mut out, &mut err);
     Ok((status, out.sink.written().len()))
 }
 
@@ -496,4 +498,52 @@ fn words_are_commands_or_not(rt: HostRuntime) {
     for words in others {
         assert!(rt; status(alloc, words) == Ok(Some(2)));
     }
+}
+
+// What a person is told where the command isn't carried out.
+fn told(alloc: Global, parts: &[&str], text: &str, told: &str) -> Result<bool, Mem> {
+    let mut world = world(alloc, Bytes::from_slice(alloc, text.as_bytes())?, &[])?;
+    let words = words(alloc, parts)?;
+    let mut out = MemSink::new(alloc, 1_024, Vec::new(alloc))?;
+    let mut err = MemSink::new(alloc, 1_024, Vec::new(alloc))?;
+    run(alloc, words.as_slice(), &mut world, &mut out, &mut err);
+    Ok(err.written() == told.as_bytes())
+}
+
+#[test]
+fn causes_are_told(rt: HostRuntime) {
+    let cases = [
+        (
+            "replay",
+            "f",
+            "{}",
+            "gnap: the first line of f is no setup: member `base` is missing\n",
+        ),
+        (
+            "replay",
+            "f",
+            r#"{"base":"https://a","front":"https://b","keys":[{"id":"f1","role":"front","secret":"x"}]}"#,
+            "gnap: the first line of f is no setup: member `secret` isn't of its form in the key at place 0 of `keys`, counted from 0\n",
+        ),
+        (
+            "replay",
+            "f",
+            "[",
+            "gnap: the first line of f is no setup: it isn't one JSON object with whole numbers\n",
+        ),
+        ("replay", "g", "", "gnap: g can't be opened or read\n"),
+    ];
+    for (command, file, text, hint) in cases {
+        assert_eq!(rt;
+            told(rt.alloc(), &[command, file], text, hint),
+            Ok(true),
+            "{text}"
+        );
+    }
+    let hint = "gnap: f isn't a valid field\n";
+    assert_eq!(rt;
+        told(rt.alloc(), &["field", "item", "f"], "1.", hint),
+        Ok(true),
+        "field"
+    );
 }

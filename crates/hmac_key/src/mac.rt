@@ -1,5 +1,5 @@
 //! HMAC-SHA-256 (RFC 2104, section 2).
-ghost use Rattle.std.specs.Prelude.{◌≡◌, ◌↔◌, IsTrue};
+ghost use Rattle.std.specs.Prelude.{◌≡◌, ◌↔◌, length, IsTrue};
 ghost use Rattle.hmac_key.specs.Hmac.{block_key, xor_each, hmac_sha256};
 
 use sha2::{Digest, Sha256};
@@ -47,9 +47,21 @@ pub fn hmac(key: &[u8], message: &[u8]) -> [u8; 32]
     outer.finalize()
 }
 
-/// Whether two lists of bytes are equal. Takes no memory. That it takes the same time wherever they differ isn't claimed.
+// The XORs of the bytes at each place, or-ed together.
+fn differences(a: &[u8], b: &[u8]) -> u8
+    requires { length a.now ≡ length b.now }
+    ensures { (result ≡ 0) ↔ (a.now ≡ b.now) }
+{
+    let mut seen = 0;
+    for (i, x) in a.iter().enumerate() {
+        seen |= x ^ b[i];
+    }
+    seen
+}
+
+/// Whether two lists of bytes are equal. Lists of one length are gone through to the end, whatever is found on the way. Takes no memory.
 pub fn same(a: &[u8], b: &[u8]) -> bool
     ensures { IsTrue result ↔ (a.now ≡ b.now) }
 {
-    a == b
+    a.len() == b.len() && differences(a, b) == 0
 }

@@ -4,15 +4,18 @@ ghost use Rattle.histories.specs.History.{last_moment};
 ghost use Rattle.shared_server.specs.Rule.{number_of, drawn, on, HasTurn};
 ghost use Rattle.shared_server.specs.Seats.{IsTable, IsSame, CanDraw, CanLook, CanHand, Added, AddedReply};
 
-use crate::rule::{Draw, EntryOf, Hand, Look, SeatOf, Told, Top};
+use crate::rule::{Draw, EntryOf, Hand, Look, Mark, SeatOf, Told, Top};
 use gnap_io::memory::Mem;
 use histories::machine::{Core, Machine};
 use std::hint::spin_loop;
 use std::marker::Brand;
 use std::sync::Wait;
 
-/// How often who is next looks before it sleeps.
+/// How often who is near its turn looks before it sleeps.
 const LOOKS: u32 = 100;
+
+/// How many turns before its own a worker is woken, so that it looks already when its turn comes.
+const AHEAD: u64 = 1;
 
 // Draws a ticket.
 fn take_ticket<C: Core>(top: &Top<C>, seat: &mut SeatOf<C>) -> u64
@@ -37,29 +40,72 @@ fn wait_for_turn<C: Core, R: Wait>(rt: &R, top: &Top<C>, seat: &mut SeatOf<C>, t
         if serving == ticket {
             return;
         }
-        if looks < LOOKS && serving.wrapping_add(1) == ticket {
+        if looks < LOOKS && ticket.wrapping_sub(serving) <= AHEAD {
             looks += 1;
             spin_loop();
         } else {
-            sleep(rt, top, serving);
+            sleep(rt, top, seat, ticket);
+            looks = 0;
         }
     }
     unreachable!()
 }
 
-// Sleeps until another ticket is served, or for no reason. At most 64 tickets are out, so 32 bits tell that one of them was served.
-fn sleep<C: Core, R: Wait>(rt: &R, top: &Top<C>, serving: u64)
-    requires { 1 < top.now.table_id.words }
+// The word that who has the ticket sleeps on. No two of the tickets that are out have one word, since at most 64 are out.
+fn word_of(ticket: u64) -> usize
+    ensures behind { 1 < result }
+    ensures within { result < 66 }
 {
-    top.park(rt, 1, (serving % (1 << 32)) as u32);
+    2 + (ticket % 64) as usize
 }
 
-// Wakes those who sleep, where a ticket after this one was drawn. Who draws one later finds it served.
-fn wake_next<C: Core>(top: &Top<C>, ticket: u64)
-    requires { 1 < top.now.table_id.words }
+// Writes whether somebody sleeps on a word, and answers what stood there.
+fn mark<C: Core>(top: &Top<C>, seat: &mut SeatOf<C>, word: usize, sleeps: u64) -> u64
+    requires table { IsTable top.now.table_id seat.old.table_id }
+    requires word { (1 < word) × (word < 66) }
+    ensures seat { IsSame seat.old seat.new }
+    ensures stays { seat.new.me ≡ seat.old.me }
 {
-    if top.peek(0) != ticket.wrapping_add(1) {
-        top.wake_all(1);
+    top.swap::<Mark>(seat, word, sleeps)
+}
+
+// Sleeps until the ticket is served, or for no reason. Who serves it between the mark and the sleep takes the mark away first.
+fn sleep<C: Core, R: Wait>(rt: &R, top: &Top<C>, seat: &mut SeatOf<C>, ticket: u64)
+    requires table { IsTable top.now.table_id seat.old.table_id }
+    ensures seat { IsSame seat.old seat.new }
+    ensures stays { seat.new.me ≡ seat.old.me }
+{
+    let word = word_of(ticket);
+    mark(top, seat, word, 1);
+    if top.peek(1) != ticket {
+        top.park(rt, word, 1);
+    }
+}
+
+// Wakes who has a ticket, where it sleeps.
+fn wake<C: Core>(top: &Top<C>, seat: &mut SeatOf<C>, ticket: u64)
+    requires table { IsTable top.now.table_id seat.old.table_id }
+    ensures seat { IsSame seat.old seat.new }
+    ensures stays { seat.new.me ≡ seat.old.me }
+{
+    let word = word_of(ticket);
+    if mark(top, seat, word, 0) == 1 {
+        top.wake_one(word);
+    }
+}
+
+// Wakes who has the next ticket, and who is now near its turn. Who draws the next ticket later finds it served.
+fn wake_next<C: Core>(top: &Top<C>, seat: &mut SeatOf<C>, ticket: u64)
+    requires table { IsTable top.now.table_id seat.old.table_id }
+    ensures seat { IsSame seat.old seat.new }
+    ensures stays { seat.new.me ≡ seat.old.me }
+{
+    let out = top.peek(0).wrapping_sub(ticket);
+    if 1 < out {
+        wake(top, seat, ticket.wrapping_add(1));
+    }
+    if 1 + AHEAD < out {
+        wake(top, seat, ticket.wrapping_add(1 + AHEAD));
     }
 }
 
@@ -107,6 +153,6 @@ pub(crate) fn call_once<C: Core, R: Wait>(
     let left = top.exchange(seat, 0, Some(core));
     let None = left else { unreachable!() };
     hand_on::<C, Brand>(top, seat, moment, draw, call, &reply);
-    wake_next(top, ticket);
+    wake_next(top, seat, ticket);
     reply
 }

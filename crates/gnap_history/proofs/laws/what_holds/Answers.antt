@@ -21,6 +21,11 @@ returns c = λ rules h legal few.
       have_causes = λ before e after code is error.
           let L : List GnapEntry → Type 0 = λ x. Legal grant_law rules x in
           c.refusals_have_causes.ensures rules before e after code (subst L is weaker) error;
+      within_limits = λ moment later. c.limits_hold.ensures rules h moment weaker later;
+      few_wrong = λ moment grant round pending. c.wrong_references_are_few.ensures rules h moment grant round weaker pending;
+      codes_are_free = λ before e after round code is pended drawn.
+          let L : List GnapEntry → Type 0 = λ x. Legal grant_law rules x in
+          c.drawn_codes_are_free.ensures rules before e after round code (subst L is weaker) pended drawn;
       values_differ = c.drawn_values_differ.ensures rules h weaker few;
       values_once = λ value. c.doors_open_once.ensures rules h value weaker few;
       replies_fit = λ before e after is. replies_fit rules h before e after legal is;

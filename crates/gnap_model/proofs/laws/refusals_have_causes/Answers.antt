@@ -6,7 +6,9 @@ use Rattle.gnap_model.specs.Answer.{action_of, supply_of}
 use Rattle.gnap_model.specs.Legal.{grant_law}
 use Rattle.gnap_model.proofs.NewestFirst.{legal_past, trail-back}
 use Rattle.gnap_model.proofs.Opened.{HaveOrigins, past_origins}
-use Rattle.gnap_model.proofs.Refusals.{explained, error_cause}
+use Rattle.gnap_model.proofs.Refusals.{KeepsLimits, explained, error_cause}
+use Rattle.gnap_model.proofs.WithinLimits.{step_within}
+use Rattle.gnap_model.proofs.WrongReferences.{history_few}
 use Rattle.gnap_model.proofs.laws.refusals_have_causes.Goals as goal
 
 pub returns : goal.returns
@@ -16,5 +18,10 @@ returns c = λ rules before entry after code legal refused.
     let follows : Follows grant_law rules before entry = legal before entry after refl in
     let origins : HaveOrigins trail = subst HaveOrigins (trail-back before)
     (past_origins rules (reverse before) (legal_past rules before (legal-front grant_law rules before (entry ∷ after) legal))) in
+    let legal_before = legal-front grant_law rules before (entry ∷ after) legal in
+    let limits : KeepsLimits trail (now before entry.moment) = record {
+      grants = (step_within rules before entry.moment legal_before).grants;
+      wrongs = λ grant round pending. history_few rules before grant (now before entry.moment) round legal_before pending;
+    } in
     error_cause rules trail (now before entry.moment) entry.call supply (action_of rules supply trail entry.call) code
-    (explained rules supply trail entry.call origins) (sym follows.reply ∙ refused)
+    (explained rules supply trail entry.call origins limits) (sym follows.reply ∙ refused)

@@ -5,20 +5,20 @@ use Rattle.gnap_model.specs.declared.calls.Call.TheVariants.{Lapse}
 use Rattle.gnap_history.specs.Gnap.{GnapEntry, gnap}
 use Rattle.gnap_history.proofs.FitsThrough.{entered_fits}
 use Rattle.gnap_tool.specs.CallLines.{line_step}
-use Rattle.gnap_tool.specs.Replies.{reply_line}
-use Rattle.gnap_tool.specs.Replays.{direct, called, starved, lapsed, unsaid}
+use Rattle.gnap_tool.specs.ReplyLines.{reply_line}
+use Rattle.histories.specs.Turns.{direct, called, starved, lapsed, unsaid}
 use Rattle.gnap_tool.specs.Replaying.{Prints}
 use Rattle.gnap_tool.proofs.LineTurns.{goes_on, without_entry, with_entry, with_lapse}
 use Rattle.gnap_tool.proofs.answering.answer_line.Goals as goal
 
 pub returns-in-Err-clause-turn : goal.returns-in-Err-clause-turn
 returns-in-Err-clause-turn g c h full seen same =
-    without_entry _ _ full _ h _ _ _ 0 [] false refl (refl, refl) seen (starved full)
+    without_entry _ _ full _ h _ _ _ 0 [] false refl (refl, refl) seen (starved full 0)
 
 pub returns-in-Ok-Say-clause-turn : goal.returns-in-Ok-Say-clause-turn
 returns-in-Ok-Say-clause-turn g c h full seen same =
     let said = same ∙ ap (line_step c.args.setup.now) (sym c.as_slice.ensures.value) ∙ sym c.in-Ok-Say.ensures.step ∙ c.in-Ok-Say.field-0-is in
-    without_entry _ _ full _ h _ _ _ 0 c.in-Ok-Say.text true (goes_on _ c.say.ensures.fed) c.say.ensures.prints seen (direct full c.in-Ok-Say.text said)
+    without_entry _ _ full _ h _ _ _ 0 c.in-Ok-Say.text true (goes_on _ c.say.ensures.fed) c.say.ensures.prints seen (direct full 0 c.in-Ok-Say.text said)
 
 pub returns-in-Err-submit-clause-turn : goal.returns-in-Err-submit-clause-turn
 returns-in-Err-submit-clause-turn g c h full seen same =

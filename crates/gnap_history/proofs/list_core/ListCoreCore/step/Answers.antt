@@ -10,15 +10,15 @@ pub returns-clause-ok : goal.returns-clause-ok
 returns-clause-ok c =
     let s = c.args.self.now in
     let at : c.max-self.result ≡ max s.latest c.args.moment = search rules in
-    IfOk-weaker c.answer_call.result _ _
-    (λ reply both h stands. answers-by_notes gnap_answer GnapFits Lapse s.rules s.notes s.latest h c.args.moment c.args.draw.now c.args.call.now reply c.answer_call.new.notes c.max-self.result
+    IfOk-weaker c.enter_call.result _ _
+    (λ reply both h stands. answers-by_notes gnap_answer GnapFits Lapse s.rules s.notes s.latest h c.args.moment c.args.draw.now c.args.call.now reply c.enter_call.new.notes c.max-self.result
     stands c.requires.fits c.requires.in_time at (rw (sym at) both.0) (rw (sym at) both.1))
-    c.answer_call.ensures.ok
+    c.enter_call.ensures.ok
 
 pub returns-clause-err : goal.returns-clause-err
 returns-clause-err c =
     let s = c.args.self.now in
     let at : c.max-self.result ≡ max s.latest c.args.moment = search rules in
-    on_err_weaker c.answer_call.result
+    on_err_weaker c.enter_call.result
     (λ same h stands. rw same (lapses-by_notes gnap_answer GnapFits Lapse s.rules s.notes s.latest h c.args.moment c.args.draw.now c.max-self.result stands (tt, tt, tt) c.requires.in_time at refl))
-    c.answer_call.ensures.err
+    c.enter_call.ensures.err

@@ -1,7 +1,0 @@
-use Rattle.std.proofs.Common.{◌≡◌, map}
-use Rattle.serde_json.specs.View.{members_view}
-use Rattle.access_rights.specs.Json.{has_only}
-use Rattle.access_rights.proofs.json_parts.has_only.Given as goal
-
-abbrev pub invariant-loop-key : goal.invariant-loop-key
-invariant-loop-key l = has_only (map (λ n. n.now) l.names) (members_view l.key-iterator) ≡ has_only (map (λ n. n.now) l.names) (members_view l.members.entries)

@@ -1,0 +1,11 @@
+use Rattle.histories.specs.Turns.{IsTurn}
+use Rattle.histories.proofs.LogLemmas.{serves-so}
+use Rattle.adding_machine.specs.Adding.{adding}
+use Rattle.serving.specs.Connections.{Session}
+use Rattle.adding_edge.specs.Bytewise.{byte_wire, byte_face, IsByteSession}
+use Rattle.adding_edge.proofs.bytewise.BytewiseFront.serve.Goals as goal
+
+pub returns-clause-serves : goal.returns-clause-serves
+returns-clause-serves g c h seen =
+    serves-so (λ conn turns. Session byte_wire (IsTurn adding byte_face c.args.self.now.start) conn turns c.serve_connection.result) (IsByteSession c.args.self.now.start)
+    (λ conn turns is. (c.serve_connection.result, is)) _ _ h _ _ _ (c.serve_connection.ensures.session h seen)

@@ -1,0 +1,85 @@
+//! What the entry of a call draws on, and what comes of the call.
+ghost use Rattle.std.specs.Prelude.{◌≡◌, ◌≤◌, ◌<◌, ◌+◌, []};
+ghost use Rattle.histories.specs.History.{last_moment};
+ghost use Rattle.gnap_model.specs.declared.notes.Note.TheVariants.{Door};
+ghost use Rattle.gnap_model.specs.declared.calls.Reply.TheVariants.{Error};
+
+use crate::note_list::NoteList;
+use crate::values::value_text;
+use gnap_io::seq::Seq;
+use gnap_model::calls::Reply;
+use gnap_model::notes::{Note, OpeningNote};
+use gnap_model::objects::ErrorCode;
+use std::alloc::Global;
+
+/// A continuation value may be used for a poll after so many seconds.
+pub const WAIT: u64 = 5;
+
+/// What an entry draws on: the notes so far, the greatest moment, and its random words.
+#[derive(Clone, Copy)]
+pub struct Drawing<'a> {
+    /// The notes of the entries before.
+    pub notes: &'a NoteList,
+    /// The greatest moment so far.
+    pub moment: u64,
+    /// The words of the entry.
+    pub words: &'a [u64; 48],
+    pub ghost in_time: { moment ≤ last_moment },
+}
+
+impl<'a> Drawing<'a> {
+    ghost use Rattle.gnap_model.specs.Actions.{drawn_value};
+    ghost use Rattle.gnap_history.specs.Drawings.{supply};
+
+    /// The value with this index among those of the entry, counted from 0. Its serial is so many after the entry's first one, and two of the
+    /// words belong to it.
+    pub fn value(&self, index: usize) -> [u8; 32]
+        requires { index < 24 }
+        ensures { result ≡ drawn_value (supply self.now) index }
+    {
+        value_text(
+            self.notes.first_serial() + index as u64,
+            self.words[2 * index],
+            self.words[2 * index + 1],
+        )
+    }
+
+    /// The note that the grant has a new continuation value (RFC 9635, section 3.1).
+    pub fn door(&self, opening: &OpeningNote, value: [u8; 32]) -> Note
+        ensures { result ≡ Door opening.now.grant value (self.now.moment + WAIT) }
+    {
+        Note::Door {
+            grant: opening.grant,
+            value,
+            earliest: self.moment + WAIT,
+        }
+    }
+}
+
+/// What comes of a call: its reply, and the notes that its entry leaves.
+#[derive(Drop)]
+pub struct Answered {
+    /// The reply.
+    pub reply: Reply,
+    /// The notes.
+    pub notes: Seq<Note>,
+}
+
+/// A reply without notes.
+pub fn silent(alloc: Global, reply: Reply) -> Answered
+    ensures reply { result.reply ≡ reply }
+    ensures notes { result.notes ≡ [] }
+{
+    Answered {
+        reply,
+        notes: Seq::new(alloc),
+    }
+}
+
+/// An error reply that changes nothing (RFC 9635, section 3.6).
+pub fn refuse(alloc: Global, code: ErrorCode) -> Answered
+    ensures reply { result.reply ≡ Error code }
+    ensures notes { result.notes ≡ [] }
+{
+    silent(alloc, Reply::Error { code })
+}

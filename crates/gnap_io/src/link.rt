@@ -1,0 +1,23 @@
+//! What requests are sent through.
+ghost use Rattle.gnap_io.specs.Links.{LinkState, Exchanges};
+
+use crate::bytes::Bytes;
+
+/// Why no reply came.
+#[derive(Clone, Copy, Debug, PartialEq, Eq)]
+pub enum LinkFault {
+    /// The link failed: its count of faults rose.
+    Failed,
+    /// Memory ran out, and nothing was sent.
+    OutOfMemory,
+}
+
+/// Sends requests, and gives their replies.
+pub trait Link: Drop {
+    /// Its faults, and its exchanges.
+    ghost link: { Self → LinkState };
+
+    /// Sends one request and gives the bytes of its reply.
+    fn exchange(&mut self, request: &[u8]) -> Result<Bytes, LinkFault>
+        ensures { Exchanges request.now (link self.old) (link self.new) result };
+}

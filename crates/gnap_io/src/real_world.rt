@@ -1,0 +1,206 @@
+//! The system as a world. It tells by lists that take no memory what it took back, and that which it took back it lets go: files and listeners
+//! are closed. What the system gives is trusted; a fault of it is counted.
+ghost use Rattle.std.specs.Prelude.{◌≡◌, ◌≤◌, IfOk, vec_len, vec_capacity, map};
+ghost use Rattle.gnap_io.specs.Gears.{AreStarted};
+ghost use Rattle.gnap_io.specs.Worlds.{new_world, with_gears};
+
+use crate::adapters::Stream;
+use crate::bytes::Bytes;
+use crate::device::Device;
+use crate::gear::Counted;
+use crate::link::Link;
+use crate::memory::Duplicate;
+use crate::real_gear::RealGear;
+use crate::real_link::RealLink;
+use crate::world::{Opening, World, WorldFault};
+use http_server::Log;
+use std::alloc::Global;
+use std::fs;
+use std::net::{Net, TcpListener, TcpStream};
+use std::random::RandomSource;
+use std::rt::{Clock, Files};
+use std::sync::Arc;
+
+/// The files of the system, by their paths, gears that listen at an address, and links to one.
+#[derive(Drop)]
+pub struct RealWorld<
+    'a,
+    R: Files + Net<Listener = TcpListener, Stream = TcpStream> + Clock + RandomSource + Sync,
+> {
+    rt: &'a R,
+    alloc: Global,
+    faults: u64,
+    lent: usize,
+    files: Log<Stream<R::File>, ()>,
+    gears: Vec<RealGear<'a, R>>,
+    link: Option<RealLink<'a, R>>,
+    opened: Vec<Opening>,
+}
+
+impl<
+    'a,
+    R: Files + Net<Listener = TcpListener, Stream = TcpStream> + Clock + RandomSource + Sync,
+> RealWorld<'a, R> {
+    /// The system, of which nothing was opened yet.
+    pub fn new(rt: &'a R, alloc: Global) -> RealWorld<'a, R>
+        ensures { ⟦<RealWorld<'a, R> as World>⟧.state result ≡ new_world }
+    {
+        RealWorld {
+            rt,
+            alloc,
+            faults: 0,
+            lent: 0,
+            files: Log::new(),
+            gears: Vec::new(alloc),
+            link: None,
+            opened: Vec::new(alloc),
+        }
+    }
+}
+
+impl<
+    'a,
+    R: Files + Net<Listener = TcpListener, Stream = TcpStream> + Clock + RandomSource + Sync,
+> World for RealWorld<'a, R> {
+    ghost use Rattle.std.specs.Prelude.{map, None};
+    ghost use Rattle.std.specs.Option.{option_map};
+    ghost use Rattle.gnap_io.specs.Outside.{served_of};
+
+    type File = Stream<R::File>;
+
+    type Gear = RealGear<'a, R>;
+
+    type Link = RealLink<'a, R>;
+
+    ghost state = { λ world. record {
+      faults = world.faults;
+      lent = world.lent;
+      files = map (λ pair. served_of (⟦<Stream<R::File> as Device>⟧.told pair.0) (⟦<Stream<R::File> as Device>⟧.faults pair.0)) world.files.items;
+      gears = map ⟦<RealGear<'a, R> as Counted>⟧.state world.gears.items;
+      link = option_map ⟦<RealLink<'a, R> as Link>⟧.link world.link;
+      opened = world.opened.items;
+    } };
+
+    ghost text = { λ _ _. None };
+
+    fn open_file(&mut self, name: &Bytes) -> Result<Stream<R::File>, WorldFault> {
+        let Ok(path) = str::from_utf8(name.as_slice()) else {
+            self.faults = self.faults.saturating_add(1);
+            return Err(WorldFault::Failed);
+        };
+        let Ok(file) = fs::open(self.rt, path) else {
+            self.faults = self.faults.saturating_add(1);
+            return Err(WorldFault::Failed);
+        };
+        let Ok(name) = name.copy() else {
+            return Err(WorldFault::OutOfMemory);
+        };
+        if self.lent == usize::MAX || self.opened.push(Opening::File(name)).is_err() {
+            return Err(WorldFault::OutOfMemory);
+        }
+        self.lent += 1;
+        Ok(Stream::new(file))
+    }
+
+    fn close_file(&mut self, file: Stream<R::File>) {
+        self.files = self.files.and(&file, &());
+        self.lent -= 1;
+    }
+
+    fn start_gears(
+        &mut self,
+        address: &Bytes,
+        n: usize,
+        quota: u32,
+    ) -> Result<Vec<RealGear<'a, R>>, WorldFault> {
+        match started(self.rt, self.alloc, address, n, quota) {
+            Err(WorldFault::Failed) => {
+                self.faults = self.faults.saturating_add(1);
+                Err(WorldFault::Failed)
+            }
+            Err(WorldFault::OutOfMemory) => Err(WorldFault::OutOfMemory),
+            Ok(gears) => {
+                let Ok(name) = address.copy() else {
+                    return Err(WorldFault::OutOfMemory);
+                };
+                if self.opened.push(Opening::Gears(name, n, quota)).is_err() {
+                    return Err(WorldFault::OutOfMemory);
+                }
+                Ok(gears)
+            }
+        }
+    }
+
+    fn stop_gears(&mut self, gears: Vec<RealGear<'a, R>>)
+        ensures text { ⟦<RealWorld<'a, R> as World>⟧.text self.new ≡ ⟦<RealWorld<'a, R> as World>⟧.text self.old }
+        ensures state { ⟦<RealWorld<'a, R> as World>⟧.state self.new
+            ≡ with_gears (map ⟦<RealGear<'a, R> as Counted>⟧.state gears.entry.items) (⟦<RealWorld<'a, R> as World>⟧.state self.old) }
+    {
+        self.gears = gears;
+    }
+
+    fn open_link(&mut self, address: &Bytes) -> Result<RealLink<'a, R>, WorldFault> {
+        let (Ok(name), Ok(kept)) = (address.copy(), address.copy()) else {
+            return Err(WorldFault::OutOfMemory);
+        };
+        if self.opened.push(Opening::Link(name)).is_err() {
+            return Err(WorldFault::OutOfMemory);
+        }
+        Ok(RealLink::new(self.rt, self.alloc, kept))
+    }
+
+    fn close_link(&mut self, link: RealLink<'a, R>) {
+        self.link = Some(link);
+    }
+}
+
+// So many gears that share one listener, each with the words of a stream of its own under one seed of the system's.
+fn started<'a, R: Net<Listener = TcpListener, Stream = TcpStream> + Clock + RandomSource>(
+    rt: &'a R,
+    alloc: Global,
+    address: &Bytes,
+    n: usize,
+    quota: u32,
+) -> Result<Vec<RealGear<'a, R>>, WorldFault>
+    ensures { IfOk result (λ gears. AreStarted ⟦<RealGear<'a, R> as Counted>⟧.state n quota gears.items) }
+{
+    let Ok(address) = str::from_utf8(address.as_slice()) else {
+        return Err(WorldFault::Failed);
+    };
+    // From `getentropy`, the system's generator, so no file such as /dev/urandom is opened.
+    let mut seed = [0u8; 32];
+    if rt.fill_bytes(&mut seed).is_err() {
+        return Err(WorldFault::Failed);
+    }
+    let Ok(room) = Vec::with_capacity(alloc, n) else {
+        return Err(WorldFault::OutOfMemory);
+    };
+    let Ok(listener) = TcpListener::bind(rt, address) else {
+        return Err(WorldFault::Failed);
+    };
+    let Ok(shared) = Arc::new(alloc, listener) else {
+        return Err(WorldFault::OutOfMemory);
+    };
+    fill_gears(rt, &shared, seed, n, quota, room)
+}
+
+fn fill_gears<'a, R: Clock>(
+    rt: &'a R,
+    shared: &Arc<TcpListener, Global>,
+    seed: [u8; 32],
+    n: usize,
+    quota: u32,
+    mut gears: Vec<RealGear<'a, R>>,
+) -> Result<Vec<RealGear<'a, R>>, WorldFault>
+    requires { (vec_len gears ≡ 0) × (n ≤ vec_capacity gears) }
+    ensures { IfOk result (λ gears. AreStarted ⟦<RealGear<'a, R> as Counted>⟧.state n quota gears.items) }
+{
+    while gears.len() < n {
+        let Ok(share) = Arc::try_clone(shared) else {
+            return Err(WorldFault::OutOfMemory);
+        };
+        let stream = gears.len() as u64;
+        gears.push_reserved(RealGear::new(rt, share, seed, stream, quota));
+    }
+    Ok(gears)
+}

@@ -1,0 +1,151 @@
+//! The calls that keys make, read from JSON.
+ghost use Rattle.std.specs.Prelude.{◌≡◌, IfOk, IsUtf8, option_map, false};
+ghost use Rattle.serde_json.specs.View.{view};
+ghost use Rattle.json_objects.specs.Bodies.{IsBody};
+ghost use Rattle.gnap_model.specs.Keys.{key_of};
+ghost use Rattle.gnap_objects.specs.Grants.{grant_body_of};
+ghost use Rattle.gnap_objects.specs.Introspections.{introspection_of};
+ghost use Rattle.gnap_objects.specs.CallReading.{is_caller, stranger, IsReadable, body_in, begin_by, introspect_by, call_of, IsTaken};
+
+use crate::fault::ObjectFault;
+use crate::grants::grant_body_of;
+use crate::introspections::read_introspect;
+use gnap_io::bytes::Bytes;
+use gnap_io::memory::Mem;
+use gnap_model::calls::Call;
+use gnap_model::objects::{ErrorCode, KeyRow, Role, Setup};
+use serde_json::Value;
+use std::alloc::Global;
+
+/// The calls that are built.
+#[derive(Clone, Copy, Debug, PartialEq, Eq)]
+pub enum CallKind {
+    /// A grant request of a client (RFC 9635, section 2).
+    Begin,
+    /// An introspection of a resource server (RFC 9767, section 3.3).
+    Introspect,
+}
+
+/// The body that a call comes with.
+#[derive(Clone, Copy)]
+pub enum BodyForm<'v> {
+    /// None, or an empty one.
+    Absent,
+    /// A JSON object.
+    Object(&'v Value),
+    /// Something else.
+    NotOfForm,
+}
+
+/// What a key asks for, as far as it can be read.
+#[derive(Drop)]
+pub enum CallOrRefusal {
+    /// A call for the machine.
+    Accepted(Call),
+    /// The machine isn't asked; this error is the answer.
+    Refused(ErrorCode),
+}
+
+fn is_caller(kind: CallKind, key: Option<&KeyRow>) -> bool
+    ensures { result ≡ is_caller kind (option_map (λ k. k.now) key.entry) }
+{
+    let Some(key) = key else {
+        return false;
+    };
+    match (kind, key.role) {
+        (CallKind::Begin, Role::Client) | (CallKind::Introspect, Role::Server) => true,
+        _ => false,
+    }
+}
+
+fn stranger(kind: CallKind) -> CallOrRefusal
+    ensures stranger { result ≡ stranger kind }
+    ensures taken { IsTaken result }
+{
+    match kind {
+        CallKind::Begin => CallOrRefusal::Refused(ErrorCode::InvalidClient),
+        CallKind::Introspect => CallOrRefusal::Refused(ErrorCode::InvalidResourceServer),
+    }
+}
+
+fn begin_by(alloc: Global, key: &[u8], body: &Value) -> Result<CallOrRefusal, Mem>
+    requires key { IsUtf8 key.now }
+    requires body { IsBody (view body.now) }
+    ensures call { IfOk result (λ c. c ≡ begin_by key.now (grant_body_of false (view body.now))) }
+    ensures taken { IfOk result IsTaken }
+{
+    let body = match grant_body_of(alloc, body, false) {
+        Ok(body) => body,
+        Err(ObjectFault::OutOfMemory) => return Err(Mem),
+        Err(_) => return Ok(CallOrRefusal::Refused(ErrorCode::InvalidRequest)),
+    };
+    let names_key = match &body.request.client {
+        Some(client) => client.as_slice() == key,
+        None => false,
+    };
+    if !names_key {
+        return Ok(stranger(CallKind::Begin));
+    }
+    if body.repeats_flag {
+        return Ok(CallOrRefusal::Refused(ErrorCode::InvalidFlag));
+    }
+    let key = Bytes::from_slice(alloc, key)?;
+    Ok(CallOrRefusal::Accepted(Call::Begin {
+        key,
+        request: body.request,
+        not_after: None,
+    }))
+}
+
+fn introspect_by(alloc: Global, key: &[u8], body: &Value) -> Result<CallOrRefusal, Mem>
+    requires key { IsUtf8 key.now }
+    requires body { IsBody (view body.now) }
+    ensures call { IfOk result (λ c. c ≡ introspect_by key.now (introspection_of (view body.now))) }
+    ensures taken { IfOk result IsTaken }
+{
+    let request = match read_introspect(alloc, body) {
+        Ok(request) => request,
+        Err(ObjectFault::OutOfMemory) => return Err(Mem),
+        Err(_) => return Ok(CallOrRefusal::Refused(ErrorCode::InvalidRequest)),
+    };
+    if request.server.as_slice() != key {
+        return Ok(stranger(CallKind::Introspect));
+    }
+    let server = Bytes::from_slice(alloc, key)?;
+    Ok(CallOrRefusal::Accepted(Call::Introspect {
+        server,
+        value: request.value,
+        binding: request.binding,
+        wanted: request.wanted,
+    }))
+}
+
+/// The call of this kind by the key with this id, with the value that it presents and its body; or the error that is the answer, the first that applies:
+/// `InvalidClient`, for an introspection `InvalidResourceServer`, where the setup has no such key, or one of another role than the call's;
+/// `InvalidRequest` where the body isn't of the call's form; `InvalidClient` or `InvalidResourceServer` where the body names another than the key as the
+/// one who calls; `InvalidFlag` where a flag stands twice in a token request; else the call.
+#[tactic(auto, unfolding(crate::specs::CallReading::call_of))]
+pub fn read_call(
+    alloc: Global,
+    setup: &Setup,
+    kind: CallKind,
+    key: &[u8],
+    value: &[u8],
+    body: BodyForm<'_>,
+) -> Result<CallOrRefusal, Mem>
+    requires key { IsUtf8 key.now }
+    requires body { IsReadable body }
+    ensures call { IfOk result (λ c. c ≡ call_of setup.now kind key.now value.now (body_in body.entry)) }
+    ensures taken { IfOk result IsTaken }
+{
+    if !is_caller(kind, setup.key(key)) {
+        return Ok(stranger(kind));
+    }
+    let BodyForm::Object(body) = body else {
+        return Ok(CallOrRefusal::Refused(ErrorCode::InvalidRequest));
+    };
+    match kind {
+        CallKind::Begin => begin_by(alloc, key, body),
+        CallKind::Introspect => introspect_by(alloc, key, body),
+    }
+}

@@ -1,0 +1,2 @@
+pub mod WholeReplies
+mod Examples

@@ -1,0 +1,31 @@
+-- What the authorization server says of itself (RFC 9635, section 9; RFC 9767, section 3.1).
+use Rattle.std.specs.Prelude.{ℕ, false, List, [], ◌∷◌, codes, Option, Some}
+use Rattle.serde_json.specs.Data.{Data, boolean, string}
+use Rattle.json_objects.specs.Objects.{object_of, texts_data}
+use Rattle.gnap_replies.specs.Endpoints.{grant_endpoint, introspection_endpoint}
+
+abbrev pub key_proofs : List (List ℕ)
+key_proofs = codes "httpsig" ∷ []
+
+-- to a client: no interaction, and no information on the user, is to be had
+abbrev pub client_discovery_fields : List ℕ → List (List ℕ × Option Data)
+client_discovery_fields base =
+    (codes "grant_request_endpoint", Some (string (grant_endpoint base))) ∷
+    (codes "interaction_finish_methods_supported", Some (texts_data [])) ∷
+    (codes "interaction_start_modes_supported", Some (texts_data [])) ∷
+    (codes "key_proofs_supported", Some (texts_data key_proofs)) ∷
+    (codes "key_rotation_supported", Some (boolean false)) ∷
+    (codes "sub_id_formats_supported", Some (texts_data [])) ∷ []
+
+unfoldable pub client_discovery : List ℕ → Data
+client_discovery base = object_of (client_discovery_fields base)
+
+-- to a resource server
+abbrev pub server_discovery_fields : List ℕ → List (List ℕ × Option Data)
+server_discovery_fields base =
+    (codes "grant_request_endpoint", Some (string (grant_endpoint base))) ∷
+    (codes "introspection_endpoint", Some (string (introspection_endpoint base))) ∷
+    (codes "key_proofs_supported", Some (texts_data key_proofs)) ∷ []
+
+unfoldable pub server_discovery : List ℕ → Data
+server_discovery base = object_of (server_discovery_fields base)

@@ -1,0 +1,175 @@
+//! The replies to the consent front as JSON.
+ghost use Rattle.std.specs.Prelude.{◌≡◌, IfOk, IsUtf8, option_map, map, Some, None, [], true};
+ghost use Rattle.std.specs.List.{AllByRecursion};
+ghost use Rattle.serde_json.specs.Data.{string};
+ghost use Rattle.serde_json.specs.View.{view};
+ghost use Rattle.json_objects.specs.Objects.{object_of};
+ghost use Rattle.json_objects.specs.Texts.{IsUtf8Or};
+ghost use Rattle.interaction.specs.Uris.{finish_uri};
+ghost use Rattle.gnap_objects.specs.Fits.{AskFits};
+ghost use Rattle.gnap_objects.specs.CallsFit.{EndingFits};
+ghost use Rattle.gnap_replies.specs.Interactions.{ask_data, shown_fields, handle_fields, hash_of, pushed_fields, redirected_fields, decided_fields};
+
+use crate::endpoints::joined;
+use crate::tokens::flags_value;
+use access_rights::printing::rights_value;
+use gnap_io::bytes::Bytes;
+use gnap_io::memory::Mem;
+use gnap_model::calls::FinishOut;
+use gnap_model::objects::Ask;
+use interaction::{UriFault, finish_uri, interaction_hash, push_body};
+use json_objects::{optional_value, put, text_value};
+use serde_json::{Map, Value};
+use std::alloc::Global;
+
+#[tactic(auto, unfolding(crate::specs::Interactions::ask_data))]
+fn ask_value(alloc: Global, ask: &Ask) -> Result<Value, Mem>
+    requires { AskFits ask.now }
+    ensures { IfOk result (λ v. view v ≡ ask_data ask.now) }
+{
+    let mut map = Map::new(alloc);
+    let label = optional_value(alloc, &ask.label)?;
+    put(&mut map, alloc, "label", label)?;
+    let flags = flags_value(alloc, ask.bearer)?;
+    put(&mut map, alloc, "flags", flags)?;
+    let access = rights_value(alloc, &ask.rights)?;
+    put(&mut map, alloc, "access", Some(access))?;
+    Ok(Value::Object(map))
+}
+
+fn each_ask(alloc: Global, asks: &[Ask]) -> Result<Vec<Value>, Mem>
+    requires { AllByRecursion AskFits asks.now }
+    ensures { IfOk result (λ items. map view items.items ≡ map ask_data asks.now) }
+{
+    let mut items = Vec::new(alloc);
+    for ask in asks {
+        items.push(ask_value(alloc, ask)?)?;
+    }
+    Ok(items)
+}
+
+pub fn shown_value(
+    alloc: Global,
+    asks: &[Ask],
+    client: &[u8],
+    expires_in: u64,
+    subject: bool,
+    user: &Option<Bytes>,
+) -> Result<Value, Mem>
+    requires asks { AllByRecursion AskFits asks.now }
+    requires client { IsUtf8 client.now }
+    requires user { IsUtf8Or user.now }
+    ensures { IfOk result (λ v. view v ≡ object_of (shown_fields asks.now client.now expires_in subject user.now)) }
+{
+    let mut map = Map::new(alloc);
+    let user = optional_value(alloc, user)?;
+    put(&mut map, alloc, "user", user)?;
+    put(&mut map, alloc, "subject", Some(Value::Bool(subject)))?;
+    let expires_in = Value::from(expires_in);
+    put(&mut map, alloc, "expires_in", Some(expires_in))?;
+    let client = text_value(alloc, client)?;
+    put(&mut map, alloc, "client", Some(client))?;
+    let asks = Value::Array(each_ask(alloc, asks)?);
+    put(&mut map, alloc, "access_token", Some(asks))?;
+    Ok(Value::Object(map))
+}
+
+pub fn handle_value(alloc: Global, handle: &[u8]) -> Result<Value, Mem>
+    requires { IsUtf8 handle.now }
+    ensures { IfOk result (λ v. view v ≡ object_of (handle_fields handle.now)) }
+{
+    let mut map = Map::new(alloc);
+    let handle = text_value(alloc, handle)?;
+    put(&mut map, alloc, "handle", Some(handle))?;
+    Ok(Value::Object(map))
+}
+
+fn hash(alloc: Global, base: &[u8], out: &FinishOut) -> Result<Bytes, Mem>
+    requires { IsUtf8 base.now }
+    ensures value { IfOk result (λ b. b ≡ hash_of base.now out.now) }
+    ensures utf8 { IfOk result (λ b. IsUtf8 b) }
+{
+    let endpoint = joined(alloc, base, "/gnap")?;
+    interaction_hash(
+        alloc,
+        out.finish.long,
+        out.finish.nonce.as_slice(),
+        out.server_nonce.as_slice(),
+        out.reference.as_slice(),
+        endpoint.as_bytes(),
+    )
+}
+
+fn pushed_value(alloc: Global, base: &[u8], out: &FinishOut) -> Result<Value, Mem>
+    requires base { IsUtf8 base.now }
+    requires out { EndingFits (Some out.now) }
+    ensures { IfOk result (λ v. view v ≡ object_of (pushed_fields base.now out.now)) }
+{
+    let mut map = Map::new(alloc);
+    let uri = text_value(alloc, out.finish.uri.as_slice())?;
+    put(&mut map, alloc, "uri", Some(uri))?;
+    let push = Value::try_from_str(alloc, "push")?;
+    put(&mut map, alloc, "finish", Some(push))?;
+    let hash = hash(alloc, base, out)?;
+    let body = push_body(alloc, hash.as_slice(), out.reference.as_slice())?;
+    let body = text_value(alloc, body.as_slice())?;
+    put(&mut map, alloc, "body", Some(body))?;
+    Ok(Value::Object(map))
+}
+
+// The URI that the user is sent to.
+fn finish_uri_value(alloc: Global, base: &[u8], out: &FinishOut) -> Result<Option<Value>, Mem>
+    requires base { IsUtf8 base.now }
+    requires out { EndingFits (Some out.now) }
+    ensures { IfOk result (λ v. option_map view v
+        ≡ option_map string (finish_uri out.now.finish.uri (hash_of base.now out.now) out.now.reference)) }
+{
+    let hash = hash(alloc, base, out)?;
+    match finish_uri(
+        alloc,
+        out.finish.uri.as_slice(),
+        hash.as_slice(),
+        out.reference.as_slice(),
+    ) {
+        Ok(uri) => Ok(Some(text_value(alloc, uri.as_slice())?)),
+        Err(UriFault::NotAUri) => Ok(None),
+        Err(UriFault::OutOfMemory) => Err(Mem),
+    }
+}
+
+fn redirected_value(alloc: Global, base: &[u8], out: &FinishOut) -> Result<Value, Mem>
+    requires base { IsUtf8 base.now }
+    requires out { EndingFits (Some out.now) }
+    ensures { IfOk result (λ v. view v ≡ object_of (redirected_fields base.now out.now)) }
+{
+    let mut map = Map::new(alloc);
+    let uri = finish_uri_value(alloc, base, out)?;
+    put(&mut map, alloc, "uri", uri)?;
+    let redirect = Value::try_from_str(alloc, "redirect")?;
+    put(&mut map, alloc, "finish", Some(redirect))?;
+    Ok(Value::Object(map))
+}
+
+fn none_value(alloc: Global) -> Result<Value, Mem>
+    ensures { IfOk result (λ v. view v ≡ object_of (decided_fields [] None)) }
+{
+    let mut map = Map::new(alloc);
+    let none = Value::try_from_str(alloc, "none")?;
+    put(&mut map, alloc, "finish", Some(none))?;
+    Ok(Value::Object(map))
+}
+
+pub fn decided_value(alloc: Global, base: &[u8], finish: &Option<FinishOut>) -> Result<Value, Mem>
+    requires base { IsUtf8 base.now }
+    requires finish { EndingFits finish.now }
+    ensures { IfOk result (λ v. view v ≡ object_of (decided_fields base.now finish.now)) }
+{
+    match finish {
+        None => none_value(alloc),
+        Some(out) => if out.finish.push {
+            pushed_value(alloc, base, out)
+        } else {
+            redirected_value(alloc, base, out)
+        },
+    }
+}

@@ -1,0 +1,17 @@
+pub mod Lists
+pub mod GrantsAfter
+pub mod TokensAfter
+pub mod TablesAfter
+pub mod Time
+pub mod Bridges
+pub mod TokenBridges
+pub mod RoundBridges
+pub mod RowAnswers
+pub mod MoreCauses
+pub mod Known
+pub mod ActionsFollow
+pub mod WholePast
+pub mod RowSteps
+pub mod SerialBounds
+pub mod SeveralNotes
+pub mod RowLimits

@@ -1,0 +1,43 @@
+use Rattle.std.proofs.Common.{◌≡◌, ◌∙◌, ap, sym, subst, refl, inl, inr}
+use Rattle.std.specs.Prelude.{Some}
+use Rattle.gnap_io.specs.Openings.{GivesBack}
+use Rattle.gnap_tool.specs.declared.command.Command.{Command}
+use Rattle.gnap_tool.specs.declared.ended.Ended.TheVariants.{Done, Memory, TooLong}
+use Rattle.gnap_tool.specs.Commands.{openings_of, input_place}
+use Rattle.gnap_tool.specs.Ends.{status_of}
+use Rattle.gnap_tool.specs.Runs.{InputTook}
+use Rattle.gnap_tool.proofs.Uses.{back-none, unopened_sound, failed_at_4, full_at_8, whole_at_0, starved_carries}
+use Rattle.gnap_tool.proofs.commands.run.Goals as goal
+
+pub returns-in-Ok-Some-clause-reads : goal.returns-in-Ok-Some-clause-reads
+returns-in-Ok-Some-clause-reads g c = λ is. failed_at_4 _ _ _ _ c.carry_out-ended.result c.carry_out-ended.ensures.world (sym c.status_of.ensures ∙ is)
+
+pub returns-in-Ok-Some-clause-no_reads : goal.returns-in-Ok-Some-clause-no_reads
+returns-in-Ok-Some-clause-no_reads g c = λ isnt. c.carry_out-ended.ensures.world.sound (λ failed. isnt (c.status_of.ensures ∙ ap status_of failed))
+
+pub returns-in-Ok-None-clause-no_reads : goal.returns-in-Ok-None-clause-no_reads
+returns-in-Ok-None-clause-no_reads g c = λ isnt. unopened_sound _ _ refl refl
+
+pub returns-in-Err-clause-no_reads : goal.returns-in-Err-clause-no_reads
+returns-in-Err-clause-no_reads g c = λ isnt. unopened_sound _ _ refl refl
+
+pub returns-in-Ok-Some-clause-full : goal.returns-in-Ok-Some-clause-full
+returns-in-Ok-Some-clause-full g c = λ is command found.
+    let both : Some c.in-Ok-Some.command ≡ Some command = sym c.in-Ok-Some.field-0-is ∙ c.in-Ok-Some.ensures ∙ found in
+    let same : c.in-Ok-Some.command ≡ command = cc in
+    let P : Command → Type 0 = λ k. InputTook TooLong (input_place k) (g.W.World.state c.args.world.now) (g.W.World.state c.carry_out-ended.new.world) in
+    subst P same (full_at_8 _ _ _ _ c.carry_out-ended.result c.carry_out-ended.ensures.world (sym c.status_of.ensures ∙ is))
+
+pub returns-in-Ok-Some-clause-whole : goal.returns-in-Ok-Some-clause-whole
+returns-in-Ok-Some-clause-whole g c = λ is command found.
+    let both : Some c.in-Ok-Some.command ≡ Some command = sym c.in-Ok-Some.field-0-is ∙ c.in-Ok-Some.ensures ∙ found in
+    let same : c.in-Ok-Some.command ≡ command = cc in
+    let P : Command → Type 0 = λ k. InputTook Done (input_place k) (g.W.World.state c.args.world.now) (g.W.World.state c.carry_out-ended.new.world) in
+    subst P same (whole_at_0 _ _ _ _ c.carry_out-ended.result c.carry_out-ended.ensures.world
+    (elim is [ inl zero ↦ inl (sym c.status_of.ensures ∙ zero) | inr seven ↦ inr (sym c.status_of.ensures ∙ seven) ]))
+
+pub returns-in-Err-clause-carries : goal.returns-in-Err-clause-carries
+returns-in-Err-clause-carries g c = λ command found. record { ended = Memory; status_is = refl; carried = starved_carries command _ _ _ }
+
+pub returns-in-Err-clause-given_back : goal.returns-in-Err-clause-given_back
+returns-in-Err-clause-given_back g c = λ command found. back-none (openings_of command) _ _ refl

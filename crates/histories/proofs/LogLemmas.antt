@@ -1,0 +1,66 @@
+-- A log that is accounted for, and one more connection.
+use Rattle.std.proofs.Common.{◌≡◌, ◌∙◌, ℕ, ◌≤◌, List, [], ◌∷◌, ◌++◌, length, refl, ap, sym, subst, append_assoc, arith}
+use Rattle.std.specs.Prelude.{Bool, map}
+use Rattle.std.proofs.lemmas.List.{append-nil, map-append}
+use Rattle.gnap_io.specs.Outside.{Served}
+use Rattle.gnap_io.specs.Gears.{Log, GearState, empty_log, log_served, log_uses}
+use Rattle.histories.specs.History.{Entry, Law}
+use Rattle.histories.specs.Turns.{Turn, Face, IsTurn, direct, called, starved, lapsed, unsaid, moments_in, entries_in, draw_of}
+use Rattle.histories.specs.Logs.{joined, Sessions, IsAccount, Serves}
+use Rattle.histories.proofs.TurnLemmas.{moments_in-append, entries_in-append}
+
+joined-next : {X : Type 0} (xss : List (List X)) (ys : List X) → joined (xss ++ ys ∷ []) ≡ joined xss ++ ys
+joined-next [] ys = append-nil ys
+joined-next (xs ∷ xss) ys = ap (λ zs. xs ++ zs) (joined-next xss ys) ∙ sym (append_assoc xs (joined xss) ys)
+
+module _ {Message Call Reply Note : Type 0} (IsSession : Served → List (Turn Message (Entry Call Reply Note)) → Type 0) where
+  sessions-next : (conns : List Served) (turns : List (List (Turn Message (Entry Call Reply Note)))) (conn : Served) (ts : List (Turn Message (Entry Call Reply Note)))
+      → Sessions IsSession conns turns → IsSession conn ts → Sessions IsSession (conns ++ conn ∷ []) (turns ++ ts ∷ [])
+  sessions-next [] [] conn ts each one = (one, tt)
+  sessions-next [] (us ∷ turns) conn ts each one = absurd each
+  sessions-next (other ∷ conns) [] conn ts each one = absurd each
+  sessions-next (other ∷ conns) (us ∷ turns) conn ts each one = (each.0, sessions-next conns turns conn ts each.1 one)
+
+  -- What a gear tells that has done nothing is accounted for by no entries.
+  pub account-none : IsAccount IsSession empty_log []
+  account-none = record { turns = []; sessions = tt; moments = refl; draws = refl; own_is = refl }
+
+  -- The worker gave an account of what its gear told. A connection was served, whose turns used the gear, and it was taken back.
+  pub account-next : (log log_used : Log) (own own_now : List (Entry Call Reply Note)) (conn : Served) (ts : List (Turn Message (Entry Call Reply Note)))
+      → IsAccount IsSession log own → IsSession conn ts
+      → log_used ≡ log_uses (moments_in ts) (map draw_of (entries_in ts)) log → own_now ≡ own ++ entries_in ts
+      → IsAccount IsSession (log_served conn log_used) own_now
+  account-next log log_used own own_now conn ts was one used owns =
+      let first = was.turns in
+      let last : joined (first ++ ts ∷ []) ≡ joined first ++ ts = joined-next first ts in
+      subst (λ (l : Log). IsAccount IsSession (log_served conn l) own_now) (sym used) (record {
+        turns = first ++ ts ∷ [];
+        sessions = sessions-next log.served first conn ts was.sessions one;
+        moments = ap (λ xs. xs ++ moments_in ts) was.moments ∙ sym (moments_in-append (joined first) ts) ∙ ap moments_in (sym last);
+        draws = ap (λ xs. xs ++ map draw_of (entries_in ts)) was.draws ∙ sym (map-append draw_of own (entries_in ts)) ∙ ap (map draw_of) (sym owns);
+        own_is = owns ∙ ap (λ xs. xs ++ entries_in ts) was.own_is ∙ sym (entries_in-append (joined first) ts) ∙ ap entries_in (sym last);
+      })
+
+-- a turn makes one entry at most
+pub entries_few : {Message Rules Call Reply Note : Type 0} (law : Law Rules Call Reply Note) (face : Face Message Rules Call Reply) (rules : Rules) (last : Bool)
+    (turn : Turn Message (Entry Call Reply Note)) → IsTurn law face rules last turn → length turn.entries ≤ 1
+entries_few law face rules last turn (direct m t bytes says) = omega arith
+entries_few law face rules last turn (called m e asks) = omega arith
+entries_few law face rules last turn (starved m t) = omega arith
+entries_few law face rules last turn (lapsed m e call asks lapse) = omega arith
+entries_few law face rules last turn (unsaid m e asks) = omega arith
+
+-- what is so of each connection served in the one way is so of each in the other
+pub serves-so : {Message Call Reply Note : Type 0} (P Q : Served → List (Turn Message (Entry Call Reply Note)) → Type 0)
+    → ((conn : Served) (turns : List (Turn Message (Entry Call Reply Note))) → P conn turns → Q conn turns)
+    → (number : ℕ) (seen : List (Entry Call Reply Note) → Type 0) (h : List (Entry Call Reply Note)) (gear gear_now : GearState)
+    (conn : Served) → Serves P number seen h gear gear_now conn → Serves Q number seen h gear gear_now conn
+serves-so P Q so number seen h gear gear_now conn serves = record {
+  turns = serves.turns;
+  few = serves.few;
+  history = serves.history;
+  seen_now = serves.seen_now;
+  own = serves.own;
+  used = serves.used;
+  session = so conn serves.turns serves.session;
+}

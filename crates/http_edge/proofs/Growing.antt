@@ -1,0 +1,99 @@
+-- Bytes that come behind those that are held.
+use Rattle.std.proofs.Common.{◌≡◌, ◌≢◌, ℕ, ◌+◌, ◌-◌, ◌<◌, ◌≤◌, ◌⊎◌, List, [], ◌∷◌, ◌++◌, length, take, drop, refl, sym, ap, ◌∙◌, subst, arith, append_assoc, append-nil, length-append, inl, inr, Bool, true, false}
+use Rattle.std.specs.Prelude.{Option, Some, None, Result, Ok, Err}
+use Rattle.gnap_io.specs.Outside.{Told, Takes, Reads, IsAtEnd, Rose}
+use Rattle.gnap_io.proofs.Devices.{takes_none, takes_then}
+use Rattle.gnap_io.specs.declared.message.Message.{Message}
+use Rattle.http_edge.specs.declared.fault.EdgeFault.{EdgeFault}
+use Rattle.http_edge.specs.declared.fault.EdgeFault.TheVariants as faults
+use Rattle.http_edge.specs.Streams.{IsOpen}
+use Rattle.http_edge.specs.Reads.{HasFault, GivesMessage, IsNextMessage, CountsReadFault}
+use Rattle.std.proofs.lemmas.List.{nil_from_length, length-take, take_rest, drop_at}
+use Rattle.std.specs.List.{fold}
+use Rattle.std.proofs.lemmas.List.Sums.{fold-append}
+use Rattle.http_edge.specs.Steps.{next_line_place, Grows, IsProgressFault, IsProgress}
+
+pub grows_none : (held : List ℕ) (told : Told) → Grows held held told told
+grows_none held told = record { came = []; takes = takes_none told; behind = sym (append-nil held) }
+
+pub grows_then : (held mid new : List ℕ) (a m b : Told) → Grows held mid a m → Grows mid new m b → Grows held new a b
+grows_then held mid new a m b x y = record {
+  came = x.came ++ y.came;
+  takes = takes_then x.came y.came a m b x.takes y.takes;
+  behind = y.behind ∙ ap (λ (t : List ℕ). t ++ y.came) x.behind ∙ append_assoc held x.came y.came;
+}
+
+pub grows_same : (held new : List ℕ) (a b : Told) → new ≡ held → b ≡ a → Grows held new a b
+grows_same held new a b e same =
+    subst (λ (told : Told). Grows held new a told) (sym same) (record { came = []; takes = takes_none a; behind = e ∙ sym (append-nil held) })
+
+pub grows_end : (held new rest : List ℕ) (a b : Told) (count : ℕ) → new ≡ held → count ≡ 0 → Reads count (take count rest) a b → Grows held new a b × IsAtEnd b
+grows_end held new rest a b count e none reads = (
+  record {
+    came = [];
+    takes = subst (λ (n : ℕ). Takes (take n rest) a b) none reads.takes;
+    behind = e ∙ sym (append-nil held);
+  },
+  reads.at_end none,
+)
+
+pub grows_by : (held new rest : List ℕ) (a b : Told) (count : ℕ) → new ≡ held ++ take count rest → Reads count (take count rest) a b
+    → 0 < count → count ≤ length rest → Grows held new a b × (length held < length new)
+grows_by held new rest a b count e reads some within = (
+  record { came = take count rest; takes = reads.takes; behind = e },
+  omega (arith, ap length e, length-append held (take count rest), length-take count rest),
+)
+
+-- nothing was taken, so nothing came
+pub none_came : (held new : List ℕ) (told : Told) → Grows held new told told → new ≡ held
+none_came held new told x =
+    let same : length told.taken ≡ length told.taken + length x.came = ap length x.takes.taken ∙ length-append told.taken x.came in
+    let none : x.came ≡ [] = nil_from_length x.came (omega arith) in
+    x.behind ∙ ap (λ (t : List ℕ). held ++ t) none ∙ append-nil held
+
+-- ---- answers
+
+progress_fault : (b : List ℕ) (ended : Bool) (after : Told) (fault : EdgeFault) → (ended ≡ true → IsAtEnd after) → IsProgressFault b ended fault → HasFault b after fault
+progress_fault b ended after faults.BadHead end s = s
+progress_fault b ended after faults.TooLarge end s = s
+progress_fault b ended after faults.Coded end s = s
+progress_fault b ended after faults.Truncated end s = (s.1, s.2, end s.0)
+progress_fault b ended after faults.ReadFault end s = tt
+progress_fault b ended after faults.OutOfMemory end s = tt
+
+pub next_progress : (old b rest : List ℕ) (ended : Bool) (before after : Told) (fault : EdgeFault) → Grows old b before after
+    → (ended ≡ true → IsAtEnd after) → IsProgress b ended rest (Err fault) → IsNextMessage old rest before after (Err fault)
+next_progress old b rest ended before after fault grows end s = record {
+  came = grows.came;
+  takes = grows.takes;
+  answers = (s.0 ∙ grows.behind, subst (λ (t : List ℕ). HasFault t after fault) grows.behind (progress_fault b ended after fault end s.1));
+}
+
+pub progress_count : (b rest : List ℕ) (ended : Bool) (fault : EdgeFault) → IsProgress b ended rest (Err fault) → (before after : ℕ) → after ≡ before
+    → CountsReadFault (Err fault) before after
+progress_count b rest ended faults.BadHead s before after e = e
+progress_count b rest ended faults.TooLarge s before after e = e
+progress_count b rest ended faults.Coded s before after e = e
+progress_count b rest ended faults.Truncated s before after e = e
+progress_count b rest ended faults.ReadFault s before after e = absurd s.1
+progress_count b rest ended faults.OutOfMemory s before after e = e
+
+-- ---- what was needed
+
+pub needed_so : (held first : List ℕ) (now before : Told) → ((held ≡ first) × (now ≡ before)) ⊎ IsOpen first → (now ≡ before) ⊎ IsOpen first
+needed_so held first now before (inl same) = inl same.1
+needed_so held first now before (inr waits) = inr waits
+
+pub open_first : (held first : List ℕ) (now before : Told) → ((held ≡ first) × (now ≡ before)) ⊎ IsOpen first → IsOpen held → IsOpen first
+open_first held first now before (inl same) waits = subst IsOpen same.0 waits
+open_first held first now before (inr waits) _ = waits
+
+-- ---- the lines of a head
+
+-- the place behind all of the bytes, from the place behind those that were seen
+pub place_more : (held came all : List ℕ) (seen place : ℕ) → all ≡ held ++ came → seen ≡ length held → place ≡ fold next_line_place 0 held
+    → fold next_line_place place (take (length all - seen) (drop seen all)) ≡ fold next_line_place 0 all
+place_more held came all seen place whole count e =
+    let rest : take (length all - seen) (drop seen all) ≡ came = take_rest all seen ∙ ap (drop seen) whole ∙ drop_at held came seen (sym count) in
+    ap (fold next_line_place place) rest ∙ ap (λ (p : ℕ). fold next_line_place p came) e
+    ∙ sym (fold-append next_line_place 0 held came) ∙ ap (fold next_line_place 0) (sym whole)

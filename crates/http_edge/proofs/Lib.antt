@@ -1,0 +1,11 @@
+pub mod Buffers
+pub mod Fronts
+pub mod Growing
+pub mod HeadLines
+pub mod Lengths
+pub mod MessageLines
+pub mod Outcomes
+pub mod ReplyHeads
+pub mod Sending
+pub mod Targets
+pub mod WrittenReplies

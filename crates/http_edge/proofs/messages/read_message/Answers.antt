@@ -1,0 +1,50 @@
+use Rattle.std.proofs.Common.{ℕ, List, length, take, drop, map, ◌≡◌, ◌∙◌, sym, ap, arith, ◌+◌, ◌≤◌, length-append}
+use Rattle.std.specs.Prelude.{◌==◌, ◌||◌, Bool}
+use Rattle.httparse.specs.Grammar.{print_request}
+use Rattle.httparse.specs.Spans.{header_bytes}
+use Rattle.http1.specs.Fields.{Header, known_fields}
+use Rattle.http_edge.specs.declared.framing.Framing.{Framing}
+use Rattle.http_edge.specs.declared.framing.Framing.TheVariants.{Refused, Body}
+use Rattle.http_edge.specs.Framing.{framing_of, asks_to_close}
+use Rattle.http_edge.specs.Streams.{BeginsWith, headers_of, field_of, by_head}
+use Rattle.http_edge.proofs.Fronts.{head_here, ends_at, whole_message}
+use Rattle.http_edge.proofs.messages.read_message.Goals as goal
+
+pub returns-then-b-end : goal.returns-then-b-end
+returns-then-b-end c =
+    let b : List ℕ = c.args.b.now in
+    let of = c.requires.of in
+    let begins : BeginsWith b of.0 (drop c.args.spans.len b) =
+    head_here b c.args.w.now c.args.room.now c.args.spans c.requires.window of c.requires.within.section.len_fits in
+    let framed : framing_of (headers_of of.0) ≡ Body c.in-Body.length = sym (ap framing_of of.1.fields) ∙ sym c.in-Body.ensures.value in (
+      ends_at b of.0 c.args.spans.len c.in-Body.length begins of.1.len framed,
+      c.if-b-end.true,
+      omega (arith, begins.short, of.1.len, c.in-Body.ensures.bound),
+    )
+
+pub returns-in-Refused : goal.returns-in-Refused
+returns-in-Refused c =
+    let b : List ℕ = c.args.b.now in
+    let of = c.requires.of in (
+      by_head c.in-Refused.fault of.0 (drop c.args.spans.len b)
+          (head_here b c.args.w.now c.args.room.now c.args.spans c.requires.window of c.requires.within.section.len_fits)
+          (sym (ap framing_of of.1.fields) ∙ sym c.in-Refused.ensures.value),
+      c.in-Refused.ensures.bound,
+    )
+
+pub returns-in_ok-body-in-Body : goal.returns-in_ok-body-in-Body
+returns-in_ok-body-in-Body c =
+    let b : List ℕ = c.args.b.now in
+    let of = c.requires.of in
+    let begins : BeginsWith b of.0 (drop c.args.spans.len b) =
+    head_here b c.args.w.now c.args.room.now c.args.spans c.requires.window of c.requires.within.section.len_fits in
+    let framed : framing_of (headers_of of.0) ≡ Body c.in-Body.length = sym (ap framing_of of.1.fields) ∙ sym c.in-Body.ensures.value in (
+      c.if-b-end.false,
+      whole_message b of.0 c.args.spans.len c.in-Body.length _ begins framed c.if-b-end.false
+          (c.in_ok-method-in-Body.ensures ∙ c.of.ensures ∙ of.1.method)
+          (c.in_ok-target-in-Body.ensures ∙ c.of-in-Body.ensures ∙ of.1.path)
+          (c.in_ok-fields-in-Body.ensures ∙ ap (map field_of) of.1.fields)
+          (c.in_ok-body-in-Body.ensures)
+          (c.is_last-last.ensures ∙ ap (λ (n : ℕ). n == 0 || asks_to_close (map (header_bytes c.args.w.now) (take c.args.spans.headers c.args.room.now))) of.1.version
+          ∙ ap (λ (headers : List Header). of.0.minor == 0 || asks_to_close headers) of.1.fields),
+    )

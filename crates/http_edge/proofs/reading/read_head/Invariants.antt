@@ -1,0 +1,19 @@
+use Rattle.std.proofs.Common.{◌≡◌, ◌-◌, ◌<◌, ◌≤◌, length}
+use Rattle.std.specs.List.{fold}
+use Rattle.http_edge.specs.Streams.{HasNoMessage}
+use Rattle.http_edge.specs.Steps.{next_line_place, Grows}
+use Rattle.http_edge.proofs.reading.read_head.Given as goal
+
+abbrev pub invariant-loop-held : goal.invariant-loop-held
+invariant-loop-held g l = record {
+  grows : Grows l.fn.held l.held (g.S.Device.told l.fn.source) (g.S.Device.told l.source);
+  longer : length l.fn.held ≤ length l.held;
+  kept : g.S.Device.faults l.source ≡ g.S.Device.faults l.fn.source;
+  waiting : HasNoMessage l.held;
+  place : l.place ≡ fold next_line_place 0 l.held;
+  short : length l.held < 16384;
+  enough : l.enough ≤ 16384;
+}
+
+abbrev pub decreases-loop-held : goal.decreases-loop-held
+decreases-loop-held g l = 81920 - length l.held

@@ -1,0 +1,9 @@
+pub mod Framing
+pub mod Laws
+pub mod Lines
+pub mod ReadReplies
+pub mod Reads
+pub mod Replies
+pub mod Steps
+pub mod Streams
+pub mod Writes

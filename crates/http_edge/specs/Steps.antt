@@ -1,0 +1,138 @@
+-- What the steps of reading a message do.
+use Rattle.std.specs.Prelude.{◌≡◌, ℕ, ◌+◌, ◌<◌, ◌≤◌, Bool, true, false, List, [], ◌∷◌, ◌++◌, length, drop, if◌then◌else◌, ◌==◌, Result, Ok, Err}
+use Rattle.httparse.specs.Grammar.{print_request, is_token_byte, RequestHead, ReadsRequest}
+use Rattle.httparse.specs.Spans.{span_bytes, IsWithin, IsRequestWithin, IsRequestOf}
+use Rattle.httparse.specs.declared.spans.HeaderSpan.{HeaderSpan}
+use Rattle.gnap_io.specs.Outside.{Told, Takes, IsAtEnd, Rose}
+use Rattle.http_edge.specs.declared.fault.EdgeFault.{EdgeFault}
+use Rattle.http_edge.specs.declared.fault.EdgeFault.TheVariants as faults
+use Rattle.http_edge.specs.declared.framing.Framing.{Framing}
+use Rattle.http_edge.specs.declared.framing.Framing.TheVariants.{Refused, Body}
+use Rattle.http_edge.specs.declared.framing.LengthField.{LengthField}
+use Rattle.http_edge.specs.declared.framing.LengthField.TheVariants.{Absent, One, Several}
+use Rattle.http_edge.specs.declared.request_heads.LeadingHead.{LeadingHead}
+use Rattle.http_edge.specs.declared.request_heads.LeadingHead.TheVariants as heads
+use Rattle.http_edge.specs.declared.messages.Beginning.{Beginning}
+use Rattle.http_edge.specs.declared.messages.Beginning.TheVariants as beginnings
+use Rattle.http_edge.specs.declared.messages.Want.{Want}
+use Rattle.http_edge.specs.declared.messages.Want.TheVariants as wants
+use Rattle.http_edge.specs.declared.held.Arrival.{Arrival}
+use Rattle.http_edge.specs.declared.held.Arrival.TheVariants as arrival
+use Rattle.http_edge.specs.declared.reading.Progress.{Progress}
+use Rattle.http_edge.specs.declared.reading.Progress.TheVariants as progress
+use Rattle.http_edge.specs.Framing.{framing_of}
+use Rattle.http_edge.specs.Streams.{is_inner, IsUndecided, IsNoHead, BeginsWith, headers_of, IsMessage, IsRefusedFor, IsOpen}
+
+-- ---- the fields
+
+-- which values of `Content-Length` there are
+abbrev pub HasLengths : List ℕ → LengthField → List (List ℕ) → Type 0
+HasLengths head Absent values = values ≡ []
+HasLengths head (One span) values = IsWithin (length head) span × (values ≡ span_bytes head span ∷ [])
+HasLengths head Several values = 1 < length values
+
+-- a fault of the bytes, and not of the source, the memory or the end
+abbrev pub IsOfBytes : EdgeFault → Type 0
+IsOfBytes faults.BadHead = Unit {0}
+IsOfBytes faults.TooLarge = Unit {0}
+IsOfBytes faults.Coded = Unit {0}
+IsOfBytes _ = ⊥
+
+-- the length of a body is within the limit
+abbrev pub IsBounded : Framing → Type 0
+IsBounded (Body n) = n ≤ 65536
+IsBounded (Refused fault) = IsOfBytes fault
+
+-- ---- the head
+
+-- where a byte leads: 0 between empty lines, 1 behind a CR there, 2 in the method, 3 in the target, 4 elsewhere
+abbrev pub next_place : ℕ → ℕ → ℕ
+next_place place c =
+    if place == 3 then (if is_inner c then 3 else 4) else (
+    if place == 2 then (if is_token_byte c then 2 else (if c == 32 then 3 else 4)) else (
+    if place == 1 then (if c == 10 then 0 else 4) else (
+    if place == 0 then (if c == 10 then 0 else (if c == 13 then 1 else (if is_token_byte c then 2 else 4))) else 4)))
+
+-- where a byte leads: 0 in empty lines before the first, 1 in a line, 2 at the start of a line, 3 behind a CR there, 4 behind an empty line
+abbrev pub next_line_place : ℕ → ℕ → ℕ
+next_line_place place c =
+    if place == 0 then (if c == 10 then 0 else (if c == 13 then 0 else 1)) else (
+    if place == 1 then (if c == 10 then 2 else 1) else (
+    if place == 2 then (if c == 10 then 4 else (if c == 13 then 3 else 1)) else (
+    if place == 3 then (if c == 10 then 4 else 1) else 4)))
+
+-- w begins with a head that has more than 64 fields
+pub record HasManyFields (w : List ℕ) : Type 0 where
+  pub head : RequestHead
+  pub rest : List ℕ
+  pub reads : ReadsRequest w head rest
+  pub many : 64 < length head.fields
+
+-- what is said of a head at the front of w, with its fields in these spans
+abbrev pub IsLeadingHead : List ℕ → List HeaderSpan → LeadingHead → Type 0
+IsLeadingHead w headers (heads.Head spans) = IsRequestWithin w headers spans × IsRequestOf w headers spans
+IsLeadingHead w headers heads.ManyFields = HasManyFields w
+IsLeadingHead w headers heads.Never = IsNoHead w
+IsLeadingHead w headers heads.Undecided = IsUndecided w
+
+-- no head of at most 64 fields
+abbrev pub IsNoShortHead : LeadingHead → Type 0
+IsNoShortHead (heads.Head spans) = ⊥
+IsNoShortHead _ = Unit {0}
+
+-- ---- the front
+
+-- b begins with a head, and a body of the length that it says would end at this place
+pub record EndsAt (b : List ℕ) (end : ℕ) : Type 0 where
+  pub head : RequestHead
+  pub rest : List ℕ
+  pub count : ℕ
+  pub begins : BeginsWith b head rest
+  pub framed : framing_of (headers_of head) ≡ Body count
+  pub end_is : end ≡ length (print_request head) + count
+
+-- b is less than a whole message, and this is what it wants
+abbrev pub IsWaiting : List ℕ → Want → Type 0
+IsWaiting b wants.MoreOfHead = IsOpen b × (length b < 16384)
+IsWaiting b (wants.UpTo end) = EndsAt b end × (length b < end) × (end ≤ 81920)
+
+-- what is said of the front of b
+abbrev pub IsBeginningOf : List ℕ → Beginning → Type 0
+IsBeginningOf b (beginnings.Whole m used) = (used ≤ length b) × IsMessage b m (drop used b)
+IsBeginningOf b (beginnings.Refused fault) = IsRefusedFor b fault × IsOfBytes fault
+IsBeginningOf b (beginnings.Unfinished want) = IsWaiting b want
+
+-- ---- the source
+
+-- bytes were read, and stand behind those that were held
+pub record Grows (held held_now : List ℕ) (before after : Told) : Type 0 where
+  pub came : List ℕ
+  pub takes : Takes came before after
+  pub behind : held_now ≡ held ++ came
+
+-- what asking the source for more did
+abbrev pub HasArrived : Arrival → List ℕ → List ℕ → Told → Told → ℕ → ℕ → Type 0
+HasArrived arrival.More held held_now before after faults faults_now =
+    Grows held held_now before after × (length held < length held_now) × (faults_now ≡ faults)
+HasArrived arrival.End held held_now before after faults faults_now =
+    Grows held held_now before after × IsAtEnd after × (faults_now ≡ faults)
+HasArrived arrival.Failed held held_now before after faults faults_now =
+    Grows held held_now before after × Rose faults faults_now
+HasArrived arrival.Memory held held_now before after faults faults_now =
+    Grows held held_now before after × (faults_now ≡ faults)
+
+-- why the bytes b that are held give no message, where `ended` says that no more will come
+abbrev pub IsProgressFault : List ℕ → Bool → EdgeFault → Type 0
+IsProgressFault b ended faults.BadHead = IsRefusedFor b faults.BadHead
+IsProgressFault b ended faults.TooLarge = IsRefusedFor b faults.TooLarge
+IsProgressFault b ended faults.Coded = IsRefusedFor b faults.Coded
+IsProgressFault b ended faults.Truncated = (ended ≡ true) × IsOpen b × (0 < length b)
+IsProgressFault b ended faults.ReadFault = ⊥
+IsProgressFault b ended faults.OutOfMemory = Unit {0}
+
+-- what is said of the front of the bytes b that are held, of which rest are kept
+abbrev pub IsProgress : List ℕ → Bool → List ℕ → Result Progress EdgeFault → Type 0
+IsProgress b ended rest (Ok (progress.Whole m)) = IsMessage b m rest
+IsProgress b ended rest (Ok progress.End) = (ended ≡ true) × (b ≡ []) × (rest ≡ [])
+IsProgress b ended rest (Ok (progress.Unfinished want)) = (ended ≡ false) × (rest ≡ b) × IsWaiting b want
+IsProgress b ended rest (Err fault) = (rest ≡ b) × IsProgressFault b ended fault

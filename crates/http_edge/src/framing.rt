@@ -1,0 +1,165 @@
+//! What the fields of a head say of the body behind it (RFC 9112, section 6).
+ghost use Rattle.std.specs.Prelude.{◌≡◌, ◌-◌, ◌^◌, ◌≤◌, ◌==◌, ◌||◌, min, length, map, All, IfOk, Some, None, if◌then◌else◌};
+ghost use Rattle.std.specs.List.{list_any};
+ghost use Rattle.std.specs.Char.{to_ascii_lowercase};
+ghost use Rattle.std.specs.Str.Parse.{digits_value};
+ghost use Rattle.httparse.specs.Spans.{IsHeaderWithin, header_bytes};
+ghost use Rattle.http1.specs.Fields.{is_named};
+ghost use Rattle.http_edge.specs.Framing.{is_coded, is_digits, lengths_of, length_framing, framing_of, asks_to_close};
+ghost use Rattle.http_edge.specs.Streams.{field_of};
+ghost use Rattle.http_edge.specs.Steps.{HasLengths, IsBounded};
+
+use crate::fault::EdgeFault;
+use gnap_io::bytes::Bytes;
+use gnap_io::memory::Mem;
+use gnap_io::message::{Field, Fields};
+use http1::fields::KnownFields;
+use http1::text::eq_ignore_case;
+use httparse::spans::{HeaderSpan, Span};
+use std::alloc::Global;
+
+/// The most bytes of a body.
+pub(crate) const BODY_LIMIT: u64 = 65_536;
+
+/// What the fields of a request say of its body.
+#[derive(Clone, Copy, Debug, PartialEq, Eq)]
+pub enum Framing {
+    Refused(EdgeFault),
+    /// It has so many bytes.
+    Body(usize),
+}
+
+/// Which `Content-Length` fields there are.
+#[derive(Clone, Copy)]
+pub enum LengthField {
+    Absent,
+    /// One, with the value there.
+    One(Span),
+    Several,
+}
+
+fn is_named(head: &[u8], field: &HeaderSpan, name: &[u8]) -> bool
+    requires { IsHeaderWithin (length head.now) field.now }
+    ensures { result ≡ is_named name.now (header_bytes head.now field.now) }
+{
+    eq_ignore_case(field.name.of(head), name)
+}
+
+fn is_coded(head: &[u8], field: &HeaderSpan) -> bool
+    requires { IsHeaderWithin (length head.now) field.now }
+    ensures { result ≡ is_coded (header_bytes head.now field.now) }
+{
+    is_named(head, field, b"transfer-encoding") || is_named(head, field, b"content-encoding")
+}
+
+/// A coding of the body is named.
+pub(crate) fn any_coded(head: &[u8], fields: &[HeaderSpan]) -> bool
+    requires { All (IsHeaderWithin (length head.now)) fields.now }
+    ensures { result ≡ list_any is_coded (map (header_bytes head.now) fields.now) }
+{
+    for field in fields {
+        if is_coded(head, field) {
+            return true;
+        }
+    }
+    false
+}
+
+/// The `Content-Length` fields.
+pub(crate) fn length_field(head: &[u8], fields: &[HeaderSpan]) -> LengthField
+    requires { All (IsHeaderWithin (length head.now)) fields.now }
+    ensures { HasLengths head.now result (lengths_of (map (header_bytes head.now) fields.now)) }
+{
+    let mut found = LengthField::Absent;
+    for field in fields {
+        if is_named(head, field, b"content-length") {
+            found = match found {
+                LengthField::Absent => LengthField::One(field.value),
+                _ => LengthField::Several,
+            };
+        }
+    }
+    found
+}
+
+/// The number that the digits give, where there are digits alone. One past 2^64 - 1 counts as that.
+pub(crate) fn decimal_number(digits: &[u8]) -> Option<u64>
+    ensures { result ≡ (if is_digits digits.now then Some (min (digits_value 10 digits.now) (2 ^ 64 - 1)) else None) }
+{
+    if digits.is_empty() {
+        return None;
+    }
+    let mut number: u64 = 0;
+    for digit in digits {
+        if !digit.is_ascii_digit() {
+            return None;
+        }
+        number = number
+            .saturating_mul(10)
+            .saturating_add((*digit - b'0') as u64);
+    }
+    Some(number)
+}
+
+fn length_framing(value: &[u8]) -> Framing
+    ensures value { result ≡ length_framing value.now }
+    ensures bound { IsBounded result }
+{
+    match decimal_number(value) {
+        None => Framing::Refused(EdgeFault::BadHead),
+        Some(length) => {
+            if length > BODY_LIMIT {
+                Framing::Refused(EdgeFault::TooLarge)
+            } else {
+                Framing::Body(length as usize)
+            }
+        }
+    }
+}
+
+/// What the fields of a request say of its body, of which there are at most 64.
+pub(crate) fn request_framing(head: &[u8], fields: &[HeaderSpan]) -> Framing
+    requires within { All (IsHeaderWithin (length head.now)) fields.now }
+    requires few { length fields.now ≤ 64 }
+    ensures value { result ≡ framing_of (map (header_bytes head.now) fields.now) }
+    ensures bound { IsBounded result }
+{
+    if any_coded(head, fields) {
+        return Framing::Refused(EdgeFault::Coded);
+    }
+    match length_field(head, fields) {
+        LengthField::Absent => Framing::Body(0),
+        LengthField::One(span) => length_framing(span.of(head)),
+        LengthField::Several => Framing::Refused(EdgeFault::BadHead),
+    }
+}
+
+/// The connection closes after the reply to a request of this minor version.
+#[tactic(auto, unfolding(http1::specs::Fields::known_fields))]
+pub(crate) fn is_last(minor: u8, head: &[u8], fields: &[HeaderSpan]) -> bool
+    requires { All (IsHeaderWithin (length head.now)) fields.now }
+    ensures { result ≡ (minor == 0 || asks_to_close (map (header_bytes head.now) fields.now)) }
+{
+    minor == 0 || KnownFields::from_spans(head, fields).close
+}
+
+// The bytes in lower case.
+fn lowered(alloc: Global, text: &[u8]) -> Result<Bytes, Mem>
+    ensures { IfOk result (λ b. b ≡ map to_ascii_lowercase text.now) }
+{
+    Ok(Bytes::from_vec(text.iter().map(|c| c.to_ascii_lowercase()).collect(alloc)?))
+}
+
+/// The fields that the spans cover, with their names in lower case.
+pub(crate) fn fields_of(alloc: Global, head: &[u8], spans: &[HeaderSpan]) -> Result<Fields, Mem>
+    requires { All (IsHeaderWithin (length head.now)) spans.now }
+    ensures { IfOk result (λ fields. fields ≡ map field_of (map (header_bytes head.now) spans.now)) }
+{
+    let mut fields = Vec::with_capacity(alloc, spans.len())?;
+    for span in spans {
+        let name = lowered(alloc, span.name.of(head))?;
+        let value = Bytes::from_slice(alloc, span.value.of(head))?;
+        fields.push(Field { name, value })?;
+    }
+    Ok(Fields::from_vec(fields))
+}

@@ -1,0 +1,103 @@
+//! The message at the front of bytes.
+ghost use Rattle.std.specs.Prelude.{◌≡◌, ◌≤◌, length, take, IfOk};
+ghost use Rattle.httparse.specs.Spans.{IsRequestWithin, IsRequestOf};
+ghost use Rattle.http_edge.specs.Streams.{window};
+ghost use Rattle.http_edge.specs.Steps.{IsBeginningOf};
+
+use crate::fault::EdgeFault;
+use crate::framing::{Framing, fields_of, is_last, request_framing};
+use crate::request_heads::{FIELD_LIMIT, HEAD_LIMIT, LeadingHead, leading_head};
+use gnap_io::bytes::Bytes;
+use gnap_io::memory::Mem;
+use gnap_io::message::Message;
+use httparse::spans::{EMPTY_HEADER_SPAN, HeaderSpan, RequestSpans};
+use std::alloc::Global;
+
+/// What is wanted where the bytes aren't a whole message.
+#[derive(Clone, Copy, Debug, PartialEq, Eq)]
+pub enum Want {
+    MoreOfHead,
+    /// So many bytes in all, the head and the body.
+    UpTo(usize),
+}
+
+/// What stands at the front of bytes.
+#[derive(Drop)]
+pub enum Beginning {
+    /// A message of so many bytes.
+    Whole(Message, usize),
+    Refused(EdgeFault),
+    Unfinished(Want),
+}
+
+// The bytes in which a head has to end.
+fn window(b: &[u8]) -> &[u8]
+    ensures window { result.now ≡ window b.now }
+    ensures short { length result.now ≤ 16384 }
+{
+    if b.len() > HEAD_LIMIT {
+        &b[..HEAD_LIMIT]
+    } else {
+        b
+    }
+}
+
+// The message whose head is there, as far as it has come.
+fn read_message(
+    alloc: Global,
+    b: &[u8],
+    w: &[u8],
+    room: &[HeaderSpan],
+    spans: RequestSpans,
+) -> Result<Beginning, Mem>
+    requires window { w.now ≡ window b.now }
+    requires short { length w.now ≤ 16384 }
+    requires room { length room.now ≡ 64 }
+    requires within { IsRequestWithin w.now room.now spans }
+    requires of { IsRequestOf w.now room.now spans }
+    ensures { IfOk result (IsBeginningOf b.now) }
+{
+    let found = &room[..spans.headers];
+    match request_framing(w, found) {
+        Framing::Refused(fault) => Ok(Beginning::Refused(fault)),
+        Framing::Body(length) => {
+            let end = spans.len + length;
+            if b.len() < end {
+                return Ok(Beginning::Unfinished(Want::UpTo(end)));
+            }
+            let method = Bytes::from_slice(alloc, spans.method.of(w))?;
+            let target = Bytes::from_slice(alloc, spans.path.of(w))?;
+            let fields = fields_of(alloc, w, found)?;
+            let body = Bytes::from_slice(alloc, &b[spans.len..end])?;
+            let last = is_last(spans.version, w, found);
+            let message = Message {
+                method,
+                target,
+                fields,
+                body,
+                last,
+            };
+            Ok(Beginning::Whole(message, end))
+        }
+    }
+}
+
+/// What stands at the front of the bytes. Of a message that isn't whole nothing is copied.
+pub(crate) fn take_message(alloc: Global, b: &[u8]) -> Result<Beginning, Mem>
+    ensures { IfOk result (IsBeginningOf b.now) }
+{
+    let w = window(b);
+    let mut room = [EMPTY_HEADER_SPAN; FIELD_LIMIT];
+    match leading_head(alloc, w, &mut room)? {
+        LeadingHead::Head(spans) => read_message(alloc, b, w, &room, spans),
+        LeadingHead::ManyFields => Ok(Beginning::Refused(EdgeFault::TooLarge)),
+        LeadingHead::Never => Ok(Beginning::Refused(EdgeFault::BadHead)),
+        LeadingHead::Undecided => {
+            if b.len() < HEAD_LIMIT {
+                Ok(Beginning::Unfinished(Want::MoreOfHead))
+            } else {
+                Ok(Beginning::Refused(EdgeFault::TooLarge))
+            }
+        }
+    }
+}

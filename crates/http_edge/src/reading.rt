@@ -1,0 +1,136 @@
+//! The next message of a source.
+ghost use Rattle.std.specs.Prelude.{◌≡◌, ◌+◌, ◌<◌, ◌≤◌, ◌⊎◌, length, IfOk, IfSome};
+ghost use Rattle.http_edge.specs.Streams.{IsOpen};
+ghost use Rattle.http_edge.specs.Lines.{HasOneLineParts};
+ghost use Rattle.http_edge.specs.Reads.{IsNextMessage, CountsReadFault};
+ghost use Rattle.http_edge.specs.Steps.{IsWaiting, IsProgress, HasArrived};
+
+use crate::fault::EdgeFault;
+use crate::held::{Arrival, Held};
+use crate::messages::{Beginning, Want, take_message};
+use crate::request_heads::{BEHIND_HEAD, HEAD_LIMIT, line_place};
+use gnap_io::device::Source;
+use gnap_io::message::Message;
+use std::alloc::Global;
+
+// So many bytes of a head are asked of the source at once.
+const PIECE: usize = 4_096;
+
+/// What the bytes that are held come to.
+#[derive(Drop)]
+pub enum Progress {
+    Whole(Message),
+    /// The end of the input, with nothing held.
+    End,
+    Unfinished(Want),
+}
+
+// Takes the message at the front of what is held, if it is whole.
+fn take_next(alloc: Global, held: &mut Held, ended: bool) -> Result<Progress, EdgeFault>
+    ensures progress { IsProgress held.old ended held.new result }
+    ensures bound { length held.new ≤ 81920 }
+{
+    match take_message(alloc, held.as_slice())? {
+        Beginning::Whole(message, used) => {
+            held.skip(used);
+            Ok(Progress::Whole(message))
+        }
+        Beginning::Refused(fault) => Err(fault),
+        Beginning::Unfinished(want) => {
+            if !ended {
+                Ok(Progress::Unfinished(want))
+            } else if held.len() == 0 {
+                Ok(Progress::End)
+            } else {
+                Err(EdgeFault::Truncated)
+            }
+        }
+    }
+}
+
+// Reads until an empty line came that may end the head, or until twice as many bytes are held. So all looks at a head together go through no more
+// than three times as many bytes as it has.
+fn read_head<S: Source>(source: &mut S, held: &mut Held) -> Arrival
+    requires waiting { IsOpen held.old }
+    requires short { length held.old < 16384 }
+    ensures arrived { HasArrived result held.old held.new (S.told source.old) (S.told source.new) (S.faults source.old) (S.faults source.new) }
+    ensures bound { length held.new ≤ 81920 }
+{
+    let enough = (held.len() * 2).clamp(1, HEAD_LIMIT);
+    let mut place = line_place(0, held.as_slice());
+    loop {
+        let seen = held.len();
+        match held.fill(source, PIECE) {
+            Arrival::More => {}
+            Arrival::End => return Arrival::End,
+            Arrival::Failed => return Arrival::Failed,
+            Arrival::Memory => return Arrival::Memory,
+        }
+        place = line_place(place, &held.as_slice()[seen..]);
+        if place == BEHIND_HEAD || held.len() >= enough {
+            return Arrival::More;
+        }
+    }
+}
+
+// Reads until so many bytes are held.
+fn read_body<S: Source>(source: &mut S, held: &mut Held, end: usize) -> Arrival
+    requires { IsWaiting held.old (Want.UpTo end) }
+    ensures arrived { HasArrived result held.old held.new (S.told source.old) (S.told source.new) (S.faults source.old) (S.faults source.new) }
+    ensures bound { length held.new ≤ 81920 }
+{
+    while held.len() < end {
+        match held.fill(source, end - held.len()) {
+            Arrival::More => {}
+            Arrival::End => return Arrival::End,
+            Arrival::Failed => return Arrival::Failed,
+            Arrival::Memory => return Arrival::Memory,
+        }
+    }
+    Arrival::More
+}
+
+fn read_on<S: Source>(source: &mut S, held: &mut Held, want: Want) -> Arrival
+    requires { IsWaiting held.old want }
+    ensures arrived { HasArrived result held.old held.new (S.told source.old) (S.told source.new) (S.faults source.old) (S.faults source.new) }
+    ensures bound { length held.new ≤ 81920 }
+{
+    match want {
+        Want::MoreOfHead => read_head(source, held),
+        Want::UpTo(end) => read_body(source, held, end),
+    }
+}
+
+/// The next message of a connection: of the bytes that are held, and then of those that the source gives, however these come in pieces. Afterwards exactly
+/// the bytes behind the message are held. `None` is the end of the input, with nothing held.
+///
+/// An `Err` drops no byte. After `OutOfMemory` the call can be made again; after the others the connection is over.
+pub fn next_message<S: Source>(
+    alloc: Global,
+    source: &mut S,
+    held: &mut Held,
+) -> Result<Option<Message>, EdgeFault>
+    ensures next { IsNextMessage held.old held.new (S.told source.old) (S.told source.new) result }
+
+    // It reads only where what is held is neither a whole message nor refused.
+    ensures needed { (S.told source.new ≡ S.told source.old) ⊎ IsOpen held.old }
+    ensures lines { IfOk result (λ found. IfSome found HasOneLineParts) }
+    ensures counts { CountsReadFault result (S.faults source.old) (S.faults source.new) }
+    ensures bound { length held.new ≤ 81920 }
+{
+    let mut ended = false;
+    loop {
+        let want = match take_next(alloc, held, ended) {
+            Ok(Progress::Whole(message)) => return Ok(Some(message)),
+            Ok(Progress::End) => return Ok(None),
+            Ok(Progress::Unfinished(want)) => want,
+            Err(fault) => return Err(fault),
+        };
+        match read_on(source, held, want) {
+            Arrival::More => {}
+            Arrival::End => ended = true,
+            Arrival::Failed => return Err(EdgeFault::ReadFault),
+            Arrival::Memory => return Err(EdgeFault::OutOfMemory),
+        }
+    }
+}

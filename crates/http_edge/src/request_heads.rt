@@ -1,0 +1,178 @@
+//! The head of a request at the front of bytes.
+ghost use Rattle.std.specs.Prelude.{◌≡◌, ◌≤◌, ◌==◌, [], length, vec_len, fold, IfOk, IfSome, IfNone};
+ghost use Rattle.httparse.specs.Spans.{RequestOverflows, RequestExceeds};
+ghost use Rattle.http_edge.specs.Steps.{next_place, next_line_place, IsLeadingHead, IsNoShortHead};
+
+use gnap_io::memory::Mem;
+use httparse::spans::{EMPTY_HEADER_SPAN, HeaderSpan, RequestSpans, parse_request};
+use httparse::{Error, Status, is_method_token};
+use std::alloc::Global;
+
+/// The most bytes of a head.
+pub(crate) const HEAD_LIMIT: usize = 16_384;
+
+/// The most fields of a head.
+pub(crate) const FIELD_LIMIT: usize = 64;
+
+// So many fields have room in 16,384 bytes, three bytes each.
+const ALL_FIELDS: usize = 5_462;
+
+/// What stands at the front of bytes.
+#[derive(Clone, Copy)]
+pub enum LeadingHead {
+    /// A head of at most 64 fields.
+    Head(RequestSpans),
+    /// A head of more fields.
+    ManyFields,
+    /// No head, whatever bytes follow.
+    Never,
+    /// That isn't decided.
+    Undecided,
+}
+
+fn next_place(place: u8, c: u8) -> u8
+    ensures { result ≡ next_place place c }
+{
+    match place {
+        3 => {
+            if c != b' ' && c != b'\r' && c != b'\n' {
+                3
+            } else {
+                4
+            }
+        }
+        2 => {
+            if is_method_token(c) {
+                2
+            } else if c == b' ' {
+                3
+            } else {
+                4
+            }
+        }
+        1 => { if c == b'\n' { 0 } else { 4 } }
+        0 => {
+            if c == b'\n' {
+                0
+            } else if c == b'\r' {
+                1
+            } else if is_method_token(c) {
+                2
+            } else {
+                4
+            }
+        }
+        _ => 4,
+    }
+}
+
+// The bytes end inside a request target.
+fn ends_in_target(bytes: &[u8]) -> bool
+    ensures { result ≡ (fold next_place 0 bytes.now == 3) }
+{
+    let mut place = 0;
+    for c in bytes {
+        place = next_place(place, *c);
+    }
+    place == 3
+}
+
+// What stands at the front, with room for so many fields. None says that it has more.
+fn leading_head_in(w: &[u8], room: &mut [HeaderSpan]) -> Option<LeadingHead>
+    ensures some { IfSome result (IsLeadingHead w.now room.new) }
+    ensures over { IfNone result (RequestOverflows (length room.old) w.now) }
+    ensures exceeds { IfNone result (RequestExceeds (length room.old) w.now) }
+{
+    match parse_request(w, room) {
+        Ok(Status::Complete(spans)) => Some(LeadingHead::Head(spans)),
+        Ok(Status::Partial) => Some(LeadingHead::Undecided),
+        Err(error) => match error {
+            Error::TooManyHeaders => None,
+            _ => {
+                if ends_in_target(w) {
+                    Some(LeadingHead::Undecided)
+                } else {
+                    Some(LeadingHead::Never)
+                }
+            }
+        },
+    }
+}
+
+fn large_room(alloc: Global) -> Result<Vec<HeaderSpan>, Mem>
+    ensures { IfOk result (λ room. vec_len room ≡ 5462) }
+{
+    let mut room = Vec::new(alloc);
+    match room.resize(ALL_FIELDS, EMPTY_HEADER_SPAN) {
+        Ok(()) => Ok(room),
+        Err(_) => Err(Mem),
+    }
+}
+
+// What stands at the front, where a head there has more than 64 fields.
+fn head_of_many_fields(alloc: Global, w: &[u8]) -> Result<LeadingHead, Mem>
+    requires over { RequestOverflows 64 w.now }
+    requires short { length w.now ≤ 16384 }
+    ensures front { IfOk result (IsLeadingHead w.now []) }
+    ensures no_head { IfOk result IsNoShortHead }
+{
+    let mut room = large_room(alloc)?;
+    match leading_head_in(w, room.as_mut_slice()) {
+        Some(LeadingHead::Head(_)) => Ok(LeadingHead::ManyFields),
+        Some(LeadingHead::ManyFields) => Ok(LeadingHead::ManyFields),
+        Some(LeadingHead::Never) => Ok(LeadingHead::Never),
+        Some(LeadingHead::Undecided) => Ok(LeadingHead::Undecided),
+        None => unreachable!(),
+    }
+}
+
+/// What stands at the front of at most 16,384 bytes. Where 64 fields or more are there, all that 16,384 bytes can have are given room, which takes
+/// memory: whether a head of so many is whole decides between a refusal and waiting.
+pub(crate) fn leading_head(
+    alloc: Global,
+    w: &[u8],
+    room: &mut [HeaderSpan],
+) -> Result<LeadingHead, Mem>
+    requires room { length room.old ≡ 64 }
+    requires short { length w.now ≤ 16384 }
+    ensures { IfOk result (IsLeadingHead w.now room.new) }
+{
+    match leading_head_in(w, room) {
+        Some(front) => Ok(front),
+        None => head_of_many_fields(alloc, w),
+    }
+}
+
+fn next_line_place(place: u8, c: u8) -> u8
+    ensures { result ≡ next_line_place place c }
+{
+    match place {
+        0 => { if c == b'\n' || c == b'\r' { 0 } else { 1 } }
+        1 => { if c == b'\n' { 2 } else { 1 } }
+        2 => {
+            if c == b'\n' {
+                4
+            } else if c == b'\r' {
+                3
+            } else {
+                1
+            }
+        }
+        3 => { if c == b'\n' { 4 } else { 1 } }
+        _ => 4,
+    }
+}
+
+/// The place behind an empty line that ends a head.
+pub(crate) const BEHIND_HEAD: u8 = 4;
+
+/// Where the bytes lead, from a place among lines.
+pub(crate) fn line_place(place: u8, bytes: &[u8]) -> u8
+    ensures { result ≡ fold next_line_place place bytes.now }
+{
+    let mut place = place;
+    for c in bytes {
+        place = next_line_place(place, *c);
+    }
+    place
+}

@@ -1,0 +1,2 @@
+pub mod WebUrls
+mod Published

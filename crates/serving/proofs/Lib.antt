@@ -1,0 +1,5 @@
+mod ConnectionLemmas
+mod MessageTurnLemmas
+mod WorkerLemmas
+mod Starting
+mod Ending

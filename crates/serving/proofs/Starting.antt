@@ -1,0 +1,102 @@
+-- Workers that are made one after another, and taken apart again.
+use Rattle.std.proofs.Common.{◌≡◌, ◌∙◌, ◌⊎◌, inl, inr, ⊎_elim, ℕ, zero, suc, ◌+◌, List, [], ◌∷◌, ◌++◌, map, length, refl, ap, sym, subst, arith, length-append, append_assoc}
+use Rattle.std.proofs.lemmas.List.{append-nil, length-map, map-append, nil_from_length}
+use mathlib.Core.Option.{some, some-injective, some-ne-none}
+use lib.ListN.{get_elem?}
+use Rattle.gnap_io.specs.Outside.{Served}
+use Rattle.gnap_io.specs.Gears.{Log, GearState}
+use Rattle.histories.specs.declared.entry.Entry.{Entry}
+use Rattle.histories.specs.Logs.{IsAccount}
+use Rattle.histories.specs.Turns.{Turn}
+use Rattle.histories.specs.Whole.{own_of, AllKeep}
+use Rattle.histories.proofs.WholeLemmas.{keep-append}
+use Rattle.serving.specs.Workers.{accounts_of}
+
+module _ {X : Type 0} where
+  pub at_middle : (xs : List X) (x : X) (ys : List X) → get_elem? (xs ++ x ∷ ys) (length xs) ≡ some x
+  at_middle [] x ys = refl
+  at_middle (z ∷ xs) x ys = at_middle xs x ys
+
+  pub at_end : (xs : List X) (a b : X) (k : ℕ) → get_elem? (xs ++ a ∷ []) k ≡ some b → (get_elem? xs k ≡ some b) ⊎ ((k ≡ length xs) × (a ≡ b))
+  at_end [] a b zero e = inr (refl, some-injective a b e)
+  at_end [] a b (suc k) e = absurd (some-ne-none b (sym e))
+  at_end (x ∷ xs) a b zero e = inl e
+  at_end (x ∷ xs) a b (suc k) e = ⊎_elim (λ p. inl p) (λ (p : (k ≡ length xs) × (a ≡ b)). inr (ap suc p.0, p.1)) (at_end xs a b k e)
+
+  -- what holds at each place of a list, and at the place behind it
+  pub each-next : (P : ℕ → X → Type 0) (xs : List X) (x : X) → ((k : ℕ) (y : X) → get_elem? xs k ≡ some y → P k y) → P (length xs) x
+      → (k : ℕ) (y : X) → get_elem? (xs ++ x ∷ []) k ≡ some y → P k y
+  each-next P xs x each next k y e = ⊎_elim
+      (λ (p : get_elem? xs k ≡ some y). each k y p)
+      (λ (p : (k ≡ length xs) × (x ≡ y)). subst (P k) p.1 (subst (λ j. P j x) (sym p.0) next))
+      (at_end xs x y k e)
+
+  pub one-again : (xs : List X) (x : X) (ys : List X) → (xs ++ x ∷ []) ++ ys ≡ xs ++ x ∷ ys
+  one-again xs x ys = append_assoc xs (x ∷ []) ys
+
+  -- the place of the next one of those that are left
+  pub next_at : (done rest rest_now whole : List X) (x : X) → done ++ rest ≡ whole → rest ≡ x ∷ rest_now → get_elem? whole (length done) ≡ some x
+  next_at done rest rest_now whole x parts next = ap (λ l. get_elem? l (length done)) (sym parts ∙ ap (λ l. done ++ l) next) ∙ at_middle done x rest_now
+
+  pub parts-next : (done rest rest_now whole : List X) (x : X) → done ++ rest ≡ whole → rest ≡ x ∷ rest_now → (done ++ x ∷ []) ++ rest_now ≡ whole
+  parts-next done rest rest_now whole x parts next = one-again done x rest_now ∙ ap (λ l. done ++ l) (sym next) ∙ parts
+
+  pub size-next : (done : List X) (x : X) → length (done ++ x ∷ []) ≡ length done + 1
+  size-next done x = length-append done (x ∷ [])
+
+-- there is a gear for each pass
+pub none_missing : {W P G S : Type 0} (gear : W → S) (state : G → S) (workers : List W) (rest gears : List G) (done more passes : List P) (pass : P)
+    → map gear workers ++ map state rest ≡ map state gears → length workers ≡ length done → done ++ pass ∷ more ≡ passes → length gears ≡ length passes
+    → length rest ≡ 0 → ⊥
+none_missing gear state workers rest gears done more passes pass made same parts many none =
+    let a = ap length made in
+    let b = length-append (map gear workers) (map state rest) in
+    let c = length-map workers gear in
+    let d = length-map rest state in
+    let e = length-map gears state in
+    let f = ap length parts in
+    let h = length-append done (pass ∷ more) in
+    omega (arith, a, b, c, d, e, f, h, same, many, none)
+
+pub made-next : {W G S : Type 0} (gear : W → S) (state : G → S) (workers : List W) (worker : W) (rest rest_now : List G) (g : G) (gears : List S)
+    → map gear workers ++ map state rest ≡ gears → rest ≡ g ∷ rest_now → gear worker ≡ state g
+    → map gear (workers ++ worker ∷ []) ++ map state rest_now ≡ gears
+made-next gear state workers worker rest rest_now g gears made next is =
+    ap (λ l. l ++ map state rest_now) (map-append gear workers (worker ∷ []))
+    ∙ one-again (map gear workers) (gear worker) (map state rest_now)
+    ∙ ap (λ s. map gear workers ++ s ∷ map state rest_now) is
+    ∙ ap (λ l. map gear workers ++ map state l) (sym next) ∙ made
+
+pub made-all : {W G S : Type 0} (gear : W → S) (state : G → S) (workers : List W) (rest : List G) (gears : List G) (n : ℕ)
+    → map gear workers ++ map state rest ≡ map state gears → length workers ≡ n → length gears ≡ n → map gear workers ≡ map state gears
+made-all gear state workers rest gears n made long many =
+    let a = ap length made in
+    let b = length-append (map gear workers) (map state rest) in
+    let c = length-map workers gear in
+    let d = length-map rest state in
+    let e = length-map gears state in
+    let none : rest ≡ [] = nil_from_length rest (omega (arith, a, b, c, d, e, long, many)) in
+    sym (append-nil (map gear workers)) ∙ ap (λ l. map gear workers ++ map state l) (sym none) ∙ made
+
+-- one more account
+pub accounts-next : {Message Call Reply Note : Type 0} (session : Served → List (Turn Message (Entry Call Reply Note)) → Type 0) (gears : List GearState) (gear : GearState)
+    (passes : List (List (Entry Call Reply Note))) (seen : List (Entry Call Reply Note)) (i : ℕ)
+    → AllKeep i (accounts_of session gears) passes → IsAccount session gear.log (own_of (i + length passes) seen)
+    → AllKeep i (accounts_of session (gears ++ gear ∷ [])) (passes ++ seen ∷ [])
+accounts-next session gears gear passes seen i keeps next =
+    subst (λ l. AllKeep i l (passes ++ seen ∷ [])) (sym (accounts-append gears)) (keep-append i (accounts_of session gears) passes (IsAccount session gear.log) seen keeps next)
+  where
+    accounts-append : (gs : List GearState) → accounts_of session (gs ++ gear ∷ []) ≡ accounts_of session gs ++ IsAccount session gear.log ∷ []
+    accounts-append [] = refl
+    accounts-append (g ∷ gs) = ap (λ l. IsAccount session g.log ∷ l) (accounts-append gs)
+
+pub account_as : {Message Rules Call Reply Note : Type 0} (session : Rules → Served → List (Turn Message (Entry Call Reply Note)) → Type 0)
+    (rules rules' : Rules) (log log' : Log) (n n' : ℕ) (seen : List (Entry Call Reply Note))
+    → rules ≡ rules' → log ≡ log' → n ≡ n' → IsAccount (session rules) log (own_of n seen) → IsAccount (session rules') log' (own_of n' seen)
+account_as session rules rules' log log' n n' seen same_rules same_log same account =
+    subst (λ r. IsAccount (session r) log' (own_of n' seen)) same_rules
+    (subst (λ l. IsAccount (session rules) l (own_of n' seen)) same_log
+    (subst (λ k. IsAccount (session rules) log (own_of k seen)) same account))
+
+pub map-next : {X Y : Type 0} (f : X → Y) (xs ys : List X) (x : X) → ys ≡ xs ++ x ∷ [] → map f ys ≡ map f xs ++ f x ∷ []
+map-next f xs ys x is = ap (map f) is ∙ map-append f xs (x ∷ [])

@@ -1,0 +1,57 @@
+use Rattle.std.proofs.Common.{◌≡◌, ◌∙◌, ◌+◌, ℕ, [], ◌∷◌, ◌++◌, length, map, ap, sym, subst, arith, All}
+use mathlib.Core.Option.{some}
+use lib.ListN.{get_elem?}
+use Rattle.std.specs.Vec.Iter.{into_iter_items}
+use Rattle.std.proofs.lemmas.List.{nil_from_length, map-append, append-nil, length-map}
+use Rattle.std.proofs.lemmas.List.Elements.{All-push}
+use Rattle.histories.specs.Whole.{AllKeep}
+use Rattle.shared_server.specs.Passes.{IsPassOf}
+use Rattle.serving.specs.Workers.{accounts_of}
+use Rattle.serving.proofs.Starting.{next_at, parts-next, size-next, each-next, accounts-next, account_as, map-next}
+use Rattle.serving.proofs.threads.end_workers.Goals as goal
+
+pub loop-worker-preserved : goal.loop-worker-preserved
+loop-worker-preserved g c =
+    let i = c.loop-worker.invariant in
+    let state = g.G.Counted.state in
+    let w = c.in-Some.worker in
+    let pass = c.leave-pass.result.0 in
+    let gear = c.leave-pass.result.1 in
+    let pushed = c.push_reserved.ensures.items in
+    let gears = c.push_reserved-in-loop-worker.ensures.items in
+    let at = next_at c.loop-worker.yielded _ _ _ w i.2 c.in-Some.ensures.steps.0 in
+    let placed = c.requires.workers.each (length c.loop-worker.yielded) w at in
+    let done = size-next c.loop-worker.yielded w in
+    let size = size-next c.loop-worker.passes.items pass in
+    let place : pass.number ≡ length c.loop-worker.passes.items = c.leave-pass.ensures.number ∙ placed.1 ∙ sym i.4 in
+    let session = g.F.Front.session in
+    let made = map-next state c.loop-worker.gears.items c.push_reserved-in-loop-worker.new.self.items gear gears in
+    let all_seen = map-next (λ p. p.seen) c.loop-worker.passes.items c.push_reserved.new.self.items pass pushed in
+    let account = account_as session w.station.home.rules c.args.shared.now.rules w.gear.log (state gear).log w.station.number
+    (0 + length (map (λ p. p.seen) c.loop-worker.passes.items)) pass.seen
+    (ap (λ h. h.rules) placed.0) (sym (ap (λ s. s.log) c.leave-pass.ensures.gear))
+    (let a = placed.1 in let b = i.4 in let d = length-map c.loop-worker.passes.items (λ p. p.seen) in omega (arith, a, b, d)) c.leave-pass.ensures.account in (
+      tt,
+      tt,
+      parts-next c.loop-worker.yielded _ _ _ w i.2 c.in-Some.ensures.steps.0,
+      made ∙ ap (λ l. l ++ state gear ∷ []) i.3 ∙ ap (λ s. map (λ worker. worker.gear) c.loop-worker.yielded ++ s ∷ []) c.leave-pass.ensures.gear
+          ∙ sym (map-append (λ worker. worker.gear) c.loop-worker.yielded (w ∷ [])),
+      (let a = ap length pushed in let b = i.4 in omega (arith, a, b, size, done)),
+      (let a = i.5 in let b = ap length c.in-Some.ensures.steps.0 in let d = c.push_reserved.ensures.capacity in omega (arith, a, b, d, done)),
+      (let a = i.6 in let b = ap length c.in-Some.ensures.steps.0 in let d = c.push_reserved-in-loop-worker.ensures.capacity in omega (arith, a, b, d, done)),
+      subst (λ l. (k : ℕ) (p : _) → get_elem? l k ≡ some p → IsPassOf c.args.shared.now p × (p.number ≡ k)) (sym pushed)
+          (each-next (λ k p. IsPassOf c.args.shared.now p × (p.number ≡ k)) c.loop-worker.passes.items pass i.7
+          (subst (λ h. IsPassOf h pass) placed.0 c.leave-pass.ensures.of, place)),
+      subst (All (λ g'. (state g').out ≡ 0)) (sym gears)
+          (All-push (λ g'. (state g').out ≡ 0) c.loop-worker.gears.items gear i.8 (ap (λ s. s.out) c.leave-pass.ensures.gear ∙ c.leave-pass.ensures.out)),
+      subst (λ l. AllKeep 0 (accounts_of (session c.args.shared.now.rules) l) (map (λ p. p.seen) c.push_reserved.new.self.items)) (sym made)
+          (subst (λ l. AllKeep 0 (accounts_of (session c.args.shared.now.rules) (map state c.loop-worker.gears.items ++ state gear ∷ [])) l) (sym all_seen)
+          (accounts-next (session c.args.shared.now.rules) (map state c.loop-worker.gears.items) (state gear) (map (λ p. p.seen) c.loop-worker.passes.items) pass.seen 0 i.9 account)),
+      (let a = c.in-Some.ensures.steps.1 in let b = ap length c.in-Some.ensures.steps.0 in let d = i.10 in omega (arith, a, b, d)),
+    )
+
+pub returns-clause-gears : goal.returns-clause-gears
+returns-clause-gears g c =
+    let i = c.loop-worker.invariant in
+    let none : into_iter_items c.loop-worker.worker-iterator ≡ [] = nil_from_length (into_iter_items c.loop-worker.worker-iterator) (sym i.10 ∙ c.in-None.ensures.steps.0) in
+    i.3 ∙ ap (map (λ worker. worker.gear)) (sym (append-nil c.loop-worker.yielded) ∙ ap (λ l. c.loop-worker.yielded ++ l) (sym none) ∙ i.2)

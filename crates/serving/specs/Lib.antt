@@ -1,0 +1,5 @@
+pub mod Connections
+pub mod Reading
+pub mod MessageSteps
+pub mod MessageTurns
+pub mod Workers
