@@ -115,7 +115,11 @@ fn reads_references_and_prints_them(rt: HostRuntime) -> Result<(), Fail> {
     }
     for (json, wrong) in [
         ("[\"\"]", true),
-        ("[{\"type\":\"t\"}]", true),
+        ("[{\"type\":\"t\",\"actions\":[\"a\"],\"x\":1}]", false),
+        ("[{\"type\":\"t\",\"actions\":[]}]", true),
+        ("[{\"type\":\"t\",\"privileges\":\"a\"}]", true),
+        ("[{\"type\":\"t\",\"identifier\":[\"a\"]}]", true),
+        ("[{\"actions\":[\"a\"]}]", true),
         ("[1]", true),
         ("\"photos\"", true),
         ("[]", false),

@@ -97,6 +97,10 @@ fn a_key_has_the_members_of_its_role(rt: HostRuntime) -> Result<(), Fail> {
         ("\"role\":\"client\",\"ask\":[\"a\"]", false),
         (
             "\"role\":\"client\",\"ask\":[{\"type\":\"t\"}],\"auto\":[]",
+            true,
+        ),
+        (
+            "\"role\":\"client\",\"ask\":[{\"type\":1}],\"auto\":[]",
             false,
         ),
         (

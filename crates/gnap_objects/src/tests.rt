@@ -56,22 +56,38 @@ fn a_grant_request_names_its_first_fault(rt: HostRuntime) -> Result<(), Fail> {
             "wrong access",
         ),
         (
-            "\"access_token\":{\"access\":[\"p\",{\"type\":\"t\"}]},\"client\":\"c1\"",
+            "\"access_token\":{\"access\":[\"p\",{\"type\":\"t\"}]},\"client\":{\"key\":\"c1\"}",
+            "ok",
+        ),
+        (
+            "\"access_token\":{\"access\":[\"p\",{\"type\":1}]},\"client\":\"c1\"",
             "wrong access",
         ),
         (
-            "\"access_token\":{\"access\":[\"p\"],\"flags\":[],\"label\":\"l\"}",
+            "\"access_token\":{\"access\":[\"p\"],\"flags\":1,\"label\":1}",
             "wrong label",
         ),
         (
-            "\"access_token\":{\"access\":[\"p\"],\"flags\":[]}",
+            "\"access_token\":{\"access\":[\"p\"],\"flags\":[1]}",
             "wrong flags",
+        ),
+        (
+            "\"access_token\":[{\"access\":[\"p\"],\"label\":\"a\"},{\"access\":[\"p\"]}]",
+            "missing label",
+        ),
+        (
+            "\"access_token\":[{\"access\":[\"p\"],\"label\":\"a\"},{\"access\":[\"p\"],\"label\":\"a\"}]",
+            "wrong label",
+        ),
+        (
+            "\"access_token\":{\"access\":[\"p\"],\"flags\":[\"x\",\"bearer\",\"x\"]},\"client\":\"c1\"",
+            "flag flags",
         ),
         ("\"subject\":{}", "wrong subject"),
         ("\"access_token\":{\"access\":[\"p\"]}", "missing client"),
         (
-            "\"access_token\":{\"access\":[\"p\"]},\"client\":{\"key\":\"c1\"}",
-            "wrong client",
+            "\"access_token\":{\"access\":[\"p\"]},\"client\":{\"id\":\"c1\"}",
+            "missing key",
         ),
         (
             "\"access_token\":{\"access\":[\"p\"]},\"client\":\"\"",
@@ -149,19 +165,20 @@ fn an_introspection_names_its_first_fault(rt: HostRuntime) -> Result<(), Fail> {
             "wrong access_token",
         ),
         (
-            "\"access_token\":\"v\",\"proof\":\"httpsig\"",
-            "wrong proof",
+            "\"access_token\":\"v\",\"proof\":\"bearer\",\"resource_server\":{\"key\":\"r1\"}",
+            "ok",
         ),
+        ("\"access_token\":\"v\",\"proof\":\"mtls\"", "wrong proof"),
         (
             "\"access\":[],\"access_token\":\"v\"",
             "missing resource_server",
         ),
         (
-            "\"access_token\":\"v\",\"resource_server\":{\"key\":\"r1\"}",
-            "wrong resource_server",
+            "\"access_token\":\"v\",\"resource_server\":{\"key\":1}",
+            "wrong key",
         ),
         (
-            "\"access\":[\"p\"],\"access_token\":\"v\",\"resource_server\":\"r1\"",
+            "\"access\":[],\"access_token\":\"v\",\"resource_server\":\"r1\"",
             "wrong access",
         ),
     ] {
