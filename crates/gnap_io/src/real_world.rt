@@ -32,7 +32,7 @@ pub struct RealWorld<
     faults: u64,
     lent: usize,
     files: Log<Stream<R::File>, ()>,
-    gears: Vec<RealGear<'a, R>>,
+    gears: Log<RealGear<'a, R>, ()>,
     link: Option<RealLink<'a, R>>,
     opened: Vec<Opening>,
 }
@@ -51,7 +51,7 @@ impl<
             faults: 0,
             lent: 0,
             files: Log::new(),
-            gears: Vec::new(alloc),
+            gears: Log::new(),
             link: None,
             opened: Vec::new(alloc),
         }
@@ -76,7 +76,7 @@ impl<
       faults = world.faults;
       lent = world.lent;
       files = map (λ pair. served_of (⟦<Stream<R::File> as Device>⟧.told pair.0) (⟦<Stream<R::File> as Device>⟧.faults pair.0)) world.files.items;
-      gears = map ⟦<RealGear<'a, R> as Counted>⟧.state world.gears.items;
+      gears = map (λ pair. ⟦<RealGear<'a, R> as Counted>⟧.state pair.0) world.gears.items;
       link = option_map ⟦<RealLink<'a, R> as Link>⟧.link world.link;
       opened = world.opened.items;
     } };
@@ -136,7 +136,11 @@ impl<
         ensures state { ⟦<RealWorld<'a, R> as World>⟧.state self.new
             ≡ with_gears (map ⟦<RealGear<'a, R> as Counted>⟧.state gears.entry.items) (⟦<RealWorld<'a, R> as World>⟧.state self.old) }
     {
-        self.gears = gears;
+        let mut taken_back = Log::new();
+        for gear in &gears {
+            taken_back = taken_back.and(gear, &());
+        }
+        self.gears = taken_back;
     }
 
     fn open_link(&mut self, address: &Bytes) -> Result<RealLink<'a, R>, WorldFault> {
