@@ -1,5 +1,6 @@
 -- Bare items and keys.
 use Rattle.std.proofs.Common.{◌≡◌, ℕ, suc, ◌+◌, ◌≤◌, ◌==◌, Bool, true, false, cond, ◌||◌, inl, inr, List, [], ◌∷◌, ◌++◌, length, drop, Option, Some, None, refl, sym, ap, subst, ◌∙◌, arith, append_assoc, ℤ}
+use Rattle.std.proofs.lemmas.Bool.{and_parts}
 use Rattle.std.specs.Option.{option_map}
 use Rattle.std.specs.List.{prefix_len, list_all, flat_map}
 use Rattle.std.proofs.lemmas.Bool.Decides.{nat_tests}
@@ -12,7 +13,7 @@ use Rattle.structured_fields.specs.declared.bare.Bare.TheVariants.{Integer, Deci
 use Rattle.structured_fields.specs.Letters.{is_digit, is_letter, is_key_start, is_key_byte, is_key, is_token_start, is_token_byte, is_token, sign}
 use Rattle.structured_fields.specs.Grammar.{IsBare, IsInteger, IsDecimal, IsString, IsBinary, boolean_text, in_string}
 use Rattle.structured_fields.specs.Reading.{front, behind, begins, is_not_colon, key_at, string_rest, decoded, binary_rest, boolean_rest, number_at, bare_at}
-use Rattle.structured_fields.proofs.Fronts.{front_again, behind_again, parts, chosen, given, both, some_is, begun, ends, stops}
+use Rattle.structured_fields.proofs.Fronts.{front_again, behind_again, parts, chosen, given, some_is, begun, ends, stops}
 use Rattle.structured_fields.proofs.Runs.{front_all}
 use Rattle.structured_fields.proofs.Numbers.{TakesBare, number_takes, integer_again, decimal_text_again, first_digit}
 use Rattle.structured_fields.proofs.Base64.{padded_again, bare_again, decoded_takes, no_colon}
@@ -57,7 +58,7 @@ pub key_again : (name rest : List ℕ) → is_key name ≡ true → stops is_key
 unfolding key_at
 key_again [] rest key stop = absurd cc
 key_again (c ∷ name) rest key stop =
-    let b = both (is_key_start c) (list_all is_key_byte name) key in
+    let b = and_parts (is_key_start c) (list_all is_key_byte name) key in
     let all : list_all is_key_byte (c ∷ name) ≡ true = rw (start_is_key c b.0, b.1) refl in
     let at = front_again is_key_byte (c ∷ name) rest all stop in
     let left = behind_again is_key_byte (c ∷ name) rest all stop in
@@ -197,7 +198,7 @@ token_text : (s rest : List ℕ) → is_token s ≡ true → ends rest ≡ true 
 unfolding bare_at
 token_text [] rest token e = absurd cc
 token_text (c ∷ s) rest token e =
-    let b = both (is_token_start c) (list_all is_token_byte s) token in
+    let b = and_parts (is_token_start c) (list_all is_token_byte s) token in
     let f = token_first c b.0 in
     let all : list_all is_token_byte (c ∷ s) ≡ true = rw (token_start_is c b.0, b.1) refl in
     let at = front_again is_token_byte (c ∷ s) rest all e in

@@ -1,5 +1,6 @@
 -- Base64 between colons.
 use Rattle.std.proofs.Common.{◌≡◌, ℕ, zero, suc, ◌+◌, ◌<◌, ◌*◌, ◌/◌, ◌%◌, Bool, true, false, cond, List, [], ◌∷◌, length, get_or, replicate, Option, Some, None, Result, Ok, Err, refl, sym, ap, subst, ◌∙◌, arith}
+use Rattle.std.proofs.lemmas.Bool.{and_parts}
 use Rattle.std.specs.List.{list_all}
 use Rattle.std.specs.Result.{result_ok}
 use Rattle.std.proofs.lemmas.Bool.Decides.{nat_tests}
@@ -11,7 +12,7 @@ use Rattle.base64.specs.GeneralPurpose.{encode_of, decode_of, decoded_of, decode
 use Rattle.base64.specs.Engines.{standard, standard_no_pad}
 use Rattle.base64.proofs.EngineFacts.{decode_of-encode_of, decode_of_strict}
 use Rattle.structured_fields.specs.Reading.{is_byte, only_bytes, or_some, decoded, is_not_colon}
-use Rattle.structured_fields.proofs.Fronts.{both, given, some_is}
+use Rattle.structured_fields.proofs.Fronts.{given, some_is}
 
 pub bytes_pass : (b : List ℕ) → IsBytes b → list_all is_byte b ≡ true
 bytes_pass [] h = refl
@@ -22,8 +23,8 @@ bytes_pass (c ∷ b) h =
 
 pub pass_bytes : (b : List ℕ) → list_all is_byte b ≡ true → IsBytes b
 pass_bytes [] e i = omega arith
-pass_bytes (c ∷ b) e zero = let t = (both (is_byte c) (list_all is_byte b) e).0 in grind (arith, nat_tests, t)
-pass_bytes (c ∷ b) e (suc i) = pass_bytes b (both (is_byte c) (list_all is_byte b) e).1 i
+pass_bytes (c ∷ b) e zero = let t = (and_parts (is_byte c) (list_all is_byte b) e).0 in grind (arith, nat_tests, t)
+pass_bytes (c ∷ b) e (suc i) = pass_bytes b (and_parts (is_byte c) (list_all is_byte b) e).1 i
 
 pub only_bytes_some : (b : List ℕ) → IsBytes b → only_bytes (Some b) ≡ Some b
 only_bytes_some b h = rw (bytes_pass b h) refl
@@ -91,8 +92,8 @@ decoded_takes s b fits e =
 
 table_passes : (p : ℕ → Bool) (t : List ℕ) → list_all p t ≡ true → p 0 ≡ true → (k : ℕ) → p (get_or t k 0) ≡ true
 table_passes p [] all none k = none
-table_passes p (c ∷ t) all none zero = (both (p c) (list_all p t) all).0
-table_passes p (c ∷ t) all none (suc k) = table_passes p t (both (p c) (list_all p t) all).1 none k
+table_passes p (c ∷ t) all none zero = (and_parts (p c) (list_all p t) all).0
+table_passes p (c ∷ t) all none (suc k) = table_passes p t (and_parts (p c) (list_all p t) all).1 none k
 
 symbols_pass : (p : ℕ → Bool) (t m : List ℕ) → ((k : ℕ) → p (get_or t k 0) ≡ true) → list_all p (encode_symbols t m) ≡ true
 unfolding encode_symbols

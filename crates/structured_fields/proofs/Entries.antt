@@ -1,52 +1,10 @@
--- What a map of copied keys shows, as a list under names.
+-- Entries under names: what is set, what stands at a name, and that names stay distinct.
 use Rattle.std.proofs.Common.{◌≡◌, ℕ, zero, suc, ◌+◌, Bool, true, false, cond, List, [], ◌∷◌, ◌++◌, take, fold, slice_get, Some, None, refl, sym, ap, subst, ◌∙◌, arith, append_assoc, true≢false}
 use Rattle.std.specs.Str.{bytes_eq}
-use Rattle.std.specs.Global.{Vec}
-use Rattle.std.specs.Option.{option_map}
 use Rattle.std.specs.List.{AllByRecursion}
 use Rattle.std.proofs.lemmas.List.{append-nil}
-use Rattle.std.specs.Map.{lookup}
 use Rattle.std.proofs.lemmas.Slice.Eq.{bytes_eq-Decides}
-use Rattle.indexmap.specs.IndexMap.{insert_entry}
-use Rattle.structured_fields.specs.Named.{value_at, with_value, IsDistinct, named, AreKeyed}
-
-abbrev pub key_eq : Vec ℕ → Vec ℕ → Bool
-key_eq a b = bytes_eq a.items b.items
-
-abbrev pub Kept : Type 0 → Type 0
-Kept V = List (Vec ℕ × (List ℕ × V))
-
-module _ {V : Type 0} where
-  pub found : (q : List ℕ) (es : Kept V) → AreKeyed es → value_at (named es) q ≡ option_map (λ p. p.1) (lookup (λ k. bytes_eq q k.items) es)
-  found q [] h = refl
-  found q (e ∷ es) h =
-      subst (λ (m : List ℕ). cond (bytes_eq q m) (Some e.1.1) (value_at (named es) q) ≡ option_map (λ p. p.1) (cond (bytes_eq q e.0.items) (Some e.1) (lookup (λ k. bytes_eq q k.items) es))) h.0 (by (bytes_eq q e.0.items) (found q es h.1))
-    where
-      by : (b : Bool) → value_at (named es) q ≡ option_map (λ p. p.1) (lookup (λ k. bytes_eq q k.items) es)
-          → cond b (Some e.1.1) (value_at (named es) q) ≡ option_map (λ p. p.1) (cond b (Some e.1) (lookup (λ k. bytes_eq q k.items) es))
-      by true r = refl
-      by false r = r
-
-  pub keyed_insert : (es : Kept V) (k : Vec ℕ) (n : List ℕ) (v : V) → k.items ≡ n → AreKeyed es → AreKeyed (insert_entry key_eq es k (n, v))
-  keyed_insert [] k n v e h = (e, tt)
-  keyed_insert (x ∷ es) k n v e h = by (bytes_eq k.items x.0.items) refl (keyed_insert es k n v e h.1)
-    where
-      by : (b : Bool) → bytes_eq k.items x.0.items ≡ b → AreKeyed (insert_entry key_eq es k (n, v)) → AreKeyed (cond b ((x.0, (n, v)) ∷ es) (x ∷ insert_entry key_eq es k (n, v)))
-      by true t r = (sym ((bytes_eq-Decides k.items x.0.items).0 t) ∙ e, h.1)
-      by false t r = (h.0, r)
-
-  pub named_insert : (es : Kept V) (k : Vec ℕ) (v : V) → AreKeyed es → named (insert_entry key_eq es k (k.items, v)) ≡ with_value (named es) k.items v
-  named_insert [] k v h = refl
-  named_insert (x ∷ es) k v h =
-      subst (λ (m : List ℕ). named (cond (bytes_eq k.items x.0.items) ((x.0, (k.items, v)) ∷ es) (x ∷ insert_entry key_eq es k (k.items, v))) ≡ cond (bytes_eq k.items m) ((m, v) ∷ named es) (x.1 ∷ with_value (named es) k.items v)) h.0 (by (bytes_eq k.items x.0.items) refl (named_insert es k v h.1))
-    where
-      by : (b : Bool) → bytes_eq k.items x.0.items ≡ b → named (insert_entry key_eq es k (k.items, v)) ≡ with_value (named es) k.items v
-          → named (cond b ((x.0, (k.items, v)) ∷ es) (x ∷ insert_entry key_eq es k (k.items, v))) ≡ cond b ((x.0.items, v) ∷ named es) (x.1 ∷ with_value (named es) k.items v)
-      by true t r = ap (λ (m : List ℕ). (m, v) ∷ named es) ((bytes_eq-Decides k.items x.0.items).0 t)
-      by false t r = ap (λ r. x.1 ∷ r) r
-
-  pub named_insert_as : (es : Kept V) (k : Vec ℕ) (n : List ℕ) (v : V) → k.items ≡ n → AreKeyed es → named (insert_entry key_eq es k (n, v)) ≡ with_value (named es) n v
-  named_insert_as es k n v e h = subst (λ (m : List ℕ). named (insert_entry key_eq es k (m, v)) ≡ with_value (named es) m v) e (named_insert es k v h)
+use Rattle.structured_fields.specs.Named.{value_at, with_value, IsDistinct}
 
 pub turned : (a b : List ℕ) → bytes_eq a b ≡ false → bytes_eq b a ≡ false
 turned a b h = by (bytes_eq b a) refl

@@ -1,8 +1,9 @@
 -- The front of a text that passes a test, and what is read behind it.
-use Rattle.std.proofs.Common.{◌≡◌, ℕ, suc, ◌+◌, ◌==◌, Bool, true, false, not, cond, ◌&&◌, ◌||◌, ◌⊎◌, inl, inr, List, [], ◌∷◌, ◌++◌, length, drop, Option, Some, None, refl, sym, ap, ◌∙◌, arith, true≢false}
+use Rattle.std.proofs.Common.{◌≡◌, ℕ, suc, ◌+◌, ◌-◌, ◌≤◌, ◌==◌, Bool, true, false, not, cond, ◌&&◌, ◌||◌, ◌⊎◌, inl, inr, List, [], ◌∷◌, ◌++◌, length, take, drop, reverse, Option, Some, None, refl, sym, ap, ◌∙◌, arith, true≢false}
 use Rattle.std.specs.Prelude.{codes, nat_le}
 use Rattle.std.specs.List.{prefix_len, list_all, list_any}
-use Rattle.std.proofs.lemmas.List.{take_at, drop_at, take-append-drop}
+use Rattle.std.proofs.lemmas.List.{length-reverse, length-drop, reverse-append, reverse-reverse, take_at, drop_at, take-append-drop}
+use Rattle.std.proofs.lemmas.Bool.{or_parts, not-true, not_from_false}
 use Rattle.std.proofs.lemmas.Bool.Decides.{nat_tests}
 use Rattle.structured_fields.specs.Letters.{is_digit, is_lower, is_letter, is_token_byte, is_key_byte}
 use Rattle.structured_fields.specs.Reading.{front, behind, begins}
@@ -44,11 +45,6 @@ pub given : {A : Type 0} (b : Bool) (x : Option A) (z : A) → cond b x None ≡
 given true x z e = (refl, e)
 given false x z e = absurd cc
 
-pub both : (a b : Bool) → (a && b) ≡ true → (a ≡ true) × (b ≡ true)
-both true true e = (refl, refl)
-both true false e = absurd cc
-both false b e = absurd cc
-
 abbrev some : {A : Type 0} → A → Option A
 some x = Some x
 
@@ -64,19 +60,6 @@ begun c (b ∷ t) e = let k : b ≡ c = grind (arith, nat_tests) in ap (λ (d : 
 abbrev pub ends : List ℕ → Bool
 ends rest = stops is_token_byte rest
 
-pub neither : (a b : Bool) → (a || b) ≡ false → (a ≡ false) × (b ≡ false)
-neither false false e = (refl, refl)
-neither false true e = absurd cc
-neither true b e = absurd cc
-
-pub passes : (b : Bool) → not b ≡ true → b ≡ false
-passes false e = refl
-passes true e = absurd cc
-
-pub fails : (b : Bool) → b ≡ false → not b ≡ true
-fails false e = refl
-fails true e = absurd cc
-
 -- a byte outside a class isn't one of the class
 pub apart : (p : ℕ → Bool) (c k : ℕ) → p c ≡ false → p k ≡ true → (c == k) ≡ false
 apart p c k out within = by (c == k) refl
@@ -86,22 +69,31 @@ apart p c k out within = by (c == k) refl
     by true e = let k : c ≡ k = grind (arith, nat_tests) in absurd (true≢false (sym within ∙ sym (ap p k) ∙ out))
 
 pub digit_is_token : (c : ℕ) → is_token_byte c ≡ false → is_digit c ≡ false
-digit_is_token c h = (neither (is_letter c) (is_digit c) (neither (is_letter c || is_digit c) (list_any (λ k. c == k) (codes "!#$%&'*+-.^_`|~:/")) h).0).1
+digit_is_token c h = (or_parts (is_letter c) (is_digit c) (or_parts (is_letter c || is_digit c) (list_any (λ k. c == k) (codes "!#$%&'*+-.^_`|~:/")) h).0).1
 
 pub lower_is_token : (c : ℕ) → is_token_byte c ≡ false → is_lower c ≡ false
-lower_is_token c h = (neither (is_lower c) (nat_le 65 c && nat_le c 90) (neither (is_letter c) (is_digit c) (neither (is_letter c || is_digit c) (list_any (λ k. c == k) (codes "!#$%&'*+-.^_`|~:/")) h).0).0).0
+lower_is_token c h = (or_parts (is_lower c) (nat_le 65 c && nat_le c 90) (or_parts (is_letter c) (is_digit c) (or_parts (is_letter c || is_digit c) (list_any (λ k. c == k) (codes "!#$%&'*+-.^_`|~:/")) h).0).0).0
 
 pub key_is_token : (c : ℕ) → is_token_byte c ≡ false → is_key_byte c ≡ false
 key_is_token c h = rw (lower_is_token c h, digit_is_token c h, apart is_token_byte c 42 h refl, apart is_token_byte c 95 h refl, apart is_token_byte c 45 h refl, apart is_token_byte c 46 h refl) refl
 
 pub ends_digit : (rest : List ℕ) → ends rest ≡ true → stops is_digit rest ≡ true
 ends_digit [] h = refl
-ends_digit (c ∷ rest) h = fails (is_digit c) (digit_is_token c (passes (is_token_byte c) h))
+ends_digit (c ∷ rest) h = not_from_false (is_digit c) (digit_is_token c (not-true (is_token_byte c) h))
 
 pub ends_key : (rest : List ℕ) → ends rest ≡ true → stops is_key_byte rest ≡ true
 ends_key [] h = refl
-ends_key (c ∷ rest) h = fails (is_key_byte c) (key_is_token c (passes (is_token_byte c) h))
+ends_key (c ∷ rest) h = not_from_false (is_key_byte c) (key_is_token c (not-true (is_token_byte c) h))
 
 pub ends_point : (rest : List ℕ) → ends rest ≡ true → begins 46 rest ≡ false
 ends_point [] h = refl
-ends_point (c ∷ rest) h = apart is_token_byte c 46 (passes (is_token_byte c) h) refl
+ends_point (c ∷ rest) h = apart is_token_byte c 46 (not-true (is_token_byte c) h) refl
+
+-- what is dropped from the end, by the list turned round and by its length
+pub dropped_back : {X : Type 0} (n : ℕ) (xs : List X) → n ≤ length xs → take (length xs - n) xs ≡ reverse (drop n (reverse xs))
+dropped_back n xs h =
+    let parts : xs ≡ reverse (drop n (reverse xs)) ++ reverse (take n (reverse xs)) =
+    sym (reverse-reverse xs) ∙ sym (ap reverse (take-append-drop n (reverse xs))) ∙ reverse-append (take n (reverse xs)) (drop n (reverse xs)) in
+    let len : length (reverse (drop n (reverse xs))) ≡ length xs - n =
+    length-reverse (drop n (reverse xs)) ∙ length-drop n (reverse xs) ∙ ap (λ (k : ℕ). k - n) (length-reverse xs) in
+    ap (take (length xs - n)) parts ∙ take_at (reverse (drop n (reverse xs))) (reverse (take n (reverse xs))) (length xs - n) len

@@ -3,7 +3,7 @@ use Rattle.std.proofs.Common.{◌≡◌, ℕ, zero, suc, ◌+◌, ◌≤◌, ◌
 use Rattle.std.specs.List.{prefix_len, list_all, list_any}
 use Rattle.std.proofs.lemmas.Bool.Decides.{nat_tests}
 use Rattle.std.proofs.lemmas.List.{length-append}
-use Rattle.std.proofs.lemmas.Bool.{eqb-true}
+use Rattle.std.proofs.lemmas.Bool.{eqb-true, and_parts, not-true, not_from_false, or_cases}
 use Rattle.std.proofs.lemmas.List.Folds.{length-prefix_len}
 use Rattle.base64.specs.GeneralPurpose.{IsBytes}
 use Rattle.structured_fields.specs.Named.{with_value}
@@ -13,7 +13,7 @@ use Rattle.structured_fields.specs.declared.item.Item.{Item}
 use Rattle.structured_fields.specs.Letters.{is_space, is_key, is_key_start, is_token_byte, is_key_byte}
 use Rattle.structured_fields.specs.Grammar.{IsValue, IsGroup, AreGroups, AreParams, IsItem}
 use Rattle.structured_fields.specs.Reading.{◌>>=◌, front, behind, begins, key_at, bare_at, value_of, group_at, params_from, params_at, item_at}
-use Rattle.structured_fields.proofs.Fronts.{behind_again, parts, chosen, both, passes, fails, some_is, begun, ends, ends_key, stops}
+use Rattle.structured_fields.proofs.Fronts.{behind_again, parts, chosen, some_is, begun, ends, ends_key, stops}
 use Rattle.structured_fields.proofs.Runs.{front_all}
 use Rattle.structured_fields.proofs.Entries.{over}
 use Rattle.structured_fields.proofs.Bares.{rest_bytes, key_takes, key_again, bare_takes, bare_text_again}
@@ -27,7 +27,7 @@ bind_some None f y e = absurd cc
 pub spaces_are : (t : List ℕ) → list_all is_space t ≡ true → t ≡ replicate (length t) 32
 spaces_are [] e = refl
 spaces_are (c ∷ t) e =
-    let b = both (c == 32) (list_all is_space t) e in
+    let b = and_parts (c == 32) (list_all is_space t) e in
     let k : c ≡ 32 = let h = b.0 in grind (arith, nat_tests, h) in
     λ i. k i ∷ spaces_are t b.1 i
 
@@ -54,15 +54,11 @@ abbrev pub first_is : (ℕ → Bool) → List ℕ → Bool
 first_is p [] = true
 first_is p (c ∷ t) = p c
 
-either_true : (a b : Bool) → (a || b) ≡ true → (a ≡ true) ⊎ (b ≡ true)
-either_true true b e = inl refl
-either_true false b e = inr e
-
 pub any_holds : (q : ℕ → Bool) (c : ℕ) (ks : List ℕ) → list_any (λ k. c == k) ks ≡ true → list_all q ks ≡ true → q c ≡ true
 any_holds q c [] e all = absurd cc
 any_holds q c (k ∷ ks) e all =
-    let b = both (q k) (list_all q ks) all in
-    elim (either_true (c == k) (list_any (λ k. c == k) ks) e) [
+    let b = and_parts (q k) (list_all q ks) all in
+    elim (or_cases (c == k) (list_any (λ k. c == k) ks) e) [
       | inl h ↦ let same : c ≡ k = eqb-true c k h in ap q same ∙ b.0
       | inr h ↦ any_holds q c ks h b.1
     ]
@@ -73,7 +69,7 @@ follows_ends (c ∷ t) h = any_holds (λ k. not (is_token_byte k)) c (32 ∷ 9 �
 
 pub follows_no_value : (t : List ℕ) → first_is is_end t ≡ true → begins 61 t ≡ false
 follows_no_value [] h = refl
-follows_no_value (c ∷ t) h = passes (c == 61) (any_holds (λ k. not (k == 61)) c (32 ∷ 9 ∷ 44 ∷ 41 ∷ 59 ∷ []) h refl)
+follows_no_value (c ∷ t) h = not-true (c == 61) (any_holds (λ k. not (k == 61)) c (32 ∷ 9 ∷ 44 ∷ 41 ∷ 59 ∷ []) h refl)
 
 pub closes_follows : (t : List ℕ) → first_is is_close t ≡ true → first_is is_end t ≡ true
 closes_follows [] h = refl
@@ -81,7 +77,7 @@ closes_follows (c ∷ t) h = any_holds is_end c (32 ∷ 9 ∷ 44 ∷ 41 ∷ []) 
 
 pub closes_no_group : (t : List ℕ) → first_is is_close t ≡ true → begins 59 t ≡ false
 closes_no_group [] h = refl
-closes_no_group (c ∷ t) h = passes (c == 59) (any_holds (λ k. not (k == 59)) c (32 ∷ 9 ∷ 44 ∷ 41 ∷ []) h refl)
+closes_no_group (c ∷ t) h = not-true (c == 59) (any_holds (λ k. not (k == 59)) c (32 ∷ 9 ∷ 44 ∷ 41 ∷ []) h refl)
 
 -- ---- values and groups
 
@@ -134,7 +130,7 @@ group_takes t x fits e =
 -- a key begins with no space
 key_no_space : (name rest : List ℕ) → is_key name ≡ true → stops is_space (name ++ rest) ≡ true
 key_no_space [] rest key = absurd cc
-key_no_space (c ∷ name) rest key = let h = (both (is_key_start c) (list_all is_key_byte name) key).0 in fails (c == 32) (grind (arith, nat_tests, h))
+key_no_space (c ∷ name) rest key = let h = (and_parts (is_key_start c) (list_all is_key_byte name) key).0 in not_from_false (c == 32) (grind (arith, nat_tests, h))
 
 -- what stands behind a key is no byte of a key
 value_ends : (text rest : List ℕ) (v : Bare) → IsValue text v → first_is is_end rest ≡ true → stops is_key_byte (text ++ rest) ≡ true

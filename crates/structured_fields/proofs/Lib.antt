@@ -1,4 +1,5 @@
 pub mod Entries
+pub mod Places
 pub mod Runs
 pub mod Fronts
 pub mod Numbers

@@ -3,7 +3,7 @@ use Rattle.std.proofs.Common.{◌≡◌, ℕ, zero, suc, ◌<◌, ◌==◌, true
 use Rattle.std.specs.Option.{option_map, option_map_or}
 use Rattle.std.specs.List.{list_all}
 use Rattle.std.proofs.lemmas.List.{append-nil, nil_from_length}
-use Rattle.std.proofs.lemmas.Bool.{eqb-true}
+use Rattle.std.proofs.lemmas.Bool.{eqb-true, and_parts}
 use Rattle.std.proofs.Math.Dec.{eqb-suc-zero}
 use Rattle.std.proofs.lemmas.Bool.Decides.{nat_tests}
 use Rattle.base64.specs.GeneralPurpose.{IsBytes}
@@ -16,7 +16,7 @@ use Rattle.structured_fields.specs.declared.item.Member.TheVariants.{Item as Sin
 use Rattle.structured_fields.specs.Letters.{is_ows, is_key, is_key_start, is_key_byte}
 use Rattle.structured_fields.specs.Grammar.{IsComma, AreSeparated, IsMember, IsGiven, IsBareTrue, IsEntry}
 use Rattle.structured_fields.specs.Reading.{◌>>=◌, front, behind, begins, key_at, params_at, item_at, inner_at, member_at, entry_value_at, entry_at, next_at, members_from}
-use Rattle.structured_fields.proofs.Fronts.{behind_again, parts, chosen, given, both, some_is, begun, ends_key, stops}
+use Rattle.structured_fields.proofs.Fronts.{behind_again, parts, chosen, given, some_is, begun, ends_key, stops}
 use Rattle.structured_fields.proofs.Runs.{front_all}
 use Rattle.structured_fields.proofs.Bares.{rest_bytes, mapped, key_takes, key_again}
 use Rattle.structured_fields.proofs.Items.{bind_some, is_close, first_is, follows_ends, follows_no_value, item_takes, item_again, params_at_takes, params_at_again, params_follow}
@@ -114,7 +114,7 @@ key_no_ows c h = grind (arith, nat_tests)
 
 pub key_opens : (name : List ℕ) → is_key name ≡ true → Opens (λ c. not (is_ows c)) name
 key_opens [] key = absurd cc
-key_opens (c ∷ name) key = record { first = c; others = name; is = refl; passes = key_no_ows c (both (is_key_start c) (list_all is_key_byte name) key).0 }
+key_opens (c ∷ name) key = record { first = c; others = name; is = refl; passes = key_no_ows c (and_parts (is_key_start c) (list_all is_key_byte name) key).0 }
 
 pub entry_opens : (text : List ℕ) (e : List ℕ × Member) → IsEntry text e → Opens (λ c. not (is_ows c)) text
 entry_opens text e i = subst (Opens (λ c. not (is_ows c))) (sym i.is) (opens_more (λ c. not (is_ows c)) e.0 i.rest (key_opens e.0 i.key))
@@ -126,11 +126,11 @@ ows_close c h = grind (arith, nat_tests)
 
 pub ows_closes : (tail : List ℕ) → list_all is_ows tail ≡ true → first_is is_close tail ≡ true
 ows_closes [] h = refl
-ows_closes (c ∷ tail) h = ows_close c (both (is_ows c) (list_all is_ows tail) h).0
+ows_closes (c ∷ tail) h = ows_close c (and_parts (is_ows c) (list_all is_ows tail) h).0
 
 comma_closes : (before rest : List ℕ) → list_all is_ows before ≡ true → first_is is_close (before ++ 44 ∷ rest) ≡ true
 comma_closes [] rest h = refl
-comma_closes (c ∷ before) rest h = ows_close c (both (is_ows c) (list_all is_ows before) h).0
+comma_closes (c ∷ before) rest h = ows_close c (and_parts (is_ows c) (list_all is_ows before) h).0
 
 no_next : (tail : List ℕ) → list_all is_ows tail ≡ true → next_at tail ≡ Some None
 unfolding next_at

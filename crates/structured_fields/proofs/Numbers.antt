@@ -1,5 +1,6 @@
 -- Numbers: what is read is a number's text, and a number's text is read.
 use Rattle.std.proofs.Common.{◌≡◌, ℕ, ◌≤◌, Bool, true, false, cond, ◌&&◌, inl, inr, List, [], ◌∷◌, ◌++◌, length, drop, Option, Some, None, refl, sym, ap, subst, ◌∙◌, arith, append_assoc, ℤ}
+use Rattle.std.proofs.lemmas.Bool.{and_parts}
 use Rattle.std.specs.List.{prefix_len, list_all}
 use Rattle.std.proofs.lemmas.Bool.Decides.{nat_tests}
 use Rattle.std.proofs.lemmas.List.Folds.{length-prefix_len}
@@ -9,7 +10,7 @@ use Rattle.structured_fields.specs.Letters.{is_digit, number, signed, sign}
 use Rattle.structured_fields.specs.Grammar.{AreDigits, IsInteger, IsDecimal, IsBare}
 use Rattle.structured_fields.specs.Reading.{front, behind, begins, within, thousandths, decimal_at, unsigned_at, number_at}
 use Rattle.structured_fields.proofs.Runs.{digits_all}
-use Rattle.structured_fields.proofs.Fronts.{run_again, front_again, behind_again, parts, chosen, given, both, some_is, begun, ends, ends_digit, ends_point}
+use Rattle.structured_fields.proofs.Fronts.{run_again, front_again, behind_again, parts, chosen, given, some_is, begun, ends, ends_digit, ends_point}
 
 within_is : (n most : ℕ) → 1 ≤ n → n ≤ most → within n most ≡ true
 within_is n most low high = grind (arith, nat_tests)
@@ -66,7 +67,7 @@ unfolding decimal_at
 decimal_takes negative whole t x all e =
     let y : Bare × List ℕ = (Decimal (signed negative (thousandths whole (front is_digit t))), behind is_digit t) in
     let g = given (within (length whole) 12 && within (prefix_len is_digit t) 3) (Some y) x e in
-    let w = both (within (length whole) 12) (within (prefix_len is_digit t) 3) g.0 in
+    let w = and_parts (within (length whole) 12) (within (prefix_len is_digit t) 3) g.0 in
     let a = within_bounds (length whole) 12 w.0 in
     let b = within_bounds (prefix_len is_digit t) 3 w.1 in
     let n : length (front is_digit t) ≡ prefix_len is_digit t = length-prefix_len is_digit t in
@@ -141,7 +142,7 @@ number_takes t x e =
 -- a digit comes first
 pub first_digit : (digits : List ℕ) → 1 ≤ length digits → list_all is_digit digits ≡ true → (c : ℕ) × (cs : List ℕ) × (digits ≡ c ∷ cs) × (is_digit c ≡ true)
 first_digit [] len all = absurd (omega arith)
-first_digit (c ∷ cs) len all = (c, cs, refl, (both (is_digit c) (list_all is_digit cs) all).0)
+first_digit (c ∷ cs) len all = (c, cs, refl, (and_parts (is_digit c) (list_all is_digit cs) all).0)
 
 digit_no_sign : (digits rest : List ℕ) → 1 ≤ length digits → list_all is_digit digits ≡ true → begins 45 (digits ++ rest) ≡ false
 digit_no_sign digits rest len all =

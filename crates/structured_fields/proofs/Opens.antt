@@ -1,5 +1,6 @@
 -- How texts of the grammar begin, and how many members a text can have.
 use Rattle.std.proofs.Common.{◌≡◌, ℕ, suc, ◌+◌, ◌≤◌, ◌==◌, Bool, true, false, not, ◌||◌, List, [], ◌∷◌, ◌++◌, length, Some, refl, sym, ap, subst, ◌∙◌, arith, true≢false}
+use Rattle.std.proofs.lemmas.Bool.{not-true, not_from_false, or_parts}
 use Rattle.std.specs.Prelude.{is_none}
 use Rattle.std.specs.List.{list_any}
 use Rattle.std.proofs.lemmas.Bool.Decides.{nat_tests}
@@ -9,7 +10,7 @@ use Rattle.structured_fields.specs.declared.item.Item.{Item}
 use Rattle.structured_fields.specs.Letters.{is_space}
 use Rattle.structured_fields.specs.Grammar.{IsBare, IsItem, AreFurther, AreSeparated}
 use Rattle.structured_fields.specs.Reading.{begins, number_at, unsigned_at, bare_at}
-use Rattle.structured_fields.proofs.Fronts.{fails, passes, stops, neither}
+use Rattle.structured_fields.proofs.Fronts.{stops}
 use Rattle.structured_fields.proofs.Bares.{bare_text_again}
 use Rattle.structured_fields.proofs.Items.{any_holds}
 
@@ -41,7 +42,7 @@ abbrev pub is_plain : ℕ → Bool
 is_plain c = not (list_any (λ k. c == k) (32 ∷ 9 ∷ 40 ∷ 41 ∷ []))
 
 pub plain_no_space : (c : ℕ) → is_plain c ≡ true → not (is_space c) ≡ true
-plain_no_space c h = fails (c == 32) (neither (c == 32) _ (passes _ h)).0
+plain_no_space c h = not_from_false (c == 32) (or_parts (c == 32) _ (not-true _ h)).0
 
 pub plain_no_ows : (c : ℕ) → is_plain c ≡ true → not ((c == 32) || (c == 9)) ≡ true
 plain_no_ows c h = grind (arith, nat_tests)

@@ -1,5 +1,6 @@
 -- Values of texts are in range.
 use Rattle.std.proofs.Common.{◌≡◌, ℕ, zero, suc, ◌+◌, ◌-◌, ◌*◌, ◌^◌, ◌≤◌, ◌<◌, Bool, true, false, ◌⊎◌, inl, inr, List, [], ◌∷◌, length, refl, sym, ap, subst, ◌∙◌, arith, ℤ, nat_abs, lit<}
+use Rattle.std.proofs.lemmas.Bool.{and_parts}
 use Rattle.std.specs.List.{list_all, AllByRecursion}
 use Rattle.std.proofs.Math.Nat.{pow-le-pow_right, pow-suc}
 use Rattle.std.proofs.lemmas.Bool.Decides.{nat_tests}
@@ -13,7 +14,6 @@ use Rattle.structured_fields.specs.Named.{IsDistinct}
 use Rattle.structured_fields.specs.Letters.{is_digit, is_key, number, number_after, signed}
 use Rattle.structured_fields.specs.Grammar.{AreDigits, IsInteger, IsDecimal, IsBare, IsValue, AreGroups, AreParams, IsItem, AreFurther, AreSeparated, IsInner, IsMember, IsGiven, IsBareTrue, IsEntry, IsItemText, IsListText, IsDictionaryText}
 use Rattle.structured_fields.specs.Canonical.{IsInRange, AreInRange, IsItemInRange, IsInnerInRange, IsMemberInRange, IsListInRange, IsDictionaryInRange}
-use Rattle.structured_fields.proofs.Fronts.{both}
 use Rattle.structured_fields.proofs.Entries.{distinct_over, all_over}
 
 -- ---- numbers
@@ -21,7 +21,7 @@ use Rattle.structured_fields.proofs.Entries.{distinct_over, all_over}
 bound_after : (ds : List ℕ) (i n : ℕ) → list_all is_digit ds ≡ true → n < 10 ^ i → number_after n ds < 10 ^ (i + length ds)
 bound_after [] i n all h = let e : i + 0 ≡ i = omega arith in rw e h
 bound_after (c ∷ ds) i n all h =
-    let b = both (is_digit c) (list_all is_digit ds) all in
+    let b = and_parts (is_digit c) (list_all is_digit ds) all in
     let digit : c - 48 ≤ 9 = let t = b.0 in grind (arith, nat_tests, t) in
     let step : 10 ^ suc i ≡ 10 ^ i * 10 = pow-suc 10 i in
     let more : 10 * n + (c - 48) < 10 ^ suc i = omega arith in

@@ -1,18 +1,19 @@
 -- Strings.
 use Rattle.std.proofs.Common.{◌≡◌, ℕ, ◌==◌, Bool, true, false, cond, inl, inr, List, [], ◌∷◌, ◌++◌, Option, Some, None, refl, sym, ap, subst, ◌∙◌, arith, append_assoc}
+use Rattle.std.proofs.lemmas.Bool.{and_parts, or_parts}
 use Rattle.std.specs.List.{list_all, flat_map}
 use Rattle.std.proofs.lemmas.Bool.Decides.{nat_tests}
 use Rattle.std.proofs.lemmas.List.Concat.{flat_map-cons}
 use Rattle.structured_fields.specs.Letters.{is_quoted, is_string_byte}
 use Rattle.structured_fields.specs.Grammar.{in_string}
 use Rattle.structured_fields.specs.Reading.{with_byte, string_rest}
-use Rattle.structured_fields.proofs.Fronts.{chosen, given, both, neither, some_is}
+use Rattle.structured_fields.proofs.Fronts.{chosen, given, some_is}
 
 pub string_again : (s rest : List ℕ) → list_all is_string_byte s ≡ true → string_rest false (flat_map in_string s ++ 34 ∷ rest) ≡ Some (s, rest)
 unfolding string_rest
 string_again [] rest all = refl
 string_again (c ∷ s) rest all =
-    let a = both (is_string_byte c) (list_all is_string_byte s) all in
+    let a = and_parts (is_string_byte c) (list_all is_string_byte s) all in
     let again = string_again s rest a.1 in
     let whole : flat_map in_string (c ∷ s) ++ 34 ∷ rest ≡ in_string c ++ (flat_map in_string s ++ 34 ∷ rest) = ap (λ (t : List ℕ). t ++ 34 ∷ rest) (flat_map-cons in_string c s) ∙ append_assoc (in_string c) (flat_map in_string s) (34 ∷ rest) in
     ap (string_rest false) whole ∙ by (is_quoted c) refl a.0 again
@@ -20,7 +21,7 @@ string_again (c ∷ s) rest all =
     by : (b : Bool) → is_quoted c ≡ b → is_string_byte c ≡ true → string_rest false (flat_map in_string s ++ 34 ∷ rest) ≡ Some (s, rest)
         → string_rest false (cond b (92 ∷ c ∷ []) (c ∷ []) ++ (flat_map in_string s ++ 34 ∷ rest)) ≡ Some (c ∷ s, rest)
     by true q plain again = rw (q, again) refl
-    by false q plain again = let n = neither (c == 34) (c == 92) q in rw (n.0, n.1, plain, again) refl
+    by false q plain again = let n = or_parts (c == 34) (c == 92) q in rw (n.0, n.1, plain, again) refl
 
 -- what with_byte gives
 pub byte_given : (c : ℕ) (r : Option (List ℕ × List ℕ)) (x : List ℕ × List ℕ) → with_byte c r ≡ Some x → (y : List ℕ × List ℕ) × (r ≡ Some y) × (x ≡ (c ∷ y.0, y.1))

@@ -1,6 +1,6 @@
 -- Reading from the front of a text: a value and what stands behind it (RFC 8941, section 4.2).
 -- Each reading has its laws with the relation of `Grammar`, in `Laws`.
-use Rattle.std.specs.Prelude.{◌≡◌, ℕ, zero, suc, ◌+◌, ◌-◌, ◌*◌, ◌^◌, ◌==◌, nat_le, nat_lt, Bool, true, false, not, if◌then◌else◌, ◌&&◌, ◌||◌, List, [], ◌∷◌, ◌++◌, length, take, drop, Option, Some, None, option_and_then, option_map, Result, Ok, Err}
+use Rattle.std.specs.Prelude.{◌≡◌, ℕ, zero, suc, ◌+◌, ◌-◌, ◌*◌, ◌^◌, ◌==◌, nat_le, nat_lt, Bool, true, false, not, if◌then◌else◌, ◌&&◌, ◌||◌, List, [], ◌∷◌, ◌++◌, length, take, drop, reverse, Option, Some, None, option_and_then, option_map, Result, Ok, Err}
 use Rattle.std.specs.Option.{option_map_or}
 use Rattle.std.specs.List.{prefix_len, list_all}
 use Rattle.base64.specs.GeneralPurpose.{decoded_of}
@@ -39,6 +39,10 @@ front p t = take (prefix_len p t) t
 
 abbrev pub behind : (ℕ → Bool) → List ℕ → List ℕ
 behind p t = drop (prefix_len p t) t
+
+-- the value of a field line: without SP and HTAB at both ends
+abbrev pub trimmed : List ℕ → List ℕ
+trimmed line = reverse (behind is_ows (reverse (behind is_ows line)))
 
 unfoldable pub key_at : List ℕ → Option (List ℕ × List ℕ)
 key_at [] = None

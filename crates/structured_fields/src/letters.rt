@@ -1,8 +1,8 @@
 //! The classes of bytes, and how far they run at the front of a text.
-ghost use Rattle.std.specs.Prelude.{◌≡◌, ◌≤◌, Bool, true, false, length, take, drop, MatchOption};
+ghost use Rattle.std.specs.Prelude.{◌≡◌, ◌≤◌, Bool, true, false, length, take, drop, reverse, MatchOption};
 ghost use Rattle.std.specs.List.{prefix_len, list_all};
 ghost use Rattle.structured_fields.specs.Letters.{is_space, is_ows, is_digit, is_key_start, is_key_byte, is_token_start, is_token_byte, is_string_byte, is_quoted};
-ghost use Rattle.structured_fields.specs.Reading.{front, behind, begins, is_not_colon};
+ghost use Rattle.structured_fields.specs.Reading.{front, behind, begins, is_not_colon, trimmed};
 
 pub(crate) fn is_key_start(c: u8) -> bool
     ensures { result ≡ is_key_start c }
@@ -108,6 +108,32 @@ pub(crate) fn without_ows(bytes: &[u8]) -> &[u8]
 {
     let (_, rest) = bytes.split_at(ows_run(bytes));
     rest
+}
+
+// How many SP and HTAB stand at the end.
+fn ows_run_back(bytes: &[u8]) -> usize
+    ensures len { result ≡ prefix_len is_ows (reverse bytes.now) }
+    ensures within { result ≤ length bytes.now }
+{
+    bytes
+        .iter()
+        .rev()
+        .take_while(|b| **b == b' ' || **b == b'\t')
+        .count()
+}
+
+#[tactic(auto, using(crate::proofs::Fronts::dropped_back))]
+fn without_ows_back(bytes: &[u8]) -> &[u8]
+    ensures { result.now ≡ reverse (behind is_ows (reverse bytes.now)) }
+{
+    &bytes[..bytes.len() - ows_run_back(bytes)]
+}
+
+/// The value of a field line without SP and HTAB at both ends (RFC 9110, section 5.5).
+pub fn trimmed(line: &[u8]) -> &[u8]
+    ensures { result.now ≡ trimmed line.now }
+{
+    without_ows_back(without_ows(line))
 }
 
 pub(crate) fn begins(c: u8, bytes: &[u8]) -> bool

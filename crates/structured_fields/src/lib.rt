@@ -5,7 +5,7 @@
 //! `item_of`, `list_of` and `dictionary_of` (`specs/Reading.antt`) say the same as functions, for contracts that compute with what a text holds.
 //!
 //! Two rules are this project's own: a byte sequence may stand without its padding, and one whose unused last bits aren't zero is refused. Want of memory is `OutOfMemory` or `Mem`, and changes nothing.
-//! Reading and writing take time in proportion to the text. Entries are found by a hash with a fixed seed, so keys that were chosen to collide can make a dictionary quadratic in its number of entries.
+//! Reading and writing take time in proportion to the text, and to the logarithm of the number of keys. Entries are found by a tree, so that no choice of keys makes reading slow.
 #![tactic(auto)]
 
 mod bare;
@@ -22,6 +22,7 @@ mod writing;
 pub use bare::Bare;
 pub use fault::FieldFault;
 pub use item::{Dictionary, InnerList, Item, Items, List, Member, Params};
+pub use letters::trimmed;
 pub use named::Named;
 pub use reading::{read_dictionary, read_item, read_list};
 pub use writing::{

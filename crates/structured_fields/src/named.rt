@@ -1,19 +1,23 @@
 //! Values under names, in order.
-ghost use Rattle.std.specs.Prelude.{◌≡◌, ◌<◌, [], Some, length, slice_get, OnOk, OnErr};
-ghost use Rattle.std.specs.Option.{option_copied};
-ghost use Rattle.structured_fields.specs.Named.{value_at, with_value, IsDistinct};
+ghost use Rattle.std.specs.Prelude.{◌≡◌, ◌<◌, ℕ, List, [], Some, length, slice_get, if◌then◌else◌, IfOk, OnOk, OnErr};
+ghost use Rattle.std.specs.Option.{option_copied, unwrap_or};
+ghost use Rattle.std.specs.Str.{bytes_eq};
+ghost use Rattle.structured_fields.specs.Named.{value_at, with_value, place_in, IsDistinct};
 
 use gnap_io::bytes::Bytes;
 use gnap_io::memory::{Duplicate, Mem};
 use indexmap::IndexMap;
 use std::alloc::Global;
+use std::collections::BTreeMap;
 use std::marker::Model;
 
 /// Values under distinct names, in the order in which the names came. Contracts see the list of names and values.
 #[derive(Drop)]
 pub struct Named<V: Drop> {
-    // A map finds a `Vec<u8>` by a slice, so each name stands twice: as the map's key, and as the `Bytes` that callers see.
-    map: IndexMap<Vec<u8>, (Bytes, V)>,
+    // The entries in order, each under its place.
+    map: IndexMap<usize, (Bytes, V)>,
+    // The place of each name. A tree finds it, since names come from others, who could choose such as collide under a hash.
+    places: BTreeMap<Vec<u8>, usize>,
 }
 
 impl<V: Drop> Model for Named<V> {
@@ -24,11 +28,30 @@ impl<V: Drop> Model for Named<V> {
 
     ghost coded = { coded_list (coded× (coded_list coded_ℕ) V.code) };
 
-    ghost use Rattle.structured_fields.specs.Named.{named, AreKeyed, IsDistinct};
+    ghost use Rattle.structured_fields.specs.Named.{named, ArePlaced, Finds, IsDistinct};
 
     ghost view = { λ p. named p.map.entries };
 
-    ghost invariant = { λ p. AreKeyed p.map.entries × IsDistinct (named p.map.entries) };
+    ghost invariant = { λ p. ArePlaced 0 p.map.entries × Finds p.places (named p.map.entries) × IsDistinct (named p.map.entries) };
+}
+
+// The place of a name in the tree, which is the next one where the name is new. An `Err` changes nothing.
+#[tactic(auto, using(crate::proofs::Places::place_there))]
+fn place_or(
+    alloc: Global,
+    places: &mut BTreeMap<Vec<u8>, usize>,
+    name: &[u8],
+    next: usize,
+) -> Result<usize, Mem>
+    ensures place { IfOk result (λ place. place ≡ unwrap_or (place_in places.old name.now) next) }
+    ensures finds { IfOk result (λ place. (q : List ℕ) → place_in places.new q ≡ (if bytes_eq q name.now then Some place else place_in places.old q)) }
+    ensures err { OnErr result (places.new.entries ≡ places.old.entries) }
+{
+    if let Some(place) = places.get(name) {
+        return Ok(*place);
+    }
+    places.insert(Vec::from_slice(alloc, name)?, next)?;
+    Ok(next)
 }
 
 impl<V: Drop> Named<V> {
@@ -37,6 +60,7 @@ impl<V: Drop> Named<V> {
     {
         Named {
             map: IndexMap::new(alloc),
+            places: BTreeMap::new(alloc),
         }
     }
 
@@ -59,10 +83,9 @@ impl<V: Drop> Named<V> {
     pub fn get(&self, name: &[u8]) -> Option<&V>
         ensures { option_copied result ≡ value_at self.now name.now }
     {
-        match self.map.get(name) {
-            Some(pair) => Some(&pair.1),
-            None => None,
-        }
+        let place = self.places.get(name)?;
+        let (_, value) = self.at(*place);
+        Some(value)
     }
 
     /// Puts the value under the name: in its place where the name is there, last where it isn't. An `Err` changes nothing.
@@ -70,9 +93,15 @@ impl<V: Drop> Named<V> {
         ensures ok { OnOk result (self.new ≡ with_value self.old name value) }
         ensures err { OnErr result (self.new ≡ self.old) }
     {
-        let key = Vec::from_slice(*self.map.allocator(), name.as_slice())?;
-        self.map.insert(key, (name, value))?;
-        Ok(())
+        // With room in the map nothing fails once the tree has the name.
+        self.map.reserve(1)?;
+        let alloc = *self.map.allocator();
+        let next = self.map.len();
+        let place = place_or(alloc, &mut self.places, name.as_slice(), next)?;
+        match self.map.insert(place, (name, value)) {
+            Ok(_) => Ok(()),
+            Err(_) => unreachable!(),
+        }
     }
 }
 

@@ -1,11 +1,18 @@
-use Rattle.std.proofs.Common.{sym, ap, ◌∙◌}
-use Rattle.std.specs.Option.{option_map, option_copied}
-use Rattle.structured_fields.specs.Named.{value_at}
-use Rattle.structured_fields.proofs.Entries.{found}
+use Rattle.std.proofs.Common.{ap, ◌∙◌}
+use Rattle.std.specs.Option.{option_copied}
+use Rattle.structured_fields.specs.Named.{named}
+use Rattle.structured_fields.proofs.Places.{found_within, found_value, found_none}
 use Rattle.structured_fields.proofs.named.Named.get.Goals as goal
 
-pub returns-in-Some : goal.returns-in-Some
-returns-in-Some g c = ap (option_map (λ p. p.1)) (sym (ap option_copied c.in-Some.is) ∙ c.get.ensures.value) ∙ sym (found c.args.name.now c.self.inside.map.entries c.self.invariant.0) ∙ ap (λ l. value_at l c.args.name.now) c.self.view_is
+pub at-requires : goal.at-requires
+at-requires g c = found_within c.self.inside.places (named c.self.inside.map.entries) c.args.self.now c.args.name.now c.self.invariant.1 c.self.view_is c.in_ok-place.place.now c.in_ok-place.ensures.value
 
-pub returns-in-None : goal.returns-in-None
-returns-in-None g c = ap (option_map (λ p. p.1)) (sym (ap option_copied c.in-None.is) ∙ c.get.ensures.value) ∙ sym (found c.args.name.now c.self.inside.map.entries c.self.invariant.0) ∙ ap (λ l. value_at l c.args.name.now) c.self.view_is
+pub returns : goal.returns
+returns g c =
+    found_value c.self.inside.places (named c.self.inside.map.entries) c.args.self.now c.args.name.now c.self.invariant.1 c.self.view_is c.in_ok-place.place.now c.in_ok-place.ensures.value
+    c.at.result.1.now c.at.result.0.now c.at.ensures
+
+pub returns-in_err-place : goal.returns-in_err-place
+returns-in_err-place g c =
+    ap option_copied c.from_residual.ensures
+    ∙ found_none c.self.inside.places (named c.self.inside.map.entries) c.args.self.now c.args.name.now c.self.invariant.1 c.self.view_is c.in_err-place.ensures.value
