@@ -72,9 +72,13 @@ impl Server for Bytewise {
 
     ghost text = { λ response. response };
 
+    ghost can_say = { λ reply. Unit {0} };
+
     ghost held_bytes = { λ held. held };
 
     ghost stays = { stays };
+
+    ghost says_all = { λ rules before e after legal. tt };
 
     fn hold_none(&self, alloc: Global) -> Bytes {
         Bytes::new(alloc)

@@ -5,12 +5,12 @@ use Rattle.std.proofs.lemmas.List.{append-nil}
 use Rattle.gnap_io.specs.Outside.{Told}
 use Rattle.gnap_io.specs.Gears.{GearState, with_moment, with_draw, with_uses}
 use Rattle.histories.specs.declared.entry.Entry.{Entry}
-use Rattle.histories.specs.History.{Law, entry_of}
+use Rattle.histories.specs.History.{Law, Legal, entry_of}
 use Rattle.histories.specs.Steps.{Enters, EntersLapse}
 use Rattle.histories.specs.Turns.{Turn, Face}
 use Rattle.histories.specs.Whole.{own_of}
 use Rattle.histories.proofs.OwnEntries.{own-next}
-use Rattle.serving.specs.MessageSteps.{IsStepOf}
+use Rattle.serving.specs.MessageSteps.{IsStepOf, SaysAllReplies}
 use Rattle.serving.specs.declared.message_step.MessageStep.{MessageStep}
 use Rattle.serving.specs.declared.message_step.MessageStep.TheVariants.{Say, Ask}
 use Rattle.serving.specs.declared.ends.AfterTurn.{AfterTurn}
@@ -98,3 +98,12 @@ module _ {R A B N Message : Type 0} (IsTurn : Bool → Turn Message (Entry A B N
         used = used_one g g1 g2 t d first second;
         written = written;
       }
+
+-- A desk whose histories are legal gives replies that can be said.
+pub entered_said : {R A B N : Type 0} (law : Law R A B N) (rules : R) (can_say : B → Type 0) (says : SaysAllReplies law can_say) (n : ℕ) (h : List (Entry A B N))
+    (t : ℕ) (d : List ℕ) (call : A) (reply : B) (seen : List (Entry A B N) → Type 0) → ((k : List (Entry A B N)) → seen k → Legal law rules k)
+    → Enters law rules n h t d call reply seen → can_say reply
+entered_said {R} {A} {B} {N} law rules can_say says n h t d call reply seen legal x =
+    let front = h ++ x.others in
+    let e : Entry A B N = entry_of law rules front n t d call in
+    subst can_say (sym x.reply_is) (says rules front e [] (legal (front ++ e ∷ []) x.seen_now))

@@ -4,7 +4,7 @@ ghost use Rattle.gnap_io.specs.Outside.{HasSent, HasCause};
 ghost use Rattle.histories.specs.Turns.{Face};
 ghost use Rattle.serving.specs.Connections.{Wire};
 ghost use Rattle.serving.specs.Reading.{ReadsMessage, HasReadCause};
-ghost use Rattle.serving.specs.MessageSteps.{IsStepOf};
+ghost use Rattle.serving.specs.MessageSteps.{IsStepOf, SaysAllReplies};
 
 use crate::ends::NoMessage;
 use crate::message_step::MessageStep;
@@ -41,6 +41,9 @@ pub trait Server {
 
     /// The bytes of a response.
     ghost text: { Self.Response → List ℕ };
+
+    /// Which replies of the machine can be said.
+    ghost can_say: { Self.M.Reply → Type 0 };
 
     /// The bytes that are held.
     ghost held_bytes: { Self.Held → List ℕ };
@@ -83,6 +86,7 @@ pub trait Server {
         reply: &<Self::M as Machine>::Reply,
         last: bool,
     ) -> Result<Self::Response, Mem>
+        requires { can_say reply.now }
         ensures { IfOk result (λ response. text response ≡ face.prints (rules self.now) last reply.now) };
 
     /// Writes a response.
@@ -104,4 +108,7 @@ pub trait Server {
     fn write_refusal<K: Sink>(&self, fault: &Self::Fault, out: &mut K) -> Result<(), Failed>
         ensures sent { HasSent (wire.refusal fault.now) (K.told out.old) (K.told out.new) result }
         ensures cause { HasCause (K.faults out.old) (K.faults out.new) result };
+
+    /// Each reply of a legal history can be said.
+    ghost says_all: { SaysAllReplies Self.M.law can_say };
 }

@@ -1,8 +1,8 @@
 use Rattle.std.proofs.Common.{ℕ, List, ◌++◌, ap, subst, refl, ◌∙◌, true, false}
-use Rattle.histories.specs.History.{entry_of}
+use Rattle.histories.specs.History.{Legal, entry_of}
 use Rattle.histories.specs.Turns.{IsTurn, direct, called, lapsed, starved, unsaid}
 use Rattle.serving.specs.MessageTurns.{HasWrittenText}
-use Rattle.serving.proofs.MessageTurnLemmas.{follows_on, follows_none, says_so, asks_so, without_entry, with_entry, with_lapse}
+use Rattle.serving.proofs.MessageTurnLemmas.{follows_on, follows_none, says_so, asks_so, without_entry, with_entry, with_lapse, entered_said}
 use Rattle.serving.proofs.connection.turn.Goals as goal
 
 pub returns-in-Ok-Say-clause-turn : goal.returns-in-Ok-Say-clause-turn
@@ -11,6 +11,14 @@ returns-in-Ok-Say-clause-turn g c h seen =
     let is = says_so g.V.M.Machine.law g.V.Server.face g.V.Server.text (g.V.Server.rules c.args.server.now) c.args.last c.args.message.now c.now-moment.result c.in-Ok-Say.field-0 c.in-Ok-Say.ensures said c.in-Ok-Say.field-0-is in
     without_entry (IsTurn g.V.M.Machine.law g.V.Server.face (g.V.Server.rules c.args.server.now)) _ c.args.last _ c.now-moment.result _ _ _ _ _ _ _ _ _ (g.V.Server.text said) true c.now-moment.ensures.state c.say.ensures.written (follows_on _ c.say.ensures.fed) seen
     (direct _ _ _ is)
+
+pub respond-requires : goal.respond-requires
+respond-requires g c =
+    let law = g.V.M.Machine.law in
+    entered_said law (g.D.Desk.rules c.args.desk.now) g.V.Server.can_say g.met.V.Server.says_all (g.D.Desk.number c.args.desk.now) c.requires.room.0 c.now-moment.result
+    c.draw-draw.result c.in-Ok-Ask.call c.in-Ok.reply (g.D.Desk.seen c.submit.new.self)
+    (λ k seen. subst (λ r. Legal law r k) c.in-Ok.ensures.rules (g.met.D.Desk.legal c.submit.new.self k seen))
+    (c.in-Ok.ensures.ok c.requires.room.0 c.requires.room.1)
 
 pub returns-in-Ok-respond-clause-turn : goal.returns-in-Ok-respond-clause-turn
 returns-in-Ok-respond-clause-turn g c h seen =

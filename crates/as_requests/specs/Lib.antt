@@ -1,0 +1,4 @@
+pub mod Rings
+pub mod Routes
+pub mod Presented
+pub mod DeskCalls

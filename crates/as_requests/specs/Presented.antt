@@ -1,0 +1,24 @@
+-- The access token that a request presents (RFC 9635, section 7.2).
+use Rattle.std.specs.Prelude.{ℕ, List, [], ◌∷◌, map, filter, drop, if◌then◌else◌, codes}
+use Rattle.std.specs.Char.{eq_ignore_ascii_case}
+use Rattle.std.specs.List.{starts_with}
+use Rattle.std.specs.Str.{bytes_eq}
+use Rattle.gnap_io.specs.declared.message.Field.{Field}
+use Rattle.gnap_io.specs.declared.message.Message.{Message}
+
+-- the values of the `Authorization` fields
+abbrev pub authorizations : List Field → List (List ℕ)
+authorizations fields = map (λ f. f.value) (filter (λ f. bytes_eq f.name (codes "authorization")) fields)
+
+-- what stands behind the scheme `GNAP`, in any case, and one SP; nothing where the scheme is another
+abbrev pub behind_scheme : List ℕ → List ℕ
+behind_scheme value = if starts_with eq_ignore_ascii_case value (codes "GNAP ") then drop 5 value else []
+
+-- of the one field; none and several present nothing
+abbrev pub presented_in : List (List ℕ) → List ℕ
+presented_in [] = []
+presented_in (value ∷ []) = behind_scheme value
+presented_in (value ∷ other ∷ more) = []
+
+abbrev pub presented_value : Message → List ℕ
+presented_value m = presented_in (authorizations m.fields)

@@ -1,0 +1,30 @@
+-- The routes of the authorization server, and what their methods are for.
+-- Bytes stand by their numbers: 32 SP, 44 `,`, 63 `?`.
+use Rattle.std.specs.Prelude.{ℕ, List, [], ◌∷◌, take, Option, Some, None, if◌then◌else◌, codes}
+use Rattle.std.specs.Str.{bytes_eq}
+use Rattle.structured_fields.specs.Canonical.{separated_text}
+use Rattle.message_signature.specs.Components.{until}
+use Rattle.gnap_objects.specs.declared.call_reading.CallKind.TheVariants.{Begin, Introspect}
+use Rattle.as_requests.specs.declared.routes.Route.{Route}
+use Rattle.as_requests.specs.declared.routes.Route.TheVariants as route
+use Rattle.as_requests.specs.declared.routes.Purpose.{Purpose}
+use Rattle.as_requests.specs.declared.routes.Purpose.TheVariants as purpose
+
+-- what stands before the `?` of a request target (RFC 9112, section 3.2.1)
+abbrev pub path_of : List ℕ → List ℕ
+path_of target = take (until 63 target) target
+
+abbrev pub route_at : List ℕ → Option Route
+route_at path = if bytes_eq path (codes "/gnap") then Some route.Grants
+    else (if bytes_eq path (codes "/introspect") then Some route.Introspection
+    else (if bytes_eq path (codes "/.well-known/gnap-as-rs") then Some route.RsDiscovery else None))
+
+-- the methods of a route, each with what it is for, in the order in which `Allow` lists them
+abbrev pub methods_of : Route → List (List ℕ × Purpose)
+methods_of route.Grants = (codes "POST", purpose.Calls Begin) ∷ (codes "OPTIONS", purpose.Discovery) ∷ []
+methods_of route.Introspection = (codes "POST", purpose.Calls Introspect) ∷ []
+methods_of route.RsDiscovery = (codes "GET", purpose.RsDiscovery) ∷ []
+
+-- the value of `Allow` (RFC 9110, section 10.2.1)
+abbrev pub allowed_methods : Route → List ℕ
+allowed_methods r = separated_text (44 ∷ 32 ∷ []) (λ m. m.0) (methods_of r)

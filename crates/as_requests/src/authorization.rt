@@ -1,0 +1,42 @@
+//! The access token that a request presents.
+ghost use Rattle.std.specs.Prelude.{◌≡◌};
+ghost use Rattle.as_requests.specs.Presented.{authorizations, behind_scheme, presented_in, presented_value};
+
+use gnap_io::message::{Fields, Message};
+
+// The value behind the scheme.
+fn behind_scheme(value: &[u8]) -> &[u8]
+    ensures { result.now ≡ behind_scheme value.now }
+{
+    match value.get(..5) {
+        Some(scheme) if scheme.eq_ignore_ascii_case(b"GNAP ") => &value[5..],
+        _ => b"",
+    }
+}
+
+// What the one field presents.
+fn presented_in(fields: &Fields) -> &[u8]
+    ensures { result.now ≡ presented_in (authorizations fields.now) }
+{
+    let mut found = None;
+    for field in fields.as_slice() {
+        if field.name.as_slice() == b"authorization".as_slice() {
+            if found.is_some() {
+                return b"";
+            }
+            found = Some(field.value.as_slice());
+        }
+    }
+    match found {
+        Some(value) => behind_scheme(value),
+        None => b"",
+    }
+}
+
+/// The access token that the message presents (RFC 9635, section 7.2): what stands behind the scheme `GNAP`, in any case, and one SP in its
+/// `Authorization` field. Empty where there is no such field, where there are several, and where the scheme is another. Takes no memory.
+pub fn presented_value(message: &Message) -> &[u8]
+    ensures { result.now ≡ presented_value message.now }
+{
+    presented_in(&message.fields)
+}

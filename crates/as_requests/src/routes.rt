@@ -1,0 +1,97 @@
+//! The routes of the authorization server, and what their methods are for.
+ghost use Rattle.std.specs.Prelude.{◌≡◌, ◌≤◌, length};
+ghost use Rattle.structured_fields.specs.Named.{value_at};
+ghost use Rattle.message_signature.specs.Components.{until};
+ghost use Rattle.as_requests.specs.Routes.{path_of, route_at, methods_of, allowed_methods};
+
+use gnap_objects::CallKind;
+
+/// What is served, each at a path of its own.
+#[derive(Clone, Copy, Debug, PartialEq, Eq)]
+pub enum Route {
+    /// `/gnap`, where grants are asked for (RFC 9635, section 2).
+    Grants,
+    /// `/introspect`, where resource servers ask about tokens (RFC 9767, section 3.3).
+    Introspection,
+    /// `/.well-known/gnap-as-rs`, where resource servers learn of the server (RFC 9767, section 3.1).
+    RsDiscovery,
+}
+
+/// What a method of a route is for.
+#[derive(Clone, Copy, Debug, PartialEq, Eq)]
+pub enum Purpose {
+    /// A call of the machine. It has to be signed.
+    Calls(CallKind),
+    /// What the server says of itself to clients (RFC 9635, section 9). Nobody has to sign.
+    Discovery,
+    /// What the server says of itself to resource servers (RFC 9767, section 3.1). Nobody has to sign.
+    RsDiscovery,
+}
+
+// How many bytes stand before the `?`.
+fn path_len(target: &[u8]) -> usize
+    ensures len { result ≡ until 63 target.now }
+    ensures within { result ≤ length target.now }
+{
+    target.iter().take_while(|b| **b != b'?').count()
+}
+
+/// The path of a request target: what stands before its first `?` (RFC 9112, section 3.2.1).
+pub fn path_of(target: &[u8]) -> &[u8]
+    ensures { result.now ≡ path_of target.now }
+{
+    &target[..path_len(target)]
+}
+
+impl Route {
+    /// The route with this path. None exactly where no route has it.
+    pub fn at(path: &[u8]) -> Option<Route>
+        ensures { result ≡ route_at path.now }
+    {
+        if path == b"/gnap".as_slice() {
+            Some(Route::Grants)
+        } else if path == b"/introspect".as_slice() {
+            Some(Route::Introspection)
+        } else if path == b"/.well-known/gnap-as-rs".as_slice() {
+            Some(Route::RsDiscovery)
+        } else {
+            None
+        }
+    }
+
+    /// What this method of the route is for. None exactly where the route doesn't have it. Methods are told apart by case (RFC 9110, section 9.1).
+    pub fn purpose(self, method: &[u8]) -> Option<Purpose>
+        ensures { result ≡ value_at (methods_of self) method.now }
+    {
+        match self {
+            Route::Grants => if method == b"POST".as_slice() {
+                Some(Purpose::Calls(CallKind::Begin))
+            } else if method == b"OPTIONS".as_slice() {
+                Some(Purpose::Discovery)
+            } else {
+                None
+            },
+            Route::Introspection => if method == b"POST".as_slice() {
+                Some(Purpose::Calls(CallKind::Introspect))
+            } else {
+                None
+            },
+            Route::RsDiscovery => if method == b"GET".as_slice() {
+                Some(Purpose::RsDiscovery)
+            } else {
+                None
+            },
+        }
+    }
+
+    /// The methods of the route with `, ` between them, as the field `Allow` lists them (RFC 9110, section 10.2.1).
+    pub fn allowed_methods(self) -> &'static str
+        ensures { result.now ≡ allowed_methods self }
+    {
+        match self {
+            Route::Grants => "POST, OPTIONS",
+            Route::Introspection => "POST",
+            Route::RsDiscovery => "GET",
+        }
+    }
+}
