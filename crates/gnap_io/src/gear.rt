@@ -1,5 +1,5 @@
 //! A worker's part of the outside: a door that gives connections, a clock, and random words.
-ghost use Rattle.std.specs.Prelude.{◌≡◌, ℕ, ◌<◌, ◌≤◌, IfOk, IfSome};
+ghost use Rattle.std.specs.Prelude.{◌≡◌, ℕ, ◌<◌, ◌≤◌, nat_lt, IfOk, IfSome};
 ghost use Rattle.gnap_io.specs.Outside.{IsUntouched, served_of};
 ghost use Rattle.gnap_io.specs.Gears.{GearState, Accepts, with_served, with_moment, with_draw, last_moment};
 
@@ -25,6 +25,10 @@ pub trait Door: Counted {
     fn leave(&mut self, conn: Self::Conn)
         requires { 0 < (Self.state self.old).out }
         ensures { Self.state self.new ≡ with_served (served_of (Self.Conn.told conn) (Self.Conn.faults conn)) (Self.state self.old) };
+
+    /// Whether a fault of the door was counted.
+    fn has_failed(&self) -> bool
+        ensures { result ≡ nat_lt 0 (Self.state self.now).faults };
 }
 
 /// Tells the time.

@@ -135,6 +135,10 @@ impl Door for MemGear {
         self.served.push_reserved(conn);
         self.out -= 1;
     }
+
+    fn has_failed(&self) -> bool {
+        0 < self.faults
+    }
 }
 
 impl Clock for MemGear {

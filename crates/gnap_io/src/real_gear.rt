@@ -130,6 +130,10 @@ impl<'a, R: rt::Clock> Door for RealGear<'a, R> {
         self.served = self.served.and(&conn, &());
         self.out -= 1;
     }
+
+    fn has_failed(&self) -> bool {
+        0 < self.faults
+    }
 }
 
 // The seconds since 1970, where the clock can be read.
