@@ -1,10 +1,11 @@
 -- Texts that can be shown: a call, a reply and a note fit where their rights do, where a finish has a URI of the web, and where their other texts are UTF-8.
-use Rattle.std.specs.Prelude.{ℕ, List}
+use Rattle.std.specs.Prelude.{◌≡◌, ℕ, true, List}
 use Rattle.std.specs.List.{AllByRecursion}
 use Rattle.std.specs.Str.{IsUtf8}
 use Rattle.std.specs.declared.option.Option.{Option}
 use Rattle.std.specs.declared.option.Option.TheVariants.{None, Some}
 use Rattle.json_objects.specs.Texts.{IsUtf8Or}
+use Rattle.interaction.specs.Uris.{uri_fits}
 use Rattle.access_rights.specs.Fits.{Fits}
 use Rattle.gnap_objects.specs.Fits.{AskFits, RequestFits}
 use Rattle.gnap_model.specs.declared.rights.Right.{Right}
@@ -29,9 +30,9 @@ abbrev pub RightsFitOr : Option (List Right) → Type 0
 RightsFitOr None = Unit {0}
 RightsFitOr (Some rights) = RightsFit rights
 
--- the address that a client is told at (RFC 9635, section 2.5.2)
+-- the address that a client is told at (RFC 9635, section 2.5.2) is a finish URI, be it joined with two pairs or printed as it is
 abbrev pub AddressFits : List ℕ → Type 0
-AddressFits uri = IsUtf8 uri
+AddressFits uri = uri_fits uri ≡ true
 
 abbrev pub FinishFits : Finish → Type 0
 FinishFits finish = AddressFits finish.uri × IsUtf8 finish.nonce

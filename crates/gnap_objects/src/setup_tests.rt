@@ -1,14 +1,7 @@
+use crate::tests::{listed, repeated};
 use crate::{SetupFault, read_setup};
 use std::alloc::{AllocError, Global};
 use std::test::Fail;
-
-fn repeated(alloc: Global, piece: &str, times: usize) -> Result<String, AllocError> {
-    let mut text = String::new(alloc);
-    for _ in 0..times {
-        text.push_str(piece)?;
-    }
-    Ok(text)
-}
 
 fn is_setup(alloc: Global, text: &str) -> Option<bool> {
     match read_setup(alloc, text.as_bytes()) {
@@ -168,6 +161,44 @@ fn ids_and_secrets_have_forms(rt: HostRuntime) -> Result<(), Fail> {
             is_setup(rt.alloc(), text.as_str()),
             Some(false),
             "{id} {secret}"
+        );
+    }
+    Ok(())
+}
+
+#[test]
+fn a_server_serves_256_names(rt: HostRuntime) -> Result<(), Fail> {
+    for (count, wanted) in [(256, true), (257, false)] {
+        let names = listed(rt.alloc(), "a", count)?;
+        let key = format!(in rt.alloc();
+            "{{\"id\":\"k\",\"role\":\"server\",\"secret\":\"c2VjcmV0LWtleS1vZi1jMQ==\",\"serves\":[{names}]}}"
+        )?;
+        let text = with_keys(rt.alloc(), key.as_str())?;
+        assert_eq!(rt;
+            is_setup(rt.alloc(), text.as_str()),
+            Some(wanted),
+            "{count}"
+        );
+    }
+    Ok(())
+}
+
+#[test]
+fn a_setup_has_4096_keys(rt: HostRuntime) -> Result<(), Fail> {
+    for (count, wanted) in [(4096, true), (4097, false)] {
+        let mut keys = String::new(rt.alloc());
+        for place in 0..count {
+            let comma = if place == 0 { "" } else { "," };
+            let key = format!(in rt.alloc();
+                "{comma}{{\"id\":\"k{place}\",\"role\":\"front\",\"secret\":\"c2VjcmV0LWtleS1vZi1jMQ==\"}}"
+            )?;
+            keys.push_str(key.as_str())?;
+        }
+        let text = with_keys(rt.alloc(), keys.as_str())?;
+        assert_eq!(rt;
+            is_setup(rt.alloc(), text.as_str()),
+            Some(wanted),
+            "{count}"
         );
     }
     Ok(())

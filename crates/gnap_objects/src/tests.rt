@@ -3,7 +3,7 @@ use json_objects::read_body;
 use std::alloc::{AllocError, Global};
 use std::test::Fail;
 
-fn repeated(alloc: Global, piece: &str, times: usize) -> Result<String, AllocError> {
+pub fn repeated(alloc: Global, piece: &str, times: usize) -> Result<String, AllocError> {
     let mut text = String::new(alloc);
     for _ in 0..times {
         text.push_str(piece)?;
@@ -115,29 +115,135 @@ fn a_grant_request_names_its_first_fault(rt: HostRuntime) -> Result<(), Fail> {
     Ok(())
 }
 
+// So many strings of this text, between commas.
+pub fn listed(alloc: Global, text: &str, times: usize) -> Result<String, AllocError> {
+    let mut list = String::new(alloc);
+    for place in 0..times {
+        list.push_str(if place == 0 { "\"" } else { ",\"" })?;
+        list.push_str(text)?;
+        list.push('"')?;
+    }
+    Ok(list)
+}
+
+// A right with so many values in each dimension.
+fn right_of(alloc: Global, counts: [usize; 4]) -> Result<String, AllocError> {
+    let actions = listed(alloc, "read", counts[0])?;
+    let locations = listed(alloc, "https://a", counts[1])?;
+    let datatypes = listed(alloc, "image", counts[2])?;
+    let privileges = listed(alloc, "own", counts[3])?;
+    format!(in alloc;
+        "{{\"actions\":[{actions}],\"datatypes\":[{datatypes}],\"locations\":[{locations}],\"privileges\":[{privileges}],\"type\":\"t\"}}"
+    )
+}
+
+// What is said of a request for one token with these rights.
+fn asked(alloc: Global, rights: &str) -> Result<String, AllocError> {
+    let body = format!(in alloc;
+        "{{\"access_token\":{{\"access\":[{rights}]}},\"client\":\"c1\"}}"
+    )?;
+    grant_answer(alloc, body.as_str(), false)
+}
+
 #[test]
-fn a_grant_request_has_bounds(rt: HostRuntime) -> Result<(), Fail> {
-    for (length, count, client, wanted) in [
-        (1, 16, 64, "ok"),
-        (1, 17, 1, "too many access"),
-        (256, 15, 1, "ok"),
-        (257, 1, 1, "too many access"),
-        (256, 16, 1, "too many access_token"),
-        (1, 1, 65, "wrong client"),
+fn texts_of_a_grant_request_have_lengths(rt: HostRuntime) -> Result<(), Fail> {
+    for (before, length, after, wanted) in [
+        ("\"access\":[\"", 256, "\"]", "ok"),
+        ("\"access\":[\"", 257, "\"]", "too many access"),
+        ("\"access\":[{\"type\":\"", 256, "\"}]", "ok"),
+        ("\"access\":[{\"type\":\"", 257, "\"}]", "too many access"),
+        ("\"access\":[\"p\"],\"label\":\"", 64, "\"", "ok"),
+        (
+            "\"access\":[\"p\"],\"label\":\"",
+            65,
+            "\"",
+            "too many label",
+        ),
     ] {
-        let name = repeated(rt.alloc(), "a", length)?;
-        let first = format!(in rt.alloc(); "\"{name}\"")?;
-        let next = format!(in rt.alloc(); ",\"{name}\"")?;
-        let more = repeated(rt.alloc(), next.as_str(), count - 1)?;
-        let id = repeated(rt.alloc(), "c", client)?;
+        let text = repeated(rt.alloc(), "a", length)?;
         let body = format!(in rt.alloc();
-            "{{\"access_token\":{{\"access\":[{first}{more}]}},\"client\":\"{id}\"}}"
+            "{{\"access_token\":{{{before}{text}{after}}},\"client\":\"c1\"}}"
         )?;
         let found = grant_answer(rt.alloc(), body.as_str(), false)?;
-        assert!(rt;
-            found.as_str() == wanted,
-            "{length} {count} {client}: {found}"
-        );
+        assert!(rt; found.as_str() == wanted, "{before} {length}: {found}");
+    }
+    for (length, wanted) in [(64, "ok"), (65, "wrong client")] {
+        let id = repeated(rt.alloc(), "c", length)?;
+        let body = format!(in rt.alloc();
+            "{{\"access_token\":{{\"access\":[\"p\"]}},\"client\":\"{id}\"}}"
+        )?;
+        let found = grant_answer(rt.alloc(), body.as_str(), false)?;
+        assert!(rt; found.as_str() == wanted, "client of {length}: {found}");
+    }
+    Ok(())
+}
+
+// The rights that a token request may have, and no number of them that is larger by one.
+#[test]
+fn a_token_request_has_16_rights(rt: HostRuntime) -> Result<(), Fail> {
+    for (count, wanted) in [(16, "ok"), (17, "too many access")] {
+        let rights = listed(rt.alloc(), "p", count)?;
+        let found = asked(rt.alloc(), rights.as_str())?;
+        assert!(rt; found.as_str() == wanted, "{count}: {found}");
+    }
+    Ok(())
+}
+
+// After 1,024 the next number of atoms that a right can come to is 1,029.
+#[test]
+fn a_right_has_16_values_in_a_dimension_and_1024_atoms(rt: HostRuntime) -> Result<(), Fail> {
+    for (counts, wanted) in [
+        ([16, 1, 1, 1], "ok"),
+        ([17, 1, 1, 1], "too many access"),
+        ([1, 16, 1, 1], "ok"),
+        ([1, 17, 1, 1], "too many access"),
+        ([1, 1, 16, 1], "ok"),
+        ([1, 1, 17, 1], "too many access"),
+        ([1, 1, 1, 16], "ok"),
+        ([1, 1, 1, 17], "too many access"),
+        ([16, 16, 2, 2], "ok"),
+        ([7, 7, 7, 3], "too many access"),
+    ] {
+        let right = right_of(rt.alloc(), counts)?;
+        let found = asked(rt.alloc(), right.as_str())?;
+        assert!(rt; found.as_str() == wanted, "{right}: {found}");
+    }
+    Ok(())
+}
+
+// The array of the rights has two bytes, and each right its text, two quotes and, if it isn't the first, a comma.
+#[test]
+fn all_rights_have_4096_bytes(rt: HostRuntime) -> Result<(), Fail> {
+    let longest = repeated(rt.alloc(), "a", 256)?;
+    let longest = listed(rt.alloc(), longest.as_str(), 15)?;
+    for (length, wanted) in [(207, "ok"), (208, "too many access_token")] {
+        let last = repeated(rt.alloc(), "b", length)?;
+        let rights = format!(in rt.alloc(); "{longest},\"{last}\"")?;
+        let found = asked(rt.alloc(), rights.as_str())?;
+        assert!(rt; found.as_str() == wanted, "{length}: {found}");
+        let body = format!(in rt.alloc();
+            "{{\"access_token\":[{{\"access\":[{longest}],\"label\":\"a\"}},{{\"access\":[\"{last}\"],\"label\":\"b\"}}],\"client\":\"c1\"}}"
+        )?;
+        let found = grant_answer(rt.alloc(), body.as_str(), false)?;
+        assert!(rt; found.as_str() == wanted, "{length} in the second: {found}");
+    }
+    Ok(())
+}
+
+#[test]
+fn eight_tokens_are_asked_for(rt: HostRuntime) -> Result<(), Fail> {
+    for (count, wanted) in [(8, "ok"), (9, "too many access_token")] {
+        let mut asks = String::new(rt.alloc());
+        for place in 0..count {
+            let comma = if place == 0 { "" } else { "," };
+            let ask = format!(in rt.alloc();
+                "{comma}{{\"access\":[\"p\"],\"label\":\"{place}\"}}"
+            )?;
+            asks.push_str(ask.as_str())?;
+        }
+        let body = format!(in rt.alloc(); "{{\"access_token\":[{asks}],\"client\":\"c1\"}}")?;
+        let found = grant_answer(rt.alloc(), body.as_str(), false)?;
+        assert!(rt; found.as_str() == wanted, "{count}: {found}");
     }
     Ok(())
 }
@@ -185,6 +291,25 @@ fn an_introspection_names_its_first_fault(rt: HostRuntime) -> Result<(), Fail> {
         let body = format!(in rt.alloc(); "{{{members}}}")?;
         let found = introspection_answer(rt.alloc(), body.as_str())?;
         assert!(rt; found.as_str() == wanted, "{members}: {found}");
+    }
+    Ok(())
+}
+
+// The rights that are asked about have the bounds of one token request, and none on their text together.
+#[test]
+fn an_introspection_has_bounds(rt: HostRuntime) -> Result<(), Fail> {
+    for (length, count, wanted) in [
+        (256, 16, "ok"),
+        (257, 1, "too many access"),
+        (1, 17, "too many access"),
+    ] {
+        let right = repeated(rt.alloc(), "a", length)?;
+        let rights = listed(rt.alloc(), right.as_str(), count)?;
+        let body = format!(in rt.alloc();
+            "{{\"access\":[{rights}],\"access_token\":\"v\",\"resource_server\":\"r1\"}}"
+        )?;
+        let found = introspection_answer(rt.alloc(), body.as_str())?;
+        assert!(rt; found.as_str() == wanted, "{length} {count}: {found}");
     }
     Ok(())
 }

@@ -118,11 +118,12 @@ fn pushed_value(alloc: Global, base: &[u8], out: &FinishOut) -> Result<Value, Me
 }
 
 // The URI that the user is sent to.
-fn finish_uri_value(alloc: Global, base: &[u8], out: &FinishOut) -> Result<Option<Value>, Mem>
+#[tactic(auto, using(interaction::proofs::WebUrls::has_finish_uri))]
+fn finish_uri_value(alloc: Global, base: &[u8], out: &FinishOut) -> Result<Value, Mem>
     requires base { IsUtf8 base.now }
     requires out { EndingFits (Some out.now) }
-    ensures { IfOk result (λ v. option_map view v
-        ≡ option_map string (finish_uri out.now.finish.uri (hash_of base.now out.now) out.now.reference)) }
+    ensures { IfOk result (λ v. option_map string (finish_uri out.now.finish.uri (hash_of base.now out.now) out.now.reference)
+        ≡ Some (view v)) }
 {
     let hash = hash(alloc, base, out)?;
     match finish_uri(
@@ -131,8 +132,8 @@ fn finish_uri_value(alloc: Global, base: &[u8], out: &FinishOut) -> Result<Optio
         hash.as_slice(),
         out.reference.as_slice(),
     ) {
-        Ok(uri) => Ok(Some(text_value(alloc, uri.as_slice())?)),
-        Err(UriFault::NotAUri) => Ok(None),
+        Ok(uri) => text_value(alloc, uri.as_slice()),
+        Err(UriFault::NotAUri) => unreachable!(),
         Err(UriFault::OutOfMemory) => Err(Mem),
     }
 }
@@ -144,7 +145,7 @@ fn redirected_value(alloc: Global, base: &[u8], out: &FinishOut) -> Result<Value
 {
     let mut map = Map::new(alloc);
     let uri = finish_uri_value(alloc, base, out)?;
-    put(&mut map, alloc, "uri", uri)?;
+    put(&mut map, alloc, "uri", Some(uri))?;
     let redirect = Value::try_from_str(alloc, "redirect")?;
     put(&mut map, alloc, "finish", Some(redirect))?;
     Ok(Value::Object(map))

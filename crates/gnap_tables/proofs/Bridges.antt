@@ -16,7 +16,7 @@ use Rattle.gnap_model.specs.Actions.{or_zeros}
 use Rattle.gnap_model.proofs.AliveTokens.{HasNote}
 use Rattle.gnap_model.proofs.Sound.{opening_grant}
 use Rattle.gnap_tables.specs.Rows.{GrantRow, TokenRow, grant_row, grant_row_in, grant_rows, token_row_in, token_rows}
-use Rattle.gnap_tables.specs.LookUps.{newest, row_by_number, row_by_door, approved_in, is_approved_grant}
+use Rattle.gnap_tables.specs.RowSearches.{newest, row_by_number, row_by_door, approved_in, is_approved_grant}
 use Rattle.gnap_tables.proofs.GrantsAfter.{IsNoOpening}
 
 -- ---- look-ups in lists

@@ -22,7 +22,7 @@ use Rattle.gnap_model.proofs.AliveTokens.{HasNote}
 use Rattle.gnap_model.proofs.Opened.{opened_found}
 use Rattle.gnap_tables.specs.Rows.{Round, GrantRow, asks_of, single_of, subject_of, round_row, round_in, grant_row_in, grant_rows}
 use Rattle.gnap_tables.specs.Tables.{new_grant, with_terms, with_approval, with_round, with_decision, with_wrong, with_door, grants_after}
-use Rattle.gnap_tables.specs.NoteOrder.{IsNew, GoesOn, CanFollow}
+use Rattle.gnap_tables.specs.AddableNotes.{IsNew, GoesOn, CanFollow}
 use Rattle.gnap_tables.proofs.Lists.{filter_map-filter_map, filter_map-reverse, map_is, filter_is, reverse-cons}
 
 -- ---- what a note does to one row

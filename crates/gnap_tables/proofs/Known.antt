@@ -24,9 +24,9 @@ use Rattle.gnap_model.proofs.Causes.{Cause, cause_of}
 use Rattle.gnap_model.proofs.AliveTokens.{HasNote, first_noted, managed_issued}
 use Rattle.gnap_model.proofs.Opened.{EachNote, each-append, each-reverse, each_more}
 use Rattle.gnap_model.proofs.Sound.{IsSound, past_sound, names_known, old_known, new_known, opening_grant, sound_note}
-use Rattle.gnap_tables.specs.NoteOrder.{IsNew}
+use Rattle.gnap_tables.specs.AddableNotes.{IsNew}
 use Rattle.gnap_tables.specs.Rows.{grant_rows}
-use Rattle.gnap_tables.specs.LookUps.{Interaction, interaction_by_handle}
+use Rattle.gnap_tables.specs.RowSearches.{Interaction, interaction_by_handle}
 use Rattle.gnap_tables.proofs.RoundBridges.{handle_is, found_row}
 use Rattle.gnap_tables.proofs.MoreCauses.{MoreCause, more_cause}
 

@@ -16,7 +16,7 @@ use Rattle.gnap_model.specs.Standing.StateChange.{ToPending, ToApproved}
 use Rattle.gnap_model.proofs.AliveTokens.{HasNote, first_noted}
 use Rattle.gnap_model.proofs.Doors.{some_if_some}
 use Rattle.gnap_tables.specs.Rows.{GrantRow, Round, decision_row, grant_row, grant_row_in, grant_rows}
-use Rattle.gnap_tables.specs.LookUps.{newest, round_of, is_open_round, open_round, open_rounds, Interaction, interaction_where, interaction_by_handle, interaction_by_code}
+use Rattle.gnap_tables.specs.RowSearches.{newest, round_of, is_open_round, open_round, open_rounds, Interaction, interaction_where, interaction_by_handle, interaction_by_code}
 use Rattle.gnap_tables.proofs.Lists.{filter_map-filter_map}
 use Rattle.gnap_tables.proofs.Bridges.{in_grants, option_map-first_of, first_of-filter_map}
 use Rattle.gnap_tables.proofs.TokenBridges.{pass_same, first_same}

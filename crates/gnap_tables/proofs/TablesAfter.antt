@@ -3,7 +3,7 @@ use Rattle.std.proofs.Common.{ℕ, ◌≡◌, List, [], ◌∷◌, ◌++◌, rev
 use Rattle.gnap_model.specs.declared.notes.Note.{Note}
 use Rattle.gnap_tables.specs.Rows.{GrantRow, TokenRow, grant_rows, token_rows}
 use Rattle.gnap_tables.specs.Tables.{tables_of, after_note, after_notes, grants_after}
-use Rattle.gnap_tables.specs.NoteOrder.{CanFollow, CanAllFollow}
+use Rattle.gnap_tables.specs.AddableNotes.{CanFollow, CanAllFollow}
 use Rattle.gnap_tables.proofs.Lists.{reverse-cons}
 use Rattle.gnap_tables.proofs.GrantsAfter.{grants_next}
 use Rattle.gnap_tables.proofs.TokensAfter.{tokens_next}

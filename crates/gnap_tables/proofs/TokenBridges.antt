@@ -3,7 +3,7 @@ use Rattle.std.proofs.Common.{ℕ, ◌≡◌, Bool, true, false, cond, List, [],
 use Rattle.std.specs.Prelude.{◌&&◌, not, ◌==◌, nat_lt, filter, option_map}
 use Rattle.std.specs.Option.{option_or, option_and_then}
 use Rattle.std.specs.List.{list_any, filter_map, cons_option}
-use Rattle.std.proofs.lemmas.Bool.{true_from_ne_false}
+use Rattle.std.proofs.lemmas.Bool.{true_from_ne_false, and_right}
 use Rattle.gnap_model.specs.Common.{Text, same_text, first_of, some_if}
 use Rattle.gnap_model.specs.declared.notes.OpeningNote.{OpeningNote}
 use Rattle.gnap_model.specs.declared.notes.TokenNote.{TokenNote}
@@ -14,9 +14,9 @@ use Rattle.gnap_model.specs.Standing.GrantState.{IsPending, IsApproved, IsFinali
 use Rattle.gnap_model.specs.Change.{tokens_of, other_live_tokens}
 use Rattle.gnap_model.proofs.AliveTokens.{HasNote, not_replaced}
 use Rattle.gnap_tables.specs.Rows.{TokenRow, grant_rows, token_row, token_row_in, token_rows}
-use Rattle.gnap_tables.specs.LookUps.{token_of, row_by_manage, is_live_row, live_row, live_rows}
+use Rattle.gnap_tables.specs.RowSearches.{token_of, row_by_manage, is_live_row, live_row, live_rows}
 use Rattle.gnap_tables.proofs.Lists.{filter_map-filter_map, filter_map-reverse, filter_is, map_is}
-use Rattle.gnap_tables.proofs.Time.{HaveGrants}
+use Rattle.gnap_tables.proofs.SweptTables.{HaveGrants}
 use Rattle.gnap_tables.proofs.Bridges.{in_tokens, option_map-first_of, approved_is}
 
 abbrev IsNoIssue : Note → Type 0
@@ -103,15 +103,11 @@ live_managed : (trail : List Note) (now : ℕ) (t : TokenNote) (look : Bool → 
 live_managed trail now t look none =
     at (list_any (is_replacement t.serial) trail) (list_any (is_retirement t.serial) trail) refl (grant_state trail t.grant now) refl (replaced_retired trail t.serial)
   where
-    off : (a b : Bool) → b ≡ false → (a && b) ≡ false
-    off true b e = e
-    off false b e = refl
-
     at : (rep ret : Bool) → list_any (is_retirement t.serial) trail ≡ ret → (s : GrantState) → grant_state trail t.grant now ≡ s → (rep ≡ true → ret ≡ true)
         → option_and_then (λ (row : TokenRow). look (not row.retired && nat_lt now row.until && is_approved (grant_state trail row.grant now))) (some_if (not rep && not (is_finalized s)) (token_row trail t))
         ≡ look (not ret && nat_lt now t.until && is_approved s)
     at true ret e s f more = let dead : ret ≡ true = more refl in rw dead (sym none)
-    at false ret e IsFinalized f more = sym (ap look (off (not ret && nat_lt now t.until) false refl) ∙ none)
+    at false ret e IsFinalized f more = sym (ap look (and_right (not ret && nat_lt now t.until) false refl) ∙ none)
     at false ret e IsApproved f more = rw (e, f) refl
     at false ret e (IsPending r) f more = rw (e, f) refl
 

@@ -18,7 +18,7 @@ use Rattle.gnap_model.specs.Standing.StateChange.{ToPending, ToApproved}
 use Rattle.gnap_model.proofs.AliveTokens.{HasNote}
 use Rattle.gnap_tables.specs.Rows.{TokenRow, token_row_in, token_rows}
 use Rattle.gnap_tables.specs.Tables.{new_token, with_retirement, tokens_after}
-use Rattle.gnap_tables.specs.NoteOrder.{IsNew, GoesOn, CanFollow}
+use Rattle.gnap_tables.specs.AddableNotes.{IsNew, GoesOn, CanFollow}
 use Rattle.gnap_tables.proofs.Lists.{filter_map-filter_map, filter_map-reverse, map_is, filter_is, reverse-cons}
 
 -- ---- which grants are finalized

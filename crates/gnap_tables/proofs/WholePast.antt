@@ -24,16 +24,16 @@ use Rattle.gnap_model.proofs.Came.{note_cases}
 use Rattle.gnap_model.proofs.Opened.{EachNote, each-append, each_of, past_origins, opened_terms, issued_opened}
 use Rattle.gnap_model.proofs.Sound.{past_sound, note-append_right, note-append_left, note-reverse}
 use Rattle.gnap_tables.specs.Tables.{tables_of, after_notes}
-use Rattle.gnap_tables.specs.NoteOrder.{CanFollow, CanAllFollow}
+use Rattle.gnap_tables.specs.AddableNotes.{CanFollow, CanAllFollow}
 use Rattle.gnap_tables.proofs.Lists.{reverse-cons}
 use Rattle.gnap_tables.proofs.GrantsAfter.{is_another}
 use Rattle.gnap_tables.proofs.TablesAfter.{tables_after}
-use Rattle.gnap_tables.proofs.Time.{IsOpenedOnce, HaveGrants}
+use Rattle.gnap_tables.proofs.SweptTables.{IsOpenedOnce, HaveGrants}
 use Rattle.gnap_tables.proofs.Bridges.{HaveDoors}
-use Rattle.gnap_tables.proofs.RowAnswers.{IsWhole}
+use Rattle.gnap_tables.proofs.ActionsAgree.{IsWhole}
 use Rattle.gnap_tables.proofs.Known.{past_known}
 use Rattle.gnap_tables.proofs.MoreCauses.{more_cause}
-use Rattle.gnap_tables.proofs.ActionsFollow.{action_follows}
+use Rattle.gnap_tables.proofs.NotesOfAnswers.{action_follows}
 
 -- the notes of an entry may be added
 pub entry_follows : (rules : Setup) (past : List Event) (e : Event) → IsLegalPast rules past → IsNext rules past e → CanAllFollow (now_at past e.moment) (trail_of past) e.notes

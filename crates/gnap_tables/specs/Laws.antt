@@ -10,7 +10,7 @@ use Rattle.gnap_model.specs.Answer.{gnap_answer}
 use Rattle.gnap_model.specs.Legal.{grant_law}
 use Rattle.gnap_tables.specs.Rows.{GrantRow, Round}
 use Rattle.gnap_tables.specs.Tables.{Tables}
-use Rattle.gnap_tables.specs.LookUps.{live_rows}
+use Rattle.gnap_tables.specs.RowSearches.{live_rows}
 use Rattle.gnap_tables.specs.StandsFor.{kept_of, at_moment, row_answer, with_notes}
 
 -- The answer to a call by the rows is the machine's.

@@ -1,7 +1,7 @@
 pub mod Rows
 pub mod Tables
-pub mod NoteOrder
-pub mod LookUps
-pub mod RowActions
+pub mod AddableNotes
+pub mod RowSearches
+pub mod ActionsByRows
 pub mod StandsFor
 pub mod Laws

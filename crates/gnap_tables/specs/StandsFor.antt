@@ -13,7 +13,7 @@ use Rattle.gnap_model.specs.Actions.{outcome_of}
 use Rattle.gnap_model.specs.declared.calls.Call.TheVariants.{Lapse}
 use Rattle.gnap_model.specs.Answer.{gnap_answer}
 use Rattle.gnap_tables.specs.Tables.{Tables, tables_of, after_notes, sweep}
-use Rattle.gnap_tables.specs.RowActions.{row_action, row_supply}
+use Rattle.gnap_tables.specs.ActionsByRows.{row_action, row_supply}
 
 -- all that is kept of a history: the rows, the number of the next grant, the serial of the next value, and the greatest moment
 pub record Kept : Type 0 where

@@ -8,10 +8,10 @@ use gnap_io::memory_world::MemWorld;
 use std::alloc::Global;
 use std::rt::HostRuntime;
 
-const SETUP: &str =
+pub const SETUP: &str =
     r#"{"base":"https://as.example","front":"https://front.example","keys":[{"ask":["mail"],"auto":["photos"],"id":"c1","role":"client","secret":"c2VjcmV0LWtleS1vZi1jMQ=="},{"ask":[],"auto":["photos"],"id":"c2","role":"client","secret":"c2VjcmV0LWtleS1vZi1jMg=="},{"id":"r1","role":"server","secret":"c2VjcmV0LWtleS1vZi1yMQ==","serves":["photos","mail"]}]}"#;
 
-const NOT_A_REQUEST: &str = "400 {\"error\":{\"code\":\"invalid_request\"}}\n";
+pub const NOT_A_REQUEST: &str = "400 {\"error\":{\"code\":\"invalid_request\"}}\n";
 
 const NOT_A_CLIENT: &str = "401 {\"error\":{\"code\":\"invalid_client\"}}\n";
 
@@ -26,7 +26,7 @@ const BEGIN: &str =
 
 const NO_FIELD: &str = "not in the grammar\n";
 
-const DENIED: &str = "400 {\"error\":{\"code\":\"request_denied\"}}\n";
+pub const DENIED: &str = "400 {\"error\":{\"code\":\"request_denied\"}}\n";
 
 // A world with one file, named f.
 fn world(alloc: Global, text: Bytes, bad_reads: &[u64]) -> Result<MemWorld, Mem> {
@@ -67,7 +67,7 @@ fn ran(
     })
 }
 
-fn replayed(
+pub fn replayed(
     alloc: Global,
     text: Bytes,
     bad_reads: &[u64],

@@ -10,14 +10,13 @@ use Rattle.std.proofs.lemmas.Bool.Decides.{nat_tests}
 use Rattle.httparse.proofs.RunLemmas.{length-slice_range}
 use Rattle.httparse.specs.declared.spans.HeaderSpan.{HeaderSpan}
 use Rattle.httparse.specs.declared.spans.RequestSpans.{RequestSpans}
-use Rattle.httparse.specs.Spans.{RequestOverflows, RequestExceeds, IsRequestOf, header_bytes, name_and_value}
-use Rattle.httparse.specs.Grammar.{Field, print_field, IsField, LineEnd, lf, crlf, print_end, print_blank, print_request, IsToken, AllPass, is_uri_byte, RequestHead, IsRequestHead, ReadsRequest, HasNoRequest, NeverHasRequest}
+use Rattle.httparse.specs.Spans.{RequestOverflows, RequestExceeds, IsRequestOf, name_and_value}
+use Rattle.httparse.specs.Grammar.{Field, print_field, IsField, LineEnd, lf, crlf, print_end, print_blank, print_request, IsToken, is_uri_byte, RequestHead, IsRequestHead, ReadsRequest, HasNoRequest, NeverHasRequest}
 use Rattle.httparse.proofs.GrammarLemmas.{ReadsRequest-append, print_request-append, cons-append}
-use Rattle.http1.specs.Fields.{Header}
 use Rattle.gnap_io.specs.declared.message.Message.{Message}
 use Rattle.http_edge.specs.declared.fault.EdgeFault.TheVariants as faults
 use Rattle.http_edge.specs.declared.framing.Framing.{Framing}
-use Rattle.http_edge.specs.declared.framing.Framing.TheVariants.{Refused, Body}
+use Rattle.http_edge.specs.declared.framing.Framing.TheVariants.{Body}
 use Rattle.http_edge.specs.Framing.{framing_of, asks_to_close}
 use Rattle.http_edge.specs.Streams.{window, is_inner, InTarget, IsUndecided, IsNoHead, BeginsWith, headers_of, field_of, IsMessage, IsRefusedFor, no_head, too_long, by_head, IsOpen, in_head}
 use Rattle.http_edge.specs.Steps.{HasManyFields, EndsAt}

@@ -1,13 +1,12 @@
 -- Bytes that come behind those that are held.
-use Rattle.std.proofs.Common.{◌≡◌, ◌≢◌, ℕ, ◌+◌, ◌-◌, ◌<◌, ◌≤◌, ◌⊎◌, List, [], ◌∷◌, ◌++◌, length, take, drop, refl, sym, ap, ◌∙◌, subst, arith, append_assoc, append-nil, length-append, inl, inr, Bool, true, false}
-use Rattle.std.specs.Prelude.{Option, Some, None, Result, Ok, Err}
-use Rattle.gnap_io.specs.Outside.{Told, Takes, Reads, IsAtEnd, Rose}
+use Rattle.std.proofs.Common.{◌≡◌, ℕ, ◌+◌, ◌-◌, ◌<◌, ◌≤◌, ◌⊎◌, List, [], ◌++◌, length, take, drop, sym, ap, ◌∙◌, subst, arith, append_assoc, append-nil, length-append, inl, inr, Bool, true}
+use Rattle.std.specs.Prelude.{Err}
+use Rattle.gnap_io.specs.Outside.{Told, Takes, Reads, IsAtEnd}
 use Rattle.gnap_io.proofs.Devices.{takes_none, takes_then}
-use Rattle.gnap_io.specs.declared.message.Message.{Message}
 use Rattle.http_edge.specs.declared.fault.EdgeFault.{EdgeFault}
 use Rattle.http_edge.specs.declared.fault.EdgeFault.TheVariants as faults
 use Rattle.http_edge.specs.Streams.{IsOpen}
-use Rattle.http_edge.specs.Reads.{HasFault, GivesMessage, IsNextMessage, CountsReadFault}
+use Rattle.http_edge.specs.Reads.{HasFault, IsNextMessage, CountsReadFault}
 use Rattle.std.proofs.lemmas.List.{nil_from_length, length-take, take_rest, drop_at}
 use Rattle.std.specs.List.{fold}
 use Rattle.std.proofs.lemmas.List.Sums.{fold-append}

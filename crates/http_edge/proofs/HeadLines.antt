@@ -1,15 +1,14 @@
 -- The lines of a head, byte by byte: the last of them is empty.
-use Rattle.std.proofs.Common.{get_or, ◌≡◌, ℕ, ◌+◌, ◌∙◌, ◌++◌, ◌≤◌, List, [], ◌∷◌, length, refl, sym, ap, subst, arith, Bool, true, false, cond}
-use Rattle.std.specs.Prelude.{IsTrue, fold, ◌==◌, ◌||◌, ◌&&◌, not, All, flat_map}
+use Rattle.std.proofs.Common.{get_or, ◌≡◌, ℕ, ◌+◌, ◌∙◌, ◌++◌, ◌≤◌, List, [], ◌∷◌, refl, ap, arith, Bool, true, false, cond}
+use Rattle.std.proofs.lemmas.Bool.{or_parts, not-true}
+use Rattle.std.specs.Prelude.{IsTrue, fold, ◌==◌, ◌&&◌, not, All, flat_map}
 use Rattle.std.proofs.lemmas.List.Elements.{All-head, All-tail}
 use Rattle.std.proofs.lemmas.Bool.Decides.{nat_tests}
 use Rattle.std.proofs.lemmas.List.Sums.{fold-append}
 use Rattle.httparse.specs.Pieces.{is_newline}
 use Rattle.httparse.proofs.PieceLemmas.{token_is_no_newline}
-use Rattle.httparse.proofs.GrammarLemmas.{print_request-append}
-use Rattle.httparse.specs.Grammar.{Field, print_field, IsField, LineEnd, lf, crlf, print_end, print_version, print_section, print_blank, print_request, IsToken, AllPass, is_uri_byte, is_value_byte, is_token_byte, RequestHead, IsRequestHead, ReadsRequest}
-use Rattle.gnap_io.specs.declared.message.Message.{Message}
-use Rattle.http_edge.specs.Streams.{BeginsWith, IsMessage, HasNoMessage}
+use Rattle.httparse.specs.Grammar.{Field, print_field, IsField, LineEnd, lf, crlf, print_end, print_version, print_section, print_blank, print_request, IsToken, AllPass, is_uri_byte, is_value_byte, is_token_byte, RequestHead, IsRequestHead}
+use Rattle.http_edge.specs.Streams.{HasNoMessage}
 use Rattle.http_edge.specs.Steps.{next_line_place}
 
 -- a byte other than LF
@@ -21,11 +20,10 @@ is_first : ℕ → Bool
 is_first c = not (c == 10) && not (c == 13)
 
 token_first : (c : ℕ) → is_token_byte c ≡ true → ((c == 10) ≡ false) × ((c == 13) ≡ false)
-token_first c token = let newline : is_newline c ≡ false = token_is_no_newline c token in parts (c == 13) (c == 10) newline
-  where
-    parts : (a b : Bool) → (a || b) ≡ false → (b ≡ false) × (a ≡ false)
-    parts true b e = absurd (cc)
-    parts false b e = (e, refl)
+token_first c token =
+    let newline : is_newline c ≡ false = token_is_no_newline c token in
+    let parts = or_parts (c == 13) (c == 10) newline in
+    (parts.1, parts.0)
 
 one_step : (c : ℕ) → (c == 10) ≡ false → next_line_place 1 c ≡ 1
 one_step c other = ap (λ (k : Bool). cond k 2 1) other
@@ -34,12 +32,8 @@ stays_in_line : (t : List ℕ) → AllPass is_inside t → fold next_line_place 
 unfolding is_inside
 stays_in_line [] all = refl
 stays_in_line (c ∷ t) all =
-    ap (λ (k : ℕ). fold next_line_place k t) (one_step c (opposite (c == 10) (All-head (λ (x : ℕ). IsTrue (is_inside x)) c t all)))
+    ap (λ (k : ℕ). fold next_line_place k t) (one_step c (not-true (c == 10) (All-head (λ (x : ℕ). IsTrue (is_inside x)) c t all)))
     ∙ stays_in_line t (All-tail (λ (x : ℕ). IsTrue (is_inside x)) c t all)
-  where
-    opposite : (b : Bool) → not b ≡ true → b ≡ false
-    opposite true e = absurd (cc)
-    opposite false e = refl
 
 inside_from_token : (c : ℕ) → is_token_byte c ≡ true → is_inside c ≡ true
 unfolding is_inside

@@ -1,18 +1,18 @@
 -- What each message has that was read from bytes.
-use Rattle.std.proofs.Common.{get_or, ◌≡◌, ℕ, ◌∙◌, List, [], ◌∷◌, ◌++◌, length, map, refl, sym, ap, subst, arith, Bool, true, false}
+use Rattle.std.proofs.Common.{get_or, ◌≡◌, ℕ, List, [], ◌∷◌, map, refl, sym, ap, subst, arith, Bool, true, false}
 use Rattle.std.specs.Prelude.{IsTrue, All, not, ◌==◌, ◌&&◌, ◌||◌}
 use Rattle.std.specs.Char.{to_ascii_lowercase}
 use Rattle.std.proofs.lemmas.List.Elements.{All-map, All-weaker}
 use Rattle.std.proofs.lemmas.Bool.Decides.{nat_tests}
 use Rattle.std.proofs.lemmas.Str.Ascii.{lowercase-lowercase}
 use Rattle.httparse.specs.Pieces.{is_newline}
-use Rattle.httparse.specs.Grammar.{Field, IsField, field_value, AllPass, is_token_byte, is_uri_byte, is_value_byte, RequestHead}
+use Rattle.httparse.specs.Grammar.{Field, IsField, AllPass, is_token_byte, is_uri_byte, is_value_byte, RequestHead}
 use Rattle.httparse.specs.Spans.{name_and_value}
 use Rattle.httparse.proofs.PieceLemmas.{token_is_no_newline}
 use Rattle.httparse.proofs.TrimLemmas.{AllPass-trim_ows}
 use Rattle.gnap_io.specs.declared.message.Message.{Message}
 use Rattle.http1.specs.Fields.{Header}
-use Rattle.http_edge.specs.Streams.{headers_of, field_of, message_of, IsMessage}
+use Rattle.http_edge.specs.Streams.{field_of, IsMessage}
 use Rattle.http_edge.specs.Lines.{is_line_byte, IsFieldLine, HasOneLineParts}
 
 all_from : (test other : ℕ → Bool) → ((c : ℕ) → test c ≡ true → other c ≡ true) → (t : List ℕ) → AllPass test t → AllPass other t

@@ -1,23 +1,14 @@
 -- What stands at the front of a stream is one thing, and stays it under more bytes.
-use Rattle.std.proofs.Common.{get_or, ◌≡◌, ℕ, ◌+◌, ◌-◌, ◌<◌, ◌≤◌, List, [], ◌∷◌, ◌++◌, length, take, drop, refl, sym, ap, ◌∙◌, subst, arith, append_assoc, append-nil, length-append, inl, inr, Bool, true, false}
-use Rattle.std.specs.Prelude.{IsTrue, map, All}
-use Rattle.std.specs.Char.{to_ascii_lowercase}
-use Rattle.std.proofs.lemmas.List.{append_cancel_left, length-map}
-use Rattle.std.proofs.lemmas.List.Elements.{All-map}
-use Rattle.std.proofs.lemmas.Bool.Decides.{nat_tests}
-use Rattle.std.proofs.lemmas.Str.Ascii.{lowercase-lowercase}
-use Rattle.httparse.specs.Grammar.{Field, IsField, field_value, print_request, AllPass, is_token_byte, is_uri_byte, is_value_byte, RequestHead, ReadsRequest}
-use Rattle.httparse.specs.Spans.{name_and_value}
+use Rattle.std.proofs.Common.{◌≡◌, ℕ, ◌+◌, ◌-◌, ◌<◌, List, [], ◌∷◌, ◌++◌, length, take, refl, sym, ap, ◌∙◌, subst, arith, append_assoc, append-nil, length-append, inl, inr}
+use Rattle.std.proofs.lemmas.List.{append_cancel_left}
+use Rattle.httparse.specs.Grammar.{print_request, RequestHead}
 use Rattle.httparse.proofs.GrammarLemmas.{request_prefix_free, request_unique}
-use Rattle.httparse.proofs.PieceLemmas.{token_is_no_newline}
-use Rattle.httparse.proofs.TrimLemmas.{AllPass-trim_ows}
 use Rattle.gnap_io.specs.declared.message.Message.{Message}
 use Rattle.http_edge.specs.declared.fault.EdgeFault.{EdgeFault}
-use Rattle.http_edge.specs.declared.fault.EdgeFault.TheVariants as faults
 use Rattle.http_edge.specs.declared.framing.Framing.{Framing}
 use Rattle.http_edge.specs.declared.framing.Framing.TheVariants.{Refused, Body}
 use Rattle.http_edge.specs.Framing.{framing_of}
-use Rattle.http_edge.specs.Streams.{window, IsUndecided, IsNoHead, BeginsWith, headers_of, field_of, message_of, IsMessage, IsRefusedFor, no_head, too_long, by_head, IsOpen, in_head, in_body, HasNoMessage, Messages}
+use Rattle.http_edge.specs.Streams.{window, IsUndecided, IsNoHead, BeginsWith, headers_of, message_of, IsMessage, IsRefusedFor, no_head, too_long, by_head, IsOpen, in_head, in_body, HasNoMessage, Messages}
 use Rattle.http_edge.specs.declared.messages.Want.{Want}
 use Rattle.http_edge.specs.declared.messages.Want.TheVariants.{MoreOfHead, UpTo}
 use Rattle.http_edge.specs.Steps.{EndsAt, IsWaiting}

@@ -1,15 +1,16 @@
 -- The one head at the front of a reply.
-use Rattle.std.proofs.Common.{◌≡◌, ◌∙◌, ℕ, ◌<◌, ◌≤◌, ◌-◌, List, length, map, take, drop, Bool, true, false, sym, ap, subst, arith, refl}
+use Rattle.std.proofs.Common.{◌≡◌, ◌∙◌, ℕ, ◌<◌, ◌≤◌, ◌-◌, List, length, map, take, drop, Bool, true, false, sym, ap, arith}
+use Rattle.std.proofs.lemmas.Bool.{and_parts}
 use Rattle.std.specs.Prelude.{nat_le, ◌&&◌, ◌||◌, ◌==◌, not}
 use Rattle.std.proofs.lemmas.List.{length-map, length-drop}
 use Rattle.std.proofs.lemmas.Bool.Decides.{nat_tests}
 use Rattle.httparse.specs.declared.spans.HeaderSpan.{HeaderSpan}
 use Rattle.httparse.specs.declared.spans.ResponseSpans.{ResponseSpans}
 use Rattle.httparse.specs.Grammar.{ResponseHead, print_response, ReadsResponse, status_code}
-use Rattle.httparse.specs.Spans.{IsResponseWithin, IsResponseAt, header_bytes, name_and_value}
+use Rattle.httparse.specs.Spans.{IsResponseAt, header_bytes, name_and_value}
 use Rattle.httparse.proofs.GrammarLemmas.{response_unique}
 use Rattle.http1.specs.Fields.{Header}
-use Rattle.http_edge.specs.ReadReplies.{IsHttpReply, IsNoHttpReply, HasNoRoom, frames, fits_parts, fits_body}
+use Rattle.http_edge.specs.ReadReplies.{IsNoHttpReply, HasNoRoom, frames, fits_parts, fits_body}
 use Rattle.http_edge.specs.Laws.{IsOneReply}
 
 pub one_reply_law : IsOneReply
@@ -25,12 +26,6 @@ misfit bytes h rest reads bad status body x =
     let wrong : true ≡ false = sym x.fits ∙ both ∙ bad in
     cc
 
--- a head that fits has at most 64 fields
-few_fields : (a b c d : Bool) → (a && b && c && d) ≡ true → b ≡ true
-few_fields true true c d e = refl
-few_fields true false c d e = e
-few_fields false b c d e = absurd (cc)
-
 at_most : (n m : ℕ) → nat_le n m ≡ true → n ≤ m
 at_most n m e = grind (arith, nat_tests)
 
@@ -39,7 +34,11 @@ unfolding fits_body
 no_reply_head bytes none status body x =
     let more : 64 < length x.head.fields = none x.head body x.reads in
     let headers : List Header = map name_and_value x.head.fields in
-    let few : length headers ≤ 64 = at_most (length headers) 64 (few_fields (nat_le (length (print_response x.head)) 16384) (nat_le (length headers) 64) (frames headers (length body)) (not (status_code x.head == 204) || length body == 0) x.fits) in
+    let small : Bool = nat_le (length (print_response x.head)) 16384 in
+    let few_fields : Bool = nat_le (length headers) 64 in
+    let framed : Bool = frames headers (length body) in
+    let fits = and_parts (small && few_fields && framed) (not (status_code x.head == 204) || length body == 0) x.fits in
+    let few : length headers ≤ 64 = at_most (length headers) 64 (and_parts small few_fields (and_parts (small && few_fields) framed fits.0).0).1 in
     omega (arith, length-map x.head.fields name_and_value)
 
 -- what the parser says of the head and what the grammar says

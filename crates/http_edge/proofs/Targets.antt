@@ -1,6 +1,7 @@
 -- Where a request target ends, byte by byte.
-use Rattle.std.proofs.Common.{get_or, ◌≡◌, ℕ, ◌∙◌, ◌++◌, List, [], ◌∷◌, length, refl, sym, ap, subst, arith, append_assoc, append-nil, inl, inr, Bool, true, false, cond}
-use Rattle.std.specs.Prelude.{IsTrue, fold, ◌==◌, ◌||◌}
+use Rattle.std.proofs.Common.{get_or, ◌≡◌, ℕ, ◌∙◌, ◌++◌, List, [], ◌∷◌, refl, sym, ap, subst, arith, append_assoc, append-nil, inl, inr, Bool, true, false, cond}
+use Rattle.std.proofs.lemmas.Bool.{or_parts}
+use Rattle.std.specs.Prelude.{IsTrue, fold, ◌==◌}
 use Rattle.std.proofs.lemmas.List.Elements.{All-nil, All-cons, All-head, All-tail}
 use Rattle.std.proofs.lemmas.Bool.Decides.{nat_tests}
 use Rattle.std.proofs.lemmas.List.Sums.{fold-append}
@@ -25,14 +26,6 @@ four_is_not_three t e = let f : ◌≡◌ {A = ℕ} 4 3 = sym (gone t) ∙ e in 
 
 pub eqb-eq : (a b : ℕ) → (a == b) ≡ true → a ≡ b
 eqb-eq a b h = grind (arith, nat_tests)
-
-neither_left : (a b : Bool) → (a || b) ≡ false → a ≡ false
-neither_left true b h = h
-neither_left false b h = refl
-
-neither_right : (a b : Bool) → (a || b) ≡ false → b ≡ false
-neither_right true b h = absurd (cc)
-neither_right false b h = h
 
 path_step : (c : ℕ) (t : List ℕ) (b : Bool) → is_inner c ≡ b → fold next_place (cond b 3 4) t ≡ 3
     → (fold next_place 3 t ≡ 3 → AllPass is_inner t) → AllPass is_inner (c ∷ t)
@@ -133,8 +126,8 @@ method_place (c ∷ m) all =
 first_place : (c : ℕ) → is_token_byte c ≡ true → next_place 0 c ≡ 2
 first_place c token =
     let no : is_newline c ≡ false = token_is_no_newline c token in
-    let cr : (c == 13) ≡ false = neither_left _ _ no in
-    let nl : (c == 10) ≡ false = neither_right _ _ no in
+    let cr : (c == 13) ≡ false = (or_parts _ _ no).0 in
+    let nl : (c == 10) ≡ false = (or_parts _ _ no).1 in
     ap (λ (k : Bool). cond k 0 (cond (c == 13) 1 (cond (is_token_byte c) 2 4))) nl
     ∙ ap (λ (k : Bool). cond k 1 (cond (is_token_byte c) 2 4)) cr ∙ ap (λ (k : Bool). cond k 2 4) token
 

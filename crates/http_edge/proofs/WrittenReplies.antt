@@ -1,9 +1,9 @@
 -- A reply that was written is read.
-use Rattle.std.proofs.Common.{◌≡◌, ◌∙◌, ℕ, ◌+◌, ◌<◌, ◌≤◌, ◌^◌, List, [], ◌∷◌, ◌++◌, length, reverse, map, take, drop, Bool, true, false, cond, refl, sym, ap, subst, arith, append_assoc, append-nil, rules}
-use Rattle.std.specs.Prelude.{Option, Some, None, All, IsTrue, ◌&&◌, ◌||◌, ◌==◌, nat_le, nat_lt, not, decimal, codes, unwrap_or}
-use Rattle.std.specs.List.{list_all, list_any, flat_map}
+use Rattle.std.proofs.Common.{◌≡◌, ◌∙◌, ℕ, ◌+◌, ◌<◌, ◌≤◌, ◌^◌, List, [], ◌∷◌, ◌++◌, length, reverse, map, take, drop, Bool, true, false, cond, refl, sym, ap, subst, arith, append_assoc, append-nil}
+use Rattle.std.specs.Prelude.{Option, Some, None, All, ◌||◌, ◌==◌, nat_le, nat_lt, not, decimal, codes, unwrap_or}
+use Rattle.std.specs.List.{list_all, flat_map}
 use Rattle.std.specs.Char.{is_ascii_digit, digit_value}
-use Rattle.std.specs.Str.Parse.{digits_value, AllDigits, IsNumeral}
+use Rattle.std.specs.Str.Parse.{digits_value, AllDigits}
 use Rattle.std.proofs.lemmas.Fmt.{decimal_is_IsNumeral}
 use Rattle.std.proofs.lemmas.Grind.{flat_map-append}
 use Rattle.std.proofs.lemmas.Bool.Decides.{nat_tests}
@@ -11,15 +11,15 @@ use Rattle.std.proofs.lemmas.Bool.{and_parts, and_from}
 use Rattle.std.proofs.lemmas.List.Sums.{AllPass-from_list_all, list_all-from_AllPass}
 use Rattle.std.proofs.lemmas.List.Elements.{All-nil, All-cons, All-append}
 use Rattle.httparse.proofs.GrammarLemmas.{print_response-append, cons-append}
-use Rattle.httparse.specs.Grammar.{Field, crlf, IsField, AllPass, is_token_byte, is_value_byte, is_ows, skip_ows, trim_ows, print_field, print_response, ResponseHead, IsResponseHead, status_code}
+use Rattle.httparse.specs.Grammar.{Field, crlf, IsField, AllPass, is_token_byte, is_value_byte, is_ows, skip_ows, trim_ows, print_field, print_response, ResponseHead, IsResponseHead}
 use Rattle.httparse.specs.Spans.{name_and_value}
 use Rattle.httparse.proofs.TrimLemmas.{trim_ows_space, AllPass-reverse}
 use Rattle.http1.specs.Text.{eq_ignore_case}
 use Rattle.http_edge.specs.declared.reply.HttpReply.{HttpReply}
 use Rattle.http_edge.specs.declared.reply.Extra.{Extra}
 use Rattle.http_edge.specs.declared.reply.Extra.TheVariants.{Nothing, Allow, Challenge}
-use Rattle.http_edge.specs.ReadReplies.{IsHttpReply, says_length, frames, fits_body}
-use Rattle.http_edge.specs.Replies.{status_text, is_used, status_line, type_line, extra_line, close_line, length_line, body_bytes, head_bytes, reply_bytes, is_method_byte, HasMethods, MayWrite}
+use Rattle.http_edge.specs.ReadReplies.{says_length, frames, fits_body}
+use Rattle.http_edge.specs.Replies.{status_text, is_used, type_line, extra_line, close_line, length_line, body_bytes, head_bytes, reply_bytes, is_method_byte, HasMethods, MayWrite}
 use Rattle.http_edge.specs.Laws.{WrittenIsRead}
 use Rattle.http_edge.proofs.Targets.{eqb-eq}
 

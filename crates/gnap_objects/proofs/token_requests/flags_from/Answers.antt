@@ -1,4 +1,5 @@
-use Rattle.std.proofs.Common.{◌≡◌, ◌||◌, ℕ, Bool, true, false, not, List, [], ◌∷◌, ◌++◌, Some, refl, sym, ap, ◌∙◌}
+use Rattle.std.proofs.Common.{◌≡◌, ◌||◌, ℕ, Bool, not, List, [], ◌∷◌, ◌++◌, Some, sym, ap, ◌∙◌}
+use Rattle.std.proofs.Math.Bool.{not-not, or_comm, or-false}
 use Rattle.std.proofs.lemmas.List.Folds.{list_any-append}
 use Rattle.std.specs.Str.{bytes_eq}
 use Rattle.serde_json.specs.Data.{Data, Items, item}
@@ -8,29 +9,13 @@ use Rattle.gnap_objects.specs.Reading.{text_of}
 use Rattle.gnap_objects.specs.TokenRequests.{has_flag, flags_from}
 use Rattle.gnap_objects.proofs.token_requests.flags_from.Goals as goal
 
-not-not : (b : Bool) → not (not b) ≡ b
-not-not true = refl
-not-not false = refl
-
-or-last : (a b : Bool) → (a || (b || false)) ≡ (b || a)
-or-last true true = refl
-or-last true false = refl
-or-last false true = refl
-or-last false false = refl
-
 has_flag-last : (flag other : List ℕ) (before : List (List ℕ)) → has_flag flag (before ++ other ∷ []) ≡ (bytes_eq other flag || has_flag flag before)
-has_flag-last flag other before = list_any-append (λ f. bytes_eq f flag) before (other ∷ []) ∙ or-last (has_flag flag before) (bytes_eq other flag)
+has_flag-last flag other before = list_any-append (λ f. bytes_eq f flag) before (other ∷ []) ∙ ap (λ b. has_flag flag before || b) (or-false (bytes_eq other flag)) ∙ or_comm (has_flag flag before) (bytes_eq other flag)
 
 next : (before : List (List ℕ)) (repeated new : Bool) (d : Data) (ds : Items) (flag : List ℕ) → Some flag ≡ as_str d → new ≡ not (has_flag flag before)
     → flags_from (before ++ flag ∷ []) (repeated || not new) ds ≡ flags_from before repeated (item d ds)
 unfolding text_of
 next before repeated new d ds flag is e = rw (← is) (ap (λ r. flags_from (before ++ flag ∷ []) (repeated || r) ds) (ap not e ∙ not-not _))
-
-or-swap : (a b : Bool) → (a || b) ≡ (b || a)
-or-swap true true = refl
-or-swap true false = refl
-or-swap false true = refl
-or-swap false false = refl
 
 pub loop-item-preserved : goal.loop-item-preserved
 loop-item-preserved c =
@@ -40,5 +25,5 @@ loop-item-preserved c =
       next before c.loop-item.repeated c.in_ok-new.new _ _ flag c.in-Some.ensures (c.in_ok-new.ensures.new ∙ ap not (c.loop-item.invariant.2 flag))
           ∙ ap (flags_from before c.loop-item.repeated) (sym (items_view-drop c.deref-item-items.result.now c.loop-item.item-index c.item-item.result c.loop-item-test.true c.item-item.is)) ∙ c.loop-item.invariant.1,
       λ other. c.in_ok-new.ensures.added other ∙ ap (λ b. bytes_eq flag other || b) (c.loop-item.invariant.2 other) ∙ sym (has_flag-last other flag before),
-      or-swap c.loop-item.bearer c.eq-bearer.result ∙ rw (c.eq-bearer.ensures, c.loop-item.invariant.3) (sym (has_flag-last _ flag before)),
+      or_comm c.loop-item.bearer c.eq-bearer.result ∙ rw (c.eq-bearer.ensures, c.loop-item.invariant.3) (sym (has_flag-last _ flag before)),
     )

@@ -1,6 +1,6 @@
 use Rattle.histories.specs.History.{notes_of}
 use Rattle.gnap_model.specs.Legal.{HasFewAsks}
-use Rattle.gnap_tables.proofs.RowSteps.{legal_notes, kept_noted}
+use Rattle.gnap_tables.proofs.TablesThroughCalls.{legal_notes, kept_noted}
 use Rattle.gnap_tables.proofs.laws.rows_change.Goals as goal
 
 pub returns : goal.returns

@@ -1,10 +1,8 @@
-use Rattle.std.proofs.Common.{ℕ, List, length, take, drop, map, ◌≡◌, ◌∙◌, sym, ap, arith, ◌+◌, ◌≤◌, length-append}
-use Rattle.std.specs.Prelude.{◌==◌, ◌||◌, Bool}
-use Rattle.httparse.specs.Grammar.{print_request}
+use Rattle.std.proofs.Common.{ℕ, List, length, take, drop, map, ◌≡◌, ◌∙◌, sym, ap, arith}
+use Rattle.std.specs.Prelude.{◌==◌, ◌||◌}
 use Rattle.httparse.specs.Spans.{header_bytes}
-use Rattle.http1.specs.Fields.{Header, known_fields}
-use Rattle.http_edge.specs.declared.framing.Framing.{Framing}
-use Rattle.http_edge.specs.declared.framing.Framing.TheVariants.{Refused, Body}
+use Rattle.http1.specs.Fields.{Header}
+use Rattle.http_edge.specs.declared.framing.Framing.TheVariants.{Body}
 use Rattle.http_edge.specs.Framing.{framing_of, asks_to_close}
 use Rattle.http_edge.specs.Streams.{BeginsWith, headers_of, field_of, by_head}
 use Rattle.http_edge.proofs.Fronts.{head_here, ends_at, whole_message}

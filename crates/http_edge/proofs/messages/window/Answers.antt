@@ -1,4 +1,4 @@
-use Rattle.std.proofs.Common.{arith, refl, sym, length-take}
+use Rattle.std.proofs.Common.{arith, refl, sym}
 use Rattle.std.proofs.lemmas.List.{take_all, length-take-le}
 use Rattle.http_edge.specs.Streams.{window}
 use Rattle.http_edge.proofs.messages.window.Goals as goal

@@ -1,5 +1,4 @@
-use Rattle.std.proofs.Common.{◌≡◌, ◌≤◌, ◌+◌, ◌++◌, ◌<◌, length, subst, sym, arith, ◌∙◌, length-append, ap}
-use Rattle.http_edge.specs.Steps.{EndsAt}
+use Rattle.std.proofs.Common.{arith}
 use Rattle.http_edge.proofs.Outcomes.{open_no_message, open_in_body}
 use Rattle.http_edge.proofs.reading.read_body.Goals as goal
 

@@ -1,4 +1,4 @@
-use Rattle.std.proofs.Common.{◌≡◌, ◌-◌, ◌<◌, ◌≤◌, length}
+use Rattle.std.proofs.Common.{◌≡◌, ◌-◌, ◌≤◌, length}
 use Rattle.http_edge.specs.Steps.{EndsAt, Grows}
 use Rattle.http_edge.proofs.reading.read_body.Given as goal
 

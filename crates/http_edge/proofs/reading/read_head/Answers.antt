@@ -1,6 +1,5 @@
-use Rattle.std.proofs.Common.{◌≡◌, ◌≤◌, ◌∙◌, ◌++◌, refl, sym, ap, arith, length, length-append}
+use Rattle.std.proofs.Common.{◌≡◌, ◌∙◌, refl, ap, arith}
 use Rattle.std.specs.List.{fold}
-use Rattle.std.proofs.lemmas.List.Sums.{fold-append}
 use Rattle.http_edge.specs.Steps.{next_line_place}
 use Rattle.http_edge.proofs.Growing.{grows_none, grows_then, place_more}
 use Rattle.http_edge.proofs.HeadLines.{no_message_yet}

@@ -1,4 +1,4 @@
-use Rattle.std.proofs.Common.{◌≡◌, ◌≤◌, ◌<◌, ◌+◌, ◌-◌, ◌∙◌, ◌++◌, List, ℕ, ap, sym, take, drop, length, arith, rules, refl, length-drop, length-take}
+use Rattle.std.proofs.Common.{◌≡◌, ◌≤◌, ◌+◌, ◌-◌, ◌∙◌, ◌++◌, List, ℕ, ap, take, drop, length, arith, rules, refl, length-drop, length-take}
 use Rattle.std.specs.Prelude.{slice_range}
 use Rattle.http_edge.proofs.Buffers.{length_between, room_left, moved, between_same, read_behind}
 use Rattle.http_edge.proofs.Growing.{grows_same, grows_end, grows_by}

@@ -1,4 +1,4 @@
-use Rattle.std.proofs.Common.{◌≡◌, ◌+◌, ◌≤◌, ◌∙◌, ap, drop, arith, length}
+use Rattle.std.proofs.Common.{◌∙◌, ap, drop, arith, length}
 use Rattle.http_edge.proofs.Buffers.{between_skip, length_between}
 use Rattle.http_edge.proofs.held.Held.skip.Goals as goal
 

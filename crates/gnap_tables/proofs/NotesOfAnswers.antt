@@ -21,9 +21,9 @@ use Rattle.gnap_model.specs.Actions.Action.{Refuse, ShowToken, ShowInactive, Lap
 use Rattle.gnap_model.proofs.Causes.{Cause}
 use Rattle.gnap_model.proofs.AliveTokens.{managed_issued}
 use Rattle.gnap_model.proofs.Sound.{IsSound, AreSound, SoundAt, SerialsBelow, sound_note, opening_grant, modified_below}
-use Rattle.gnap_tables.specs.NoteOrder.{IsNew, GoesOn, CanAllFollow}
+use Rattle.gnap_tables.specs.AddableNotes.{IsNew, GoesOn, CanAllFollow}
 use Rattle.gnap_tables.proofs.TokensAfter.{finalized_same}
-use Rattle.gnap_tables.proofs.RowAnswers.{named_goes}
+use Rattle.gnap_tables.proofs.ActionsAgree.{named_goes}
 use Rattle.gnap_tables.proofs.Known.{AreKnown, below_not, is_new}
 use Rattle.gnap_tables.proofs.MoreCauses.{MoreCause}
 

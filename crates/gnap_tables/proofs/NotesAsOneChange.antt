@@ -7,7 +7,7 @@ use Rattle.std.proofs.Common.{cond, inl, inr, arith}
 use Rattle.std.specs.Prelude.{◌&&◌, not, filter}
 use Rattle.std.proofs.lemmas.Bool.{eqb-true, or_parts, and_right}
 use Rattle.gnap_model.specs.Actions.{retire}
-use Rattle.gnap_tables.specs.LookUps.{token_of}
+use Rattle.gnap_tables.specs.RowSearches.{token_of}
 use Rattle.gnap_tables.proofs.Lists.{HasItem}
 use Rattle.gnap_model.specs.Common.{Text}
 use Rattle.gnap_model.specs.declared.rights.Right.{Right}

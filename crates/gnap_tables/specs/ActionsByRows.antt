@@ -28,7 +28,7 @@ use Rattle.gnap_model.specs.Actions.Action.{Refuse, LapseAction, OpenAtOnce, Ope
 use Rattle.gnap_model.specs.Standing.{code_in}
 use Rattle.gnap_tables.specs.Rows.{Round, GrantRow, TokenRow}
 use Rattle.gnap_tables.specs.Tables.{Tables}
-use Rattle.gnap_tables.specs.LookUps.{opening_of, terms_of_row, decision_of_row, token_of, row_by_number, row_by_door, open_rounds, row_by_manage, is_live_row, live_row, live_rows, Interaction, interaction_by_handle, interaction_by_code}
+use Rattle.gnap_tables.specs.RowSearches.{opening_of, terms_of_row, decision_of_row, token_of, row_by_number, row_by_door, open_rounds, row_by_manage, is_live_row, live_row, live_rows, Interaction, interaction_by_handle, interaction_by_code}
 
 -- these live rows and so many more tokens are too many
 abbrev pub pass_live : List TokenRow → ℕ → Bool

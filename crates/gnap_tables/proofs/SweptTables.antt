@@ -3,7 +3,7 @@ use Rattle.std.proofs.Common.{ℕ, ◌≡◌, ◌≤◌, Bool, true, false, List
 use Rattle.std.specs.Prelude.{◌&&◌, ◌||◌, not, ◌==◌, if◌then◌else◌, nat_le, is_some}
 use Rattle.std.specs.Option.{option_or, option_and_then, unwrap_or}
 use Rattle.std.specs.List.{list_any, filter_map, cons_option}
-use Rattle.std.proofs.lemmas.Bool.{eqb-true}
+use Rattle.std.proofs.lemmas.Bool.{eqb-true, and_right}
 use Rattle.std.proofs.lemmas.Bool.Decides.{nat_tests}
 use Rattle.gnap_model.specs.Common.{first_of, some_if}
 use Rattle.gnap_model.specs.declared.notes.OpeningNote.{OpeningNote}
@@ -112,10 +112,6 @@ any_row trail now g (Opened o ∷ ns) = at (o.grant == g) refl (is_finalized (gr
     known None b e = e
     known (Some y) b e = e
 
-    never : (b : Bool) → (b && false) ≡ false
-    never true = refl
-    never false = refl
-
     rest : Bool
     rest = list_any (λ (row : GrantRow). row.number == g) (filter_map (grant_row_in trail now) ns)
 
@@ -125,7 +121,7 @@ any_row trail now g (Opened o ∷ ns) = at (o.grant == g) refl (is_finalized (gr
         ≡ (is_some (option_or (some_if b o) (first_of (opening_in g) ns)) && not (is_finalized (grant_state trail g now)))
     at true e true s ih =
         let same : is_finalized (grant_state trail g now) ≡ true = subst (λ n. is_finalized (grant_state trail n now) ≡ true) (eqb-true o.grant g e) s in
-        ih ∙ rw same (never (is_some (first_of (opening_in g) ns)))
+        ih ∙ rw same (and_right (is_some (first_of (opening_in g) ns)) false refl)
     at true e false s ih =
         let same : is_finalized (grant_state trail g now) ≡ false = subst (λ n. is_finalized (grant_state trail n now) ≡ false) (eqb-true o.grant g e) s in
         rw (e, same) refl
