@@ -1,5 +1,6 @@
 -- The one answer that is so.
 use Rattle.std.proofs.Common.{◌≡◌, ◌≢◌, ℕ, Bool, true, false, cond, ◌||◌, inl, inr, List, [], ◌∷◌, ◌++◌, Option, Some, None, Result, Ok, Err, refl, sym, ap, ◌∙◌, subst, true≢false}
+use Rattle.std.proofs.lemmas.Bool.{and_parts}
 use Rattle.std.specs.Prelude.{codes, IfSome}
 use Rattle.std.specs.Str.{bytes_eq}
 use Rattle.std.specs.Option.{option_map_or}
@@ -11,7 +12,6 @@ use Rattle.sha2.specs.Sha512.{sha512}
 use Rattle.structured_fields.specs.declared.item.Member.{Member}
 use Rattle.structured_fields.specs.Grammar.{IsDictionaryText}
 use Rattle.structured_fields.specs.Reading.{◌>>=◌, or_some, dictionary_of}
-use Rattle.structured_fields.proofs.Fronts.{both}
 use Rattle.structured_fields.proofs.Whole.{dictionary_of_takes, dictionary_of_again}
 use Rattle.content_digest.specs.declared.fault.DigestFault.{DigestFault}
 use Rattle.content_digest.specs.declared.fault.DigestFault.TheVariants.{NotAField, NoKnown, Differs, OutOfMemory}
@@ -114,11 +114,11 @@ module _ (body : List ℕ) where
   all_right : (d : List Entry) → are_sequences d ≡ true → first_difference body d ≡ None → AllByRecursion (IsRight body) d
   all_right [] kind none = tt
   all_right (e ∷ d) kind none =
-      let k = both (has_right_kind e) (are_sequences d) kind in
+      let k = and_parts (has_right_kind e) (are_sequences d) kind in
       by (difference body e) refl none (λ h. all_right d k.1 h)
     where
       by : (o : Option Pair) → difference body e ≡ o → or_some o (first_difference body d) ≡ None → (first_difference body d ≡ None → AllByRecursion (IsRight body) d) → IsRight body e × AllByRecursion (IsRight body) d
-      by None p h again = (right_of body e (both (has_right_kind e) (are_sequences d) kind).0 p, again h)
+      by None p h again = (right_of body e (and_parts (has_right_kind e) (are_sequences d) kind).0 p, again h)
       by (Some q) p h again = absurd cc
 
   none_differs : (d : List Entry) → AllByRecursion (IsRight body) d → first_difference body d ≡ None
@@ -140,13 +140,13 @@ module _ (body : List ℕ) where
   split_of : (p : Pair) (d : List Entry) → are_sequences d ≡ true → first_difference body d ≡ Some p → SplitAt p d
   split_of p [] kind h = absurd cc
   split_of p (e ∷ d) kind h =
-      let k = both (has_right_kind e) (are_sequences d) kind in
+      let k = and_parts (has_right_kind e) (are_sequences d) kind in
       by (difference body e) refl h (λ h. split_of p d k.1 h)
     where
       by : (o : Option Pair) → difference body e ≡ o → or_some o (first_difference body d) ≡ Some p → (first_difference body d ≡ Some p → SplitAt p d) → SplitAt p (e ∷ d)
       by None q h again =
           let s = again h in
-          record { before = e ∷ s.before; at = s.at; after = s.after; split = ap (λ (r : List Entry). e ∷ r) s.split; right = (right_of body e (both (has_right_kind e) (are_sequences d) kind).0 q, s.right); other = s.other }
+          record { before = e ∷ s.before; at = s.at; after = s.after; split = ap (λ (r : List Entry). e ∷ r) s.split; right = (right_of body e (and_parts (has_right_kind e) (are_sequences d) kind).0 q, s.right); other = s.other }
       by (Some r) q h again = record { before = []; at = e; after = d; split = refl; right = tt; other = other_of body e p (q ∙ h) }
 
   differs_behind : (p : Pair) (before : List Entry) (e : Entry) (after : List Entry) → AllByRecursion (IsRight body) before → difference body e ≡ Some p → first_difference body (before ++ e ∷ after) ≡ Some p

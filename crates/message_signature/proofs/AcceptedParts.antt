@@ -2,6 +2,7 @@
 use Rattle.std.proofs.Common.{◌≡◌, ℕ, Bool, true, false, not, ◌&&◌, ◌||◌, ◌⊎◌, inl, inr, List, [], ◌∷◌, Option, Some, None, Result, Ok, Err, refl}
 use Rattle.std.specs.Prelude.{codes, IfSome}
 use Rattle.std.specs.List.{list_all}
+use Rattle.std.proofs.lemmas.Bool.{and_parts, or_cases, or_left, or_right, not-true, not_from_false}
 use Rattle.std.proofs.lemmas.Option.{option_and_then_some}
 use Rattle.gnap_io.specs.declared.message.Message.{Message}
 use Rattle.structured_fields.specs.declared.bare.Bare.{Bare}
@@ -10,7 +11,6 @@ use Rattle.structured_fields.specs.declared.item.Item.{Item}
 use Rattle.structured_fields.specs.declared.item.InnerList.{InnerList}
 use Rattle.structured_fields.specs.declared.item.Member.{Member}
 use Rattle.structured_fields.specs.Named.{value_at}
-use Rattle.structured_fields.proofs.Fronts.{both, passes}
 use Rattle.content_digest.specs.declared.fault.DigestFault.{DigestFault}
 use Rattle.content_digest.specs.Digest.{sequence_of}
 use Rattle.content_digest.specs.Judged.{checked}
@@ -23,19 +23,21 @@ use Rattle.message_signature.proofs.SignedBase.{none_is}
 
 four : (a b c d : Bool) → (a && b && c && d) ≡ true → (a ≡ true) × (b ≡ true) × (c ≡ true) × (d ≡ true)
 four a b c d h =
-    let abc = both (a && b && c) d h in
-    let ab = both (a && b) c abc.0 in
-    let a_b = both a b ab.0 in
+    let abc = and_parts (a && b && c) d h in
+    let ab = and_parts (a && b) c abc.0 in
+    let a_b = and_parts a b ab.0 in
     (a_b.0, a_b.1, ab.1, abc.1)
 
-either : (a b : Bool) → (not a || b) ≡ true → (a ≡ false) ⊎ (b ≡ true)
-either false b h = inl refl
-either true b h = inr h
+-- that the one wants the other, as a test says it
+unless : {A : Type 0} (a b : Bool) → (a ≡ false → A) → (not a || b) ≡ true → A ⊎ (b ≡ true)
+unless a b f h = elim (or_cases (not a) b h) [
+  | inl is_not ↦ inl (f (not-true a is_not))
+  | inr is ↦ inr is
+]
 
-one_of : (a b : Bool) → (a ≡ false) ⊎ (b ≡ true) → (not a || b) ≡ true
-one_of false b h = refl
-one_of true b (inl h) = absurd cc
-one_of true b (inr h) = h
+wants : {A : Type 0} (a b : Bool) → (A → a ≡ false) → A ⊎ (b ≡ true) → (not a || b) ≡ true
+wants a b f (inl x) = or_left (not a) b (not_from_false a (f x))
+wants a b f (inr is) = or_right (not a) b is
 
 -- ---- its form
 
@@ -73,7 +75,7 @@ expires_is_integer list h =
     let created = absent_or is_integer (value_at list.params (codes "created")) in
     let expires = absent_or is_integer (value_at list.params (codes "expires")) in
     let keyid = absent_or is_any_string (value_at list.params (codes "keyid")) in
-    (four strings created expires keyid (both (strings && created && expires && keyid) _ h).0).2
+    (four strings created expires keyid (and_parts (strings && created && expires && keyid) _ h).0).2
 
 -- ---- its bytes
 
@@ -110,23 +112,19 @@ pub record Covers (m : Message) (list : InnerList) : Type 0 where
   pub digest : (m.body ≡ []) ⊎ (is_named (codes "content-digest") list.items ≡ true)
   pub authorization : (field_value (codes "authorization") m.fields ≡ None) ⊎ (is_named (codes "authorization") list.items ≡ true)
 
-left : {A B C : Type 0} → (A → B) → A ⊎ C → B ⊎ C
-left f (inl a) = inl (f a)
-left f (inr c) = inr c
-
 pub cover_says : (m : Message) (list : InnerList) → covers_enough m list ≡ true → Covers m list
 cover_says m list h =
     let parts = four _ _ _ _ h in
     record {
       method = parts.0;
       target = parts.1;
-      digest = left (body_is_empty m) (either (has_body m) _ parts.2);
-      authorization = left (none_is (field_value (codes "authorization") m.fields)) (either (has_field (codes "authorization") m) _ parts.3);
+      digest = unless (has_body m) _ (body_is_empty m) parts.2;
+      authorization = unless (has_field (codes "authorization") m) _ (none_is (field_value (codes "authorization") m.fields)) parts.3;
     }
 
 pub covered_passes : (m : Message) (list : InnerList) → Covers m list → covers_enough m list ≡ true
 covered_passes m list c =
-    rw (c.method, c.target, one_of (has_body m) _ (left (empty_is_no_body m) c.digest), one_of (has_field (codes "authorization") m) _ (left (λ e. rw e refl) c.authorization)) refl
+    rw (c.method, c.target, wants (has_body m) _ (empty_is_no_body m) c.digest, wants (has_field (codes "authorization") m) _ (λ e. rw e refl) c.authorization) refl
 
 -- ---- the digest of the body
 
@@ -147,7 +145,7 @@ pub digest_says : (m : Message) → has_right_digest m ≡ true → HasDigest m
 digest_says m h = let parts = by (digest_of m) refl in record { fits = parts.0; body = parts.1 }
   where
     by : (o : Option (List ℕ)) → digest_of m ≡ o → FitsWhereThere m o × IsThereForABody m o
-    by None e = (tt, inl (body_is_empty m (passes (has_body m) (rw e at h))))
+    by None e = (tt, inl (body_is_empty m (not-true (has_body m) (rw e at h))))
     by (Some field) e = (fit (checked field m.body) refl, inr (field, refl))
       where
         fit : (r : Result (Unit {0}) DigestFault) → checked field m.body ≡ r → r ≡ Ok tt

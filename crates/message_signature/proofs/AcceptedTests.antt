@@ -3,12 +3,12 @@ use Rattle.std.proofs.Common.{◌≡◌, ℕ, ◌+◌, Bool, true, List, Option,
 use Rattle.std.specs.Prelude.{ℤ, pos, negsuc, nat_le, IfSome}
 use Rattle.std.specs.Bool.{Decides}
 use Rattle.std.proofs.lemmas.Slice.Eq.{bytes_eq-Decides}
-use Rattle.std.proofs.lemmas.Bool.{leb-true}
+use Rattle.std.proofs.lemmas.Bool.{leb-true, and_parts}
 use Rattle.std.proofs.lemmas.Bool.Decides.{nat_tests}
 use Rattle.structured_fields.specs.declared.bare.Bare.{Bare}
 use Rattle.structured_fields.specs.declared.bare.Bare.TheVariants.{Integer, Decimal, Str, Token, Binary, Boolean}
 use Rattle.structured_fields.specs.Named.{value_at}
-use Rattle.structured_fields.proofs.Fronts.{both, some_is}
+use Rattle.structured_fields.proofs.Fronts.{some_is}
 use Rattle.message_signature.specs.Base.{is_string}
 use Rattle.message_signature.specs.Verified.{is_text, is_integer, is_any_string, absent_or, is_in_window, is_not_expired, key_in}
 use Rattle.message_signature.specs.Accepted.{IsNear, IsUpTo}
@@ -54,7 +54,7 @@ WasMadeNear now o = (created : ℤ) × (o ≡ Some (Integer created)) × IsNear 
 
 pub window_says : (now : ℕ) (o : Option Bare) → is_in_window now o ≡ true → WasMadeNear now o
 window_says now (Some (Integer (pos n))) h =
-    let parts = both (nat_le n (now + 300)) (nat_le now (n + 300)) h in
+    let parts = and_parts (nat_le n (now + 300)) (nat_le now (n + 300)) h in
     (pos n, refl, (leb-true n (now + 300) parts.0, leb-true now (n + 300) parts.1))
 window_says now (Some (Integer (negsuc n))) h = (negsuc n, refl, grind (arith, nat_tests))
 window_says now (Some (Decimal n)) h = absurd cc

@@ -6,10 +6,10 @@ use Rattle.std.proofs.lemmas.List.{append-nil, map-append, reverse-append, rever
 use Rattle.std.proofs.lemmas.List.Elements.{filter-append}
 use Rattle.gnap_io.specs.declared.message.Field.{Field}
 use Rattle.structured_fields.specs.Letters.{is_ows}
-use Rattle.structured_fields.specs.Reading.{behind}
+use Rattle.structured_fields.specs.Reading.{behind, trimmed}
 use Rattle.structured_fields.proofs.Fronts.{stops, behind_again}
 use Rattle.content_digest.proofs.Ends.{EndsIn}
-use Rattle.message_signature.specs.Components.{trimmed, values_of, joined, field_value}
+use Rattle.message_signature.specs.Components.{values_of, joined, field_value}
 
 -- ---- more lines
 

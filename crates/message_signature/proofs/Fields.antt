@@ -1,23 +1,14 @@
 -- The values of fields.
-use Rattle.std.proofs.Common.{◌≡◌, ℕ, ◌+◌, ◌-◌, ◌<◌, ◌≤◌, Bool, true, false, cond, List, [], ◌∷◌, ◌++◌, length, get_or, map, take, drop, reverse, Option, Some, None, refl, sym, ap, ◌∙◌, append_assoc}
+use Rattle.std.proofs.Common.{◌≡◌, ℕ, ◌+◌, ◌<◌, Bool, true, false, cond, List, [], ◌∷◌, ◌++◌, length, get_or, map, take, Some, None, refl, sym, ap, ◌∙◌, append_assoc}
 use Rattle.std.specs.Prelude.{filter, is_some}
 use Rattle.std.specs.List.{list_any}
-use Rattle.std.specs.Option.{option_map}
 use Rattle.std.specs.Str.{bytes_eq}
-use Rattle.std.proofs.lemmas.List.{length-reverse, length-drop, reverse-append, reverse-reverse, take-append-drop, take_at, map-append, append-nil}
+use Rattle.std.proofs.lemmas.List.{map-append, append-nil}
 use Rattle.std.proofs.lemmas.List.Elements.{filter_more}
 use Rattle.gnap_io.specs.declared.message.Field.{Field}
+use Rattle.structured_fields.specs.Reading.{trimmed}
 use Rattle.structured_fields.specs.Canonical.{further_text}
-use Rattle.message_signature.specs.Components.{trimmed, values_of, joined, field_value, with_next}
-
--- what is dropped from the end, by the list turned round and by its length
-pub dropped_back : {X : Type 0} (n : ℕ) (xs : List X) → n ≤ length xs → take (length xs - n) xs ≡ reverse (drop n (reverse xs))
-dropped_back n xs h =
-    let parts : xs ≡ reverse (drop n (reverse xs)) ++ reverse (take n (reverse xs)) =
-    sym (reverse-reverse xs) ∙ sym (ap reverse (take-append-drop n (reverse xs))) ∙ reverse-append (take n (reverse xs)) (drop n (reverse xs)) in
-    let len : length (reverse (drop n (reverse xs))) ≡ length xs - n =
-    length-reverse (drop n (reverse xs)) ∙ length-drop n (reverse xs) ∙ ap (λ (k : ℕ). k - n) (length-reverse xs) in
-    ap (take (length xs - n)) parts ∙ take_at (reverse (drop n (reverse xs))) (reverse (take n (reverse xs))) (length xs - n) len
+use Rattle.message_signature.specs.Components.{values_of, joined, field_value, with_next}
 
 -- ---- whether a line has the name
 
@@ -54,21 +45,8 @@ module _ (name : List ℕ) (fields : List Field) (i : ℕ) (f : Field) (at : f �
   unfolding field_value
   field_same h = rw (values_more, h) (ap joined (append-nil (values_of name (take i fields))))
 
--- ---- behind a text
-
--- so far: no line and the text alone, or the text with what is joined
-abbrev pub IsBehind : List ℕ → Bool → List ℕ → Option (List ℕ) → Type 0
-IsBehind text true out so_far = (so_far ≡ None) × (out ≡ text)
-IsBehind text false out so_far = option_map (λ v. text ++ v) so_far ≡ Some out
+-- ---- no line
 
 pub field_none : (name : List ℕ) → field_value name [] ≡ None
 unfolding field_value
 field_none name = refl
-
-pub behind_more : (text : List ℕ) (is_first : Bool) (out : List ℕ) (so_far : Option (List ℕ)) (value : List ℕ) → IsBehind text is_first out so_far
-    → IsBehind text false (out ++ cond is_first value (44 ∷ 32 ∷ value)) (Some (with_next so_far value))
-behind_more text true out so_far value h = rw (h.0, h.1) refl
-behind_more text false out None value h = absurd cc
-behind_more text false out (Some t) value h =
-    let e : text ++ t ≡ out = cc in
-    ap (λ (u : List ℕ). Some u) (sym (append_assoc text t (44 ∷ 32 ∷ value)) ∙ ap (λ (u : List ℕ). u ++ (44 ∷ 32 ∷ value)) e)

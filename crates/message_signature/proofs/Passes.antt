@@ -4,12 +4,13 @@ use Rattle.std.specs.Prelude.{codes, pos, is_some, option_map}
 use Rattle.std.specs.List.{list_all}
 use Rattle.std.specs.Str.{bytes_eq}
 use Rattle.std.proofs.lemmas.Slice.Eq.{bytes_eq-Decides}
+use Rattle.std.proofs.lemmas.Bool.{or_parts}
 use Rattle.std.proofs.lemmas.Bool.Decides.{nat_tests}
 use Rattle.gnap_io.specs.declared.message.Message.{Message}
 use Rattle.structured_fields.specs.declared.bare.Bare.TheVariants.{Integer}
 use Rattle.structured_fields.specs.declared.item.InnerList.{InnerList}
 use Rattle.structured_fields.specs.Canonical.{dictionary_text}
-use Rattle.structured_fields.proofs.Fronts.{neither, some_is}
+use Rattle.structured_fields.proofs.Fronts.{some_is}
 use Rattle.content_digest.proofs.Judging.{fits_checked}
 use Rattle.hmac_key.specs.Hmac.{hmac_sha256}
 use Rattle.message_signature.specs.Components.{values_of, field_value}
@@ -92,7 +93,7 @@ module _ (m w : Message) (base : List ℕ) (ring : List (List ℕ × List ℕ)) 
   tagged_is : tagged signed_one tag ≡ Ok (signature_input w id created tag, bytes)
   unfolding tagged
   tagged_is =
-      let none = neither _ _ can.unsigned in
+      let none = or_parts _ _ can.unsigned in
       let no_input : has_field (codes "signature-input") w ≡ false = ap is_some (is.beside (codes "signature-input") refl) ∙ none.0 in
       let no_signature : has_field (codes "signature") w ≡ false = ap is_some (is.beside (codes "signature") refl) ∙ none.1 in
       rw (input_value w id created tag bytes no_input, signature_value w id created tag bytes no_signature, input_again w id created tag can.created_size can.id_text can.tag_text, signature_again secret text, same tag, well_formed w id created tag) refl

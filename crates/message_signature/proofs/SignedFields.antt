@@ -10,7 +10,7 @@ use Rattle.structured_fields.specs.declared.item.Member.{Member}
 use Rattle.structured_fields.specs.declared.item.Member.TheVariants.{Item as Single, Inner}
 use Rattle.structured_fields.specs.Letters.{is_string_byte}
 use Rattle.structured_fields.specs.Grammar.{in_string}
-use Rattle.structured_fields.specs.Reading.{dictionary_of}
+use Rattle.structured_fields.specs.Reading.{dictionary_of, trimmed}
 use Rattle.structured_fields.specs.Canonical.{value_text, item_text, separated_text, inner_text, dictionary_text, IsInRange, IsItemInRange}
 use Rattle.structured_fields.proofs.Whole.{dictionary_of_again}
 use Rattle.structured_fields.proofs.Written.{dictionary_text_is}
@@ -18,7 +18,6 @@ use Rattle.content_digest.specs.Digest.{digest_text}
 use Rattle.content_digest.proofs.LineFits.{sha_bytes}
 use Rattle.content_digest.proofs.Ends.{EndsIn, binary_ends, digest_ends}
 use Rattle.hmac_key.specs.Hmac.{hmac_sha256}
-use Rattle.message_signature.specs.Components.{trimmed}
 use Rattle.message_signature.specs.Signed.{component_item, signature_input, under_label}
 use Rattle.message_signature.proofs.Appended.{trimmed_same}
 

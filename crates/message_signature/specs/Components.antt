@@ -1,21 +1,16 @@
 -- The values of a message's components (RFC 9421, section 2).
 -- Bytes stand by their numbers: 44 `,`, 32 SP, 47 `/`, 58 `:`, 63 `?`, 64 `@`.
-use Rattle.std.specs.Prelude.{ℕ, ◌+◌, ◌==◌, nat_le, Bool, false, not, ◌&&◌, ◌||◌, if◌then◌else◌, List, [], ◌∷◌, ◌++◌, map, filter, take, drop, reverse, Option, Some, None, codes}
+use Rattle.std.specs.Prelude.{ℕ, ◌+◌, ◌==◌, nat_le, Bool, false, not, ◌&&◌, ◌||◌, if◌then◌else◌, List, [], ◌∷◌, ◌++◌, map, filter, take, drop, Option, Some, None, codes}
 use Rattle.std.specs.List.{prefix_len, list_any}
 use Rattle.std.specs.Str.{bytes_eq}
 use Rattle.gnap_io.specs.declared.message.Field.{Field}
 use Rattle.gnap_io.specs.declared.message.Message.{Message}
-use Rattle.structured_fields.specs.Letters.{is_ows}
-use Rattle.structured_fields.specs.Reading.{behind}
+use Rattle.structured_fields.specs.Reading.{trimmed}
 use Rattle.structured_fields.specs.Canonical.{separated_text}
 use Rattle.message_signature.specs.declared.components.FieldValue.{FieldValue}
 use Rattle.message_signature.specs.declared.components.FieldValue.TheVariants.{Line, Joined}
 
 -- ---- fields (section 2.1)
-
--- without SP and HTAB at both ends
-abbrev pub trimmed : List ℕ → List ℕ
-trimmed value = reverse (behind is_ows (reverse (behind is_ows value)))
 
 -- the values of the lines with this name, in order
 abbrev pub values_of : List ℕ → List Field → List (List ℕ)

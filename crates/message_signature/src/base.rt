@@ -68,7 +68,7 @@ fn append_line(
     }
     let text = append_name(alloc, text, item)?;
     let text = appended(text, b": ")?;
-    let text = append_component(text, message, base, name.as_slice())?;
+    let text = append_component(alloc, text, message, base, name.as_slice())?;
     appended(text, b"\n")
 }
 

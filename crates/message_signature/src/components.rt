@@ -1,12 +1,10 @@
 //! The values of a message's components (RFC 9421, section 2).
-ghost use Rattle.std.specs.Prelude.{◌≡◌, ◌≤◌, ◌++◌, ◌∷◌, if◌then◌else◌, Some, length, reverse, IfOk, OnOk};
-ghost use Rattle.std.specs.List.{prefix_len, list_any};
+ghost use Rattle.std.specs.Prelude.{◌≡◌, ◌≤◌, ◌++◌, Some, length, IfOk};
+ghost use Rattle.std.specs.List.{list_any};
 ghost use Rattle.std.specs.Option.{option_map};
 ghost use Rattle.std.specs.Str.{bytes_eq};
-ghost use Rattle.structured_fields.specs.Letters.{is_ows};
-ghost use Rattle.structured_fields.specs.Reading.{behind};
 ghost use Rattle.message_signature.specs.Faults.{GivesBase};
-ghost use Rattle.message_signature.specs.Components.{trimmed, field_value, with_next, text_of, until, or_default, scheme_of, authority_of, path_of, query_of, begins_with_at, is_upper, component};
+ghost use Rattle.message_signature.specs.Components.{field_value, with_next, text_of, until, or_default, scheme_of, authority_of, path_of, query_of, begins_with_at, is_upper, component};
 ghost use Rattle.message_signature.specs.Verified.{has_body, has_field};
 
 use crate::fault::BaseFault;
@@ -14,6 +12,7 @@ use gnap_io::bytes::Bytes;
 use gnap_io::memory::Mem;
 use gnap_io::message::{Fields, Message};
 use std::alloc::Global;
+use structured_fields::trimmed;
 
 /// The value of a field: borrowed where one line has it, joined where several have.
 #[derive(Drop)]
@@ -33,41 +32,6 @@ impl FieldValue<'_> {
     }
 }
 
-fn is_ows(b: u8) -> bool
-    ensures { result ≡ is_ows b }
-{
-    b == b' ' || b == b'\t'
-}
-
-fn ows_run(bytes: &[u8]) -> usize
-    ensures len { result ≡ prefix_len is_ows bytes.now }
-    ensures within { result ≤ length bytes.now }
-{
-    bytes.iter().take_while(|b| is_ows(**b)).count()
-}
-
-// How many SP and HTAB stand at the end.
-fn ows_run_back(bytes: &[u8]) -> usize
-    ensures len { result ≡ prefix_len is_ows (reverse bytes.now) }
-    ensures within { result ≤ length bytes.now }
-{
-    bytes.iter().rev().take_while(|b| is_ows(**b)).count()
-}
-
-// Without SP and HTAB at the end.
-#[tactic(auto, using(crate::proofs::Fields::dropped_back))]
-fn trimmed_back(bytes: &[u8]) -> &[u8]
-    ensures { result.now ≡ reverse (behind is_ows (reverse bytes.now)) }
-{
-    &bytes[..bytes.len() - ows_run_back(bytes)]
-}
-
-fn trimmed(value: &[u8]) -> &[u8]
-    ensures { result.now ≡ trimmed value.now }
-{
-    trimmed_back(&value[ows_run(value)..])
-}
-
 // What is joined so far, and one more value behind it.
 fn with_next<'a>(
     alloc: Global,
@@ -81,7 +45,8 @@ fn with_next<'a>(
         Some(FieldValue::Line(line)) => Bytes::from_slice(alloc, line)?,
         Some(FieldValue::Joined(text)) => text,
     };
-    put_line(&mut text, false, value)?;
+    text.extend(b", ")?;
+    text.extend(value)?;
     Ok(FieldValue::Joined(text))
 }
 
@@ -102,32 +67,19 @@ pub(crate) fn field_value<'a>(
     Ok(found)
 }
 
-// The value of a line behind the text, and behind `, ` where others stand before it.
-fn put_line(out: &mut Bytes, is_first: bool, value: &[u8]) -> Result<(), Mem>
-    ensures { OnOk result (out.new ≡ out.old ++ (if is_first then value.now else 44 ∷ 32 ∷ value.now)) }
-{
-    if !is_first {
-        out.extend(b", ")?;
-    }
-    out.extend(value)
-}
-
-/// The text with the value of a field behind it. Unsupported exactly where no line has the name.
-pub(crate) fn append_field(text: Bytes, fields: &Fields, name: &[u8]) -> Result<Bytes, BaseFault>
+// The text with the value of a field behind it. Unsupported exactly where no line has the name.
+fn append_field(
+    alloc: Global,
+    text: Bytes,
+    fields: &Fields,
+    name: &[u8],
+) -> Result<Bytes, BaseFault>
     ensures { GivesBase (λ b. b) result (option_map (λ v. text ++ v) (field_value name.now fields.now)) }
 {
-    let mut out = text;
-    let mut is_first = true;
-    for field in fields.as_slice() {
-        if field.name.as_slice() == name {
-            put_line(&mut out, is_first, trimmed(field.value.as_slice()))?;
-            is_first = false;
-        }
+    match field_value(alloc, fields, name)? {
+        Some(value) => appended(text, value.as_slice()),
+        None => Err(BaseFault::Unsupported),
     }
-    if is_first {
-        return Err(BaseFault::Unsupported);
-    }
-    Ok(out)
 }
 
 fn has_line(fields: &Fields, name: &[u8]) -> bool
@@ -232,6 +184,7 @@ fn append_both(text: Bytes, front: &[u8], back: &[u8]) -> Result<Bytes, BaseFaul
 /// The text with the value of a component behind it (sections 2.1 and 2.2). Unsupported exactly where there is no such component.
 #[tactic(auto, unfolding(crate::specs::Components::component))]
 pub(crate) fn append_component(
+    alloc: Global,
     text: Bytes,
     message: &Message,
     base: &Bytes,
@@ -254,6 +207,6 @@ pub(crate) fn append_component(
     } else if begins_with_at(name) || has_upper(name) {
         Err(BaseFault::Unsupported)
     } else {
-        append_field(text, &message.fields, name)
+        append_field(alloc, text, &message.fields, name)
     }
 }
