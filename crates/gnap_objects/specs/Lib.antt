@@ -7,5 +7,8 @@ pub mod Reading
 pub mod TokenRequests
 pub mod Grants
 pub mod Introspections
+pub mod Continuations
+pub mod UserCodes
+pub mod Decisions
 pub mod CallReading
 pub mod Setups

@@ -3,7 +3,7 @@ use json_objects::read_body;
 use std::alloc::{AllocError, Global};
 use std::test::Fail;
 
-fn repeated(alloc: Global, piece: &str, times: usize) -> Result<String, AllocError> {
+pub(crate) fn repeated(alloc: Global, piece: &str, times: usize) -> Result<String, AllocError> {
     let mut text = String::new(alloc);
     for _ in 0..times {
         text.push_str(piece)?;
@@ -11,7 +11,7 @@ fn repeated(alloc: Global, piece: &str, times: usize) -> Result<String, AllocErr
     Ok(text)
 }
 
-fn fault_text(alloc: Global, fault: ObjectFault) -> Result<String, AllocError> {
+pub(crate) fn fault_text(alloc: Global, fault: ObjectFault) -> Result<String, AllocError> {
     let (kind, name) = match &fault {
         ObjectFault::Missing(name) => ("missing", name.as_slice()),
         ObjectFault::Wrong(name) => ("wrong", name.as_slice()),
