@@ -14,7 +14,7 @@ use Rattle.access_rights.specs.Fits.{Fits, IsUtf8Or}
 abbrev pub AskFits : Ask → Type 0
 AskFits ask = IsUtf8Or ask.label × AllByRecursion Fits ask.rights
 
--- the texts of a grant request that names no way to interact
+-- the texts of a grant request but for those of its ways to interact
 abbrev pub RequestFits : GrantRequest → Type 0
 RequestFits request = AllByRecursion AskFits request.asks × IsUtf8Or request.client × IsUtf8Or request.user
 

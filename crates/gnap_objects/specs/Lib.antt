@@ -5,6 +5,8 @@ pub mod Fits
 pub mod CallsFit
 pub mod Reading
 pub mod TokenRequests
+pub mod Users
+pub mod Interactions
 pub mod Grants
 pub mod Introspections
 pub mod Continuations

@@ -21,10 +21,6 @@ use Rattle.gnap_objects.specs.Forms.{is_id}
 abbrev pub required : List ℕ → Data → Result Data ObjectFault
 required name d = or_fault (faults.Missing name) (get name d)
 
--- what is read next; the member of that name is of a form that isn't read
-abbrev pub without : {A : Type 0} → List ℕ → Data → Result A ObjectFault → Result A ObjectFault
-without name d next = if is_some (get name d) then Err (faults.Wrong name) else next
-
 -- what is read of a member, where it is there
 abbrev pub optional : {A : Type 0} → (Data → Result A ObjectFault) → Option Data → Result (Option A) ObjectFault
 optional reading None = Ok None

@@ -9,7 +9,7 @@ ghost use Rattle.gnap_objects.specs.CallsFit.{RightsFitOr, DecisionFits};
 ghost use Rattle.gnap_objects.specs.Decisions.{handle_of, verdict_in, verdict_of, decided_rights_of, decided_subject_of, bounded_rights, decide_request_of};
 
 use crate::fault::ObjectFault;
-use crate::members::{is_too_long, required_text, rights_in, sized, text_of};
+use crate::members::{is_too_long, required, required_text, rights_in, sized, text_of};
 use gnap_io::bytes::Bytes;
 use gnap_model::objects::{DecideRequest, Verdict};
 use gnap_model::rights::Rights;
@@ -26,15 +26,15 @@ pub fn read_handle(alloc: Global, value: &Value) -> Result<Bytes, ObjectFault>
     required_text(alloc, value, "handle")
 }
 
-#[tactic(auto, unfolding(crate::specs::Decisions::verdict_of))]
+#[tactic(auto, unfolding(crate::specs::Decisions::verdict_of, crate::specs::Reading::required_text, crate::specs::Reading::text_of))]
 fn verdict_of(alloc: Global, value: &Value) -> Result<Verdict, ObjectFault>
     ensures { Gives OutOfMemory (λ v. v) result (verdict_of (view value.now)) }
 {
-    let verdict = required_text(alloc, value, "verdict")?;
-    match verdict.as_slice() {
-        b"grant" => Ok(Verdict::Grant),
-        b"deny" => Ok(Verdict::Deny),
-        b"unknown" => Ok(Verdict::Unknown),
+    let verdict = required(alloc, value, "verdict")?;
+    match verdict.as_str() {
+        Some("grant") => Ok(Verdict::Grant),
+        Some("deny") => Ok(Verdict::Deny),
+        Some("unknown") => Ok(Verdict::Unknown),
         _ => Err(ObjectFault::wrong(alloc, "verdict")),
     }
 }

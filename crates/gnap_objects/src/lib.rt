@@ -10,11 +10,13 @@ pub mod decisions;
 pub mod fault;
 pub mod forms;
 pub mod grants;
+mod interactions;
 pub mod introspections;
 mod members;
 pub mod setups;
 mod token_requests;
 pub mod user_codes;
+mod users;
 
 pub use call_reading::{BodyForm, CallKind, CallOrRefusal, read_call};
 pub use continuations::{read_continue, read_rotate};
@@ -31,6 +33,8 @@ pub use user_codes::read_code;
 
 #[cfg(test)]
 mod call_body_tests;
+#[cfg(test)]
+mod interaction_tests;
 #[cfg(test)]
 mod setup_tests;
 #[cfg(test)]

@@ -1,7 +1,6 @@
 //! Members of objects, up to the first fault.
-ghost use Rattle.std.specs.Prelude.{◌≡◌, IfOk, is_some, IsUtf8, map};
+ghost use Rattle.std.specs.Prelude.{◌≡◌, IfOk, IsUtf8, map};
 ghost use Rattle.std.specs.List.{AllByRecursion};
-ghost use Rattle.serde_json.specs.Find.{get};
 ghost use Rattle.serde_json.specs.View.{view, items_view};
 ghost use Rattle.json_objects.specs.Bodies.{IsBody};
 ghost use Rattle.json_objects.specs.Reading.{Gives};
@@ -20,12 +19,6 @@ use json_objects::sizes::enclosed_size;
 use json_objects::{member, other_member};
 use serde_json::Value;
 use std::alloc::Global;
-
-pub(crate) fn has(value: &Value, name: &str) -> bool
-    ensures { result ≡ is_some (get name.now (view value.now)) }
-{
-    value.get(name).is_some()
-}
 
 pub(crate) fn required<'v>(
     alloc: Global,

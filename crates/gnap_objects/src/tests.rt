@@ -83,7 +83,7 @@ fn a_grant_request_names_its_first_fault(rt: HostRuntime) -> Result<(), Fail> {
             "\"access_token\":{\"access\":[\"p\"],\"flags\":[\"x\",\"bearer\",\"x\"]},\"client\":\"c1\"",
             "flag flags",
         ),
-        ("\"subject\":{}", "wrong subject"),
+        ("\"subject\":1", "wrong subject"),
         ("\"access_token\":{\"access\":[\"p\"]}", "missing client"),
         (
             "\"access_token\":{\"access\":[\"p\"]},\"client\":{\"id\":\"c1\"}",
@@ -98,11 +98,11 @@ fn a_grant_request_names_its_first_fault(rt: HostRuntime) -> Result<(), Fail> {
             "wrong client",
         ),
         (
-            "\"access_token\":{\"access\":[\"p\"]},\"client\":\"c1\",\"interact\":{},\"user\":\"u\"",
+            "\"access_token\":{\"access\":[\"p\"]},\"client\":\"c1\",\"interact\":1,\"user\":\"\"",
             "wrong user",
         ),
         (
-            "\"access_token\":{\"access\":[\"p\"]},\"client\":\"c1\",\"interact\":{}",
+            "\"access_token\":{\"access\":[\"p\"]},\"client\":\"c1\",\"interact\":1",
             "wrong interact",
         ),
     ] {
