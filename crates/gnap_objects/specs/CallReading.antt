@@ -11,7 +11,6 @@ use Rattle.gnap_model.specs.declared.objects.Role.TheVariants as role
 use Rattle.gnap_model.specs.declared.objects.KeyRow.{KeyRow}
 use Rattle.gnap_model.specs.declared.objects.Setup.{Setup}
 use Rattle.gnap_model.specs.declared.objects.IntrospectRequest.{IntrospectRequest}
-use Rattle.gnap_model.specs.declared.objects.ErrorCode.{ErrorCode}
 use Rattle.gnap_model.specs.declared.objects.ErrorCode.TheVariants.{InvalidRequest, InvalidClient, InvalidFlag, InvalidResourceServer}
 use Rattle.gnap_model.specs.declared.calls.Call.{Call}
 use Rattle.gnap_model.specs.declared.calls.Call.TheVariants as calls

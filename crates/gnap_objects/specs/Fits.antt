@@ -1,5 +1,5 @@
 -- What a reader gives: requests and setups that can be shown again as JSON, since their texts are UTF-8.
-use Rattle.std.specs.Prelude.{◌≤◌, List, length, Option, Some, None}
+use Rattle.std.specs.Prelude.{List, Option, Some, None}
 use Rattle.std.specs.List.{AllByRecursion}
 use Rattle.std.specs.Str.{IsUtf8}
 use Rattle.gnap_model.specs.declared.rights.Right.{Right}

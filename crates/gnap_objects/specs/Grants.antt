@@ -9,7 +9,6 @@ use Rattle.gnap_objects.specs.declared.fault.ObjectFault.{ObjectFault}
 use Rattle.gnap_objects.specs.declared.fault.ObjectFault.TheVariants as faults
 use Rattle.gnap_objects.specs.declared.grants.GrantBody.{GrantBody}
 use Rattle.gnap_objects.specs.declared.grants.ClientName.{ClientName}
-use Rattle.gnap_objects.specs.declared.members.KeyName.{KeyName}
 use Rattle.gnap_objects.specs.declared.token_requests.TokenRequests.{TokenRequests}
 use Rattle.gnap_objects.specs.Reading.{required, key_name_of, is_too_long}
 use Rattle.gnap_objects.specs.TokenRequests.{token_requests_of}
