@@ -1,8 +1,6 @@
 -- The size of all asked rights.
-use Rattle.std.proofs.Common.{◌≡◌, ◌∙◌, ℕ, ◌+◌, ◌-◌, ◌^◌, ◌<◌, min, List, [], ◌∷◌, ◌++◌, length, map, nat_lt, refl, ap, sym, arith}
+use Rattle.std.proofs.Common.{◌≡◌, ◌∙◌, ℕ, ◌+◌, List, [], ◌∷◌, ◌++◌, map, nat_lt, ap, arith}
 use Rattle.std.proofs.lemmas.Bool.Decides.{nat_tests}
-use Rattle.serde_json.specs.Data.{Data}
-use Rattle.serde_json.specs.Written.{compact_text}
 use Rattle.json_objects.specs.Objects.{items}
 use Rattle.json_objects.specs.Sizes.{capped, items_size}
 use Rattle.json_objects.proofs.Lengths.{capped-add, capped-add_right}

@@ -1,5 +1,5 @@
 -- The call that a key makes: from the key's role on, up to the call or the code of the error with which it is refused.
-use Rattle.std.specs.Prelude.{◌≡◌, ◌≢◌, Bool, true, false, Option, Some, None, Result, Ok, Err, if◌then◌else◌}
+use Rattle.std.specs.Prelude.{◌≡◌, ◌≢◌, Bool, true, false, Option, Some, None, Result, Ok, Err, if◌then◌else◌, is_some}
 use Rattle.serde_json.specs.Data.{Data}
 use Rattle.serde_json.specs.View.{view}
 use Rattle.json_objects.specs.Bodies.{IsBody}
@@ -11,7 +11,6 @@ use Rattle.gnap_model.specs.declared.objects.Role.TheVariants as role
 use Rattle.gnap_model.specs.declared.objects.KeyRow.{KeyRow}
 use Rattle.gnap_model.specs.declared.objects.Setup.{Setup}
 use Rattle.gnap_model.specs.declared.objects.IntrospectRequest.{IntrospectRequest}
-use Rattle.gnap_model.specs.declared.objects.ErrorCode.{ErrorCode}
 use Rattle.gnap_model.specs.declared.objects.ErrorCode.TheVariants.{InvalidRequest, InvalidClient, InvalidFlag, InvalidResourceServer}
 use Rattle.gnap_model.specs.declared.calls.Call.{Call}
 use Rattle.gnap_model.specs.declared.calls.Call.TheVariants as calls
@@ -70,11 +69,12 @@ IsReadable forms.NotOfForm = Unit {0}
 
 -- ---- the calls
 
--- A grant request is for the client that makes it (RFC 9635, section 2.3). That a flag stands twice in it is said to that client alone.
+-- A grant request is for the client that makes it (RFC 9635, section 2.3). That a flag stands twice in it is said to that client alone. No interaction
+-- is built, so a request that offers one is refused.
 abbrev pub begin_by : Text → Result GrantBody ObjectFault → CallOrRefusal
 begin_by key (Err fault) = Refused InvalidRequest
-begin_by key (Ok body) = if is_text key body.request.client
-    then (if body.repeats_flag then Refused InvalidFlag else Accepted (calls.Begin key body.request None)) else stranger Begin
+begin_by key (Ok body) = if is_some body.request.modes then Refused InvalidRequest else (if is_text key body.request.client
+    then (if body.repeats_flag then Refused InvalidFlag else Accepted (calls.Begin key body.request None)) else stranger Begin)
 
 -- an introspection is for the resource server that makes it (RFC 9767, section 3.3)
 abbrev pub introspect_by : Text → Result IntrospectRequest ObjectFault → CallOrRefusal

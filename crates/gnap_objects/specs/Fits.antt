@@ -1,5 +1,5 @@
 -- What a reader gives: requests and setups that can be shown again as JSON, since their texts are UTF-8.
-use Rattle.std.specs.Prelude.{◌≤◌, List, length, Option, Some, None}
+use Rattle.std.specs.Prelude.{List, Option, Some, None}
 use Rattle.std.specs.List.{AllByRecursion}
 use Rattle.std.specs.Str.{IsUtf8}
 use Rattle.gnap_model.specs.declared.rights.Right.{Right}
@@ -14,7 +14,7 @@ use Rattle.access_rights.specs.Fits.{Fits, IsUtf8Or}
 abbrev pub AskFits : Ask → Type 0
 AskFits ask = IsUtf8Or ask.label × AllByRecursion Fits ask.rights
 
--- the texts of a grant request that names no way to interact
+-- the texts of a grant request but for those of its ways to interact
 abbrev pub RequestFits : GrantRequest → Type 0
 RequestFits request = AllByRecursion AskFits request.asks × IsUtf8Or request.client × IsUtf8Or request.user
 

@@ -1,34 +1,37 @@
 -- Grant requests and modifications (RFC 9635, sections 2 and 5.3).
-use Rattle.std.specs.Prelude.{ℕ, ◌==◌, List, length, Bool, true, false, Option, Some, None, Result, Ok, Err, nat_lt, if◌then◌else◌, codes}
+use Rattle.std.specs.Prelude.{ℕ, ◌==◌, ◌&&◌, List, length, Bool, true, false, not, Option, Some, None, Result, Ok, Err, if◌then◌else◌, codes}
 use Rattle.serde_json.specs.Data.{Data}
-use Rattle.serde_json.specs.Written.{compact_text}
 use Rattle.json_objects.specs.Reading.{◌>>=◌}
 use Rattle.gnap_model.specs.Asked.{asked_rights}
 use Rattle.gnap_model.specs.declared.objects.Ask.{Ask}
 use Rattle.gnap_model.specs.declared.objects.GrantRequest.{GrantRequest}
-use Rattle.access_rights.specs.Printing.{rights_data}
 use Rattle.gnap_objects.specs.declared.fault.ObjectFault.{ObjectFault}
 use Rattle.gnap_objects.specs.declared.fault.ObjectFault.TheVariants as faults
 use Rattle.gnap_objects.specs.declared.grants.GrantBody.{GrantBody}
 use Rattle.gnap_objects.specs.declared.grants.ClientName.{ClientName}
-use Rattle.gnap_objects.specs.declared.members.KeyName.{KeyName}
 use Rattle.gnap_objects.specs.declared.token_requests.TokenRequests.{TokenRequests}
-use Rattle.gnap_objects.specs.Reading.{required, without, key_name_of}
+use Rattle.gnap_objects.specs.Reading.{required, key_name_of, is_too_long}
 use Rattle.gnap_objects.specs.TokenRequests.{token_requests_of}
+use Rattle.gnap_objects.specs.Users.{subject_request_of, user_of}
+use Rattle.gnap_objects.specs.Interactions.{interact_of}
 
--- a token has to be asked for
-abbrev pub some_asked : TokenRequests → Result TokenRequests ObjectFault
-some_asked ts = if length ts.asks == 0 then Err (faults.Missing (codes "access_token")) else Ok ts
+-- a token or an identifier of the user has to be asked for
+abbrev pub some_asked : TokenRequests → Bool → Result TokenRequests ObjectFault
+some_asked ts subject = if length ts.asks == 0 && not subject then Err (faults.Missing (codes "access_token")) else Ok ts
 
 -- `client`: an id, or an object with a key's id; a modification isn't asked for it
 unfoldable pub client_of : Bool → Data → Result ClientName ObjectFault
 client_of true d = Ok (record { id = None; by_object = false })
-client_of false d = required (codes "client") d >>= key_name_of (codes "client")
-    >>= λ key. without (codes "user") d (Ok (record { id = Some key.id; by_object = key.by_object }))
+client_of false d = required (codes "client") d >>= key_name_of (codes "client") >>= λ key. Ok (record { id = Some key.id; by_object = key.by_object })
 
--- the compact text of the array of all asked rights has more than 4,096 bytes
+-- `user`; a modification isn't asked for it
+abbrev pub named_user_of : Bool → Data → Result (Option (List ℕ)) ObjectFault
+named_user_of true d = Ok None
+named_user_of false d = user_of d
+
+-- all asked rights together
 abbrev pub asks_too_much : List Ask → Bool
-asks_too_much asks = nat_lt 4096 (length (compact_text (rights_data (asked_rights asks))))
+asks_too_much asks = is_too_long (asked_rights asks)
 
 abbrev pub checked_size : TokenRequests → Result TokenRequests ObjectFault
 checked_size ts = if asks_too_much ts.asks then Err (faults.TooMany (codes "access_token")) else Ok ts
@@ -37,11 +40,14 @@ checked_size ts = if asks_too_much ts.asks then Err (faults.TooMany (codes "acce
 unfoldable pub grant_body_of : Bool → Data → Result GrantBody ObjectFault
 grant_body_of modify d = do
   tokens ← token_requests_of d
-  some ← without (codes "subject") d (some_asked tokens)
+  subject ← subject_request_of d
+  some ← some_asked tokens subject
   client ← client_of modify d
-  small ← without (codes "interact") d (checked_size tokens)
+  user ← named_user_of modify d
+  modes ← interact_of d
+  small ← checked_size tokens
   Ok (record {
-    request = record { asks = tokens.asks; single = tokens.single; subject = false; client = client.id; by_object = client.by_object; user = None; modes = None };
+    request = record { asks = tokens.asks; single = tokens.single; subject = subject; client = client.id; by_object = client.by_object; user = user; modes = modes };
     repeats_flag = tokens.repeats_flag;
   })
 

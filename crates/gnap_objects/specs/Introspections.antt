@@ -11,7 +11,6 @@ use Rattle.gnap_model.specs.declared.objects.IntrospectRequest.{IntrospectReques
 use Rattle.access_rights.specs.Reading.{rights_of}
 use Rattle.gnap_objects.specs.declared.fault.ObjectFault.{ObjectFault}
 use Rattle.gnap_objects.specs.declared.fault.ObjectFault.TheVariants as faults
-use Rattle.gnap_objects.specs.declared.members.KeyName.{KeyName}
 use Rattle.gnap_objects.specs.Reading.{required, text_of, key_name_of, under, counted_rights}
 
 -- the way in which the token was presented

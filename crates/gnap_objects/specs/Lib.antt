@@ -5,7 +5,12 @@ pub mod Fits
 pub mod CallsFit
 pub mod Reading
 pub mod TokenRequests
+pub mod Users
+pub mod Interactions
 pub mod Grants
 pub mod Introspections
+pub mod Continuations
+pub mod UserCodes
+pub mod Decisions
 pub mod CallReading
 pub mod Setups

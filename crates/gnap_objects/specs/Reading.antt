@@ -1,8 +1,11 @@
 -- Reading an object, member by member in the order of its table, up to the first fault.
 use Rattle.std.specs.Prelude.{ℕ, ◌==◌, List, length, Bool, true, false, Option, Some, None, Result, Ok, Err, nat_lt, if◌then◌else◌, is_some, codes}
-use Rattle.serde_json.specs.Data.{Data}
-use Rattle.serde_json.specs.Find.{get, as_str, as_object}
-use Rattle.json_objects.specs.Reading.{◌>>=◌, or_fault}
+use Rattle.std.specs.List.{list_any}
+use Rattle.std.specs.Str.{bytes_eq}
+use Rattle.serde_json.specs.Data.{Data, Items}
+use Rattle.serde_json.specs.Find.{get, as_str, as_array, as_object}
+use Rattle.serde_json.specs.Written.{compact_text}
+use Rattle.json_objects.specs.Reading.{◌>>=◌, or_fault, each}
 use Rattle.json_objects.specs.Members.{other_member}
 use Rattle.gnap_objects.specs.declared.fault.ObjectFault.{ObjectFault}
 use Rattle.gnap_objects.specs.declared.fault.ObjectFault.TheVariants as faults
@@ -10,6 +13,7 @@ use Rattle.gnap_model.specs.declared.rights.Right.{Right}
 use Rattle.access_rights.specs.declared.reading.RightsFault.{RightsFault}
 use Rattle.access_rights.specs.declared.reading.RightsFault.TheVariants as rights_faults
 use Rattle.access_rights.specs.Reading.{rights_of}
+use Rattle.access_rights.specs.Printing.{rights_data}
 use Rattle.gnap_objects.specs.declared.members.KeyName.{KeyName}
 use Rattle.gnap_objects.specs.Forms.{is_id}
 
@@ -17,13 +21,30 @@ use Rattle.gnap_objects.specs.Forms.{is_id}
 abbrev pub required : List ℕ → Data → Result Data ObjectFault
 required name d = or_fault (faults.Missing name) (get name d)
 
--- what is read next; the member of that name is of a form that isn't read
-abbrev pub without : {A : Type 0} → List ℕ → Data → Result A ObjectFault → Result A ObjectFault
-without name d next = if is_some (get name d) then Err (faults.Wrong name) else next
+-- what is read of a member, where it is there
+abbrev pub optional : {A : Type 0} → (Data → Result A ObjectFault) → Option Data → Result (Option A) ObjectFault
+optional reading None = Ok None
+optional reading (Some d) = reading d >>= λ x. Ok (Some x)
 
 -- any string; a fault names the member name
 unfoldable pub text_of : List ℕ → Data → Result (List ℕ) ObjectFault
 text_of name d = or_fault (faults.Wrong name) (as_str d)
+
+-- the member of that name, which must be there: any string
+unfoldable pub required_text : List ℕ → Data → Result (List ℕ) ObjectFault
+required_text name d = required name d >>= text_of name
+
+-- the items of the member of that name, which must be there: an array
+abbrev pub required_items : List ℕ → Data → Result Items ObjectFault
+required_items name d = required name d >>= λ a. or_fault (faults.Wrong name) (as_array a)
+
+-- an object; a fault names the member name
+abbrev pub checked_object : List ℕ → Data → Result Data ObjectFault
+checked_object name d = if is_some (as_object d) then Ok d else Err (faults.Wrong name)
+
+-- the items are strings, and one of them is this; a fault names the member name
+abbrev pub has_string : List ℕ → List ℕ → Items → Result Bool ObjectFault
+has_string name wanted ds = each (text_of name) ds >>= λ texts. Ok (list_any (λ text. bytes_eq text wanted) texts)
 
 -- a text of at least one byte, and at most so many; a fault names the member name
 abbrev pub sized : ℕ → List ℕ → List ℕ → Result (List ℕ) ObjectFault
@@ -74,3 +95,7 @@ rights_under name d = required name d >>= λ a. under name (rights_of a)
 abbrev pub counted_rights : List ℕ → List Right → Result (List Right) ObjectFault
 counted_rights name rs = if length rs == 0 then Err (faults.Wrong name)
     else (if nat_lt 16 (length rs) then Err (faults.TooMany name) else Ok rs)
+
+-- the compact text of the array of the rights has more than 4,096 bytes
+abbrev pub is_too_long : List Right → Bool
+is_too_long rights = nat_lt 4096 (length (compact_text (rights_data rights)))

@@ -1,5 +1,5 @@
 -- The setup of the authorization server: what bytes read as.
-use Rattle.std.specs.Prelude.{◌≡◌, ℕ, ◌&&◌, List, [], ◌∷◌, ◌++◌, length, Bool, not, Option, Some, None, Result, Ok, Err, nat_lt, nat_le, if◌then◌else◌, codes}
+use Rattle.std.specs.Prelude.{◌≡◌, ℕ, ◌&&◌, List, [], ◌∷◌, ◌++◌, length, Bool, not, Result, Ok, Err, nat_lt, nat_le, if◌then◌else◌, codes}
 use Rattle.std.specs.List.{list_any}
 use Rattle.std.specs.Str.{bytes_eq}
 use Rattle.base64.specs.declared.decode.DecodeError.{DecodeError}
@@ -19,7 +19,7 @@ use Rattle.gnap_objects.specs.declared.fault.ObjectFault.{ObjectFault}
 use Rattle.gnap_objects.specs.declared.fault.ObjectFault.TheVariants as faults
 use Rattle.gnap_objects.specs.declared.setups.SetupFault.{SetupFault}
 use Rattle.gnap_objects.specs.declared.setups.SetupFault.TheVariants.{NotJson, InSetup, InKey, OutOfMemory}
-use Rattle.gnap_objects.specs.Forms.{is_id, is_base}
+use Rattle.gnap_objects.specs.Forms.{is_base}
 use Rattle.gnap_objects.specs.Reading.{required, text_of, checked, id_of, without_others, rights_under}
 use Rattle.gnap_objects.specs.Fits.{SetupFits}
 

@@ -79,6 +79,9 @@ fn begin_by(alloc: Global, key: &[u8], body: &Value) -> Result<CallOrRefusal, Me
         Err(ObjectFault::OutOfMemory) => return Err(Mem),
         Err(_) => return Ok(CallOrRefusal::Refused(ErrorCode::InvalidRequest)),
     };
+    if body.request.modes.is_some() {
+        return Ok(CallOrRefusal::Refused(ErrorCode::InvalidRequest));
+    }
     let names_key = match &body.request.client {
         Some(client) => client.as_slice() == key,
         None => false,
@@ -122,7 +125,7 @@ fn introspect_by(alloc: Global, key: &[u8], body: &Value) -> Result<CallOrRefusa
 
 /// The call of this kind by the key with this id, with the value that it presents and its body; or the error that is the answer, the first that applies:
 /// `InvalidClient`, for an introspection `InvalidResourceServer`, where the setup has no such key, or one of another role than the call's;
-/// `InvalidRequest` where the body isn't of the call's form; `InvalidClient` or `InvalidResourceServer` where the body names another than the key as the
+/// `InvalidRequest` where the body isn't of the call's form, or offers a way to interact, since none is built; `InvalidClient` or `InvalidResourceServer` where the body names another than the key as the
 /// one who calls; `InvalidFlag` where a flag stands twice in a token request; else the call.
 #[tactic(auto, unfolding(crate::specs::CallReading::call_of))]
 pub fn read_call(

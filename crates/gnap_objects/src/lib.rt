@@ -5,15 +5,22 @@
 #![tactic(auto)]
 
 pub mod call_reading;
+pub mod continuations;
+pub mod decisions;
 pub mod fault;
 pub mod forms;
 pub mod grants;
+mod interactions;
 pub mod introspections;
 mod members;
 pub mod setups;
 mod token_requests;
+pub mod user_codes;
+mod users;
 
 pub use call_reading::{BodyForm, CallKind, CallOrRefusal, read_call};
+pub use continuations::{read_continue, read_rotate};
+pub use decisions::{read_decide, read_handle};
 pub use fault::ObjectFault;
 pub use gnap_model::objects::{
     Ask, Asks, Binding, ContinueRequest, DecideRequest, ErrorCode, Finish, GrantRequest,
@@ -22,7 +29,12 @@ pub use gnap_model::objects::{
 pub use grants::read_grant;
 pub use introspections::read_introspect;
 pub use setups::{SetupFault, read_setup};
+pub use user_codes::read_code;
 
+#[cfg(test)]
+mod call_body_tests;
+#[cfg(test)]
+mod interaction_tests;
 #[cfg(test)]
 mod setup_tests;
 #[cfg(test)]

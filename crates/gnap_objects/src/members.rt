@@ -1,29 +1,24 @@
 //! Members of objects, up to the first fault.
-ghost use Rattle.std.specs.Prelude.{◌≡◌, IfOk, is_some, IsUtf8, map};
+ghost use Rattle.std.specs.Prelude.{◌≡◌, IfOk, IsUtf8, map};
 ghost use Rattle.std.specs.List.{AllByRecursion};
-ghost use Rattle.serde_json.specs.Find.{get};
-ghost use Rattle.serde_json.specs.View.{view};
+ghost use Rattle.serde_json.specs.View.{view, items_view};
 ghost use Rattle.json_objects.specs.Bodies.{IsBody};
 ghost use Rattle.json_objects.specs.Reading.{Gives};
 ghost use Rattle.access_rights.specs.Fits.{Fits};
 ghost use Rattle.access_rights.specs.Reading.{rights_of};
 ghost use Rattle.gnap_objects.specs.declared.fault.ObjectFault.TheVariants.{OutOfMemory};
-ghost use Rattle.gnap_objects.specs.Reading.{required, text_of, id_of, sized, key_name_of, without_others, under, rights_under, counted_rights};
+ghost use Rattle.gnap_objects.specs.Reading.{required, text_of, required_text, required_items, checked_object, has_string, id_of, sized, key_name_of, without_others, under, rights_under, counted_rights, is_too_long};
 
 use crate::fault::ObjectFault;
 use crate::forms::is_id;
+use access_rights::sizes::listed_size;
 use access_rights::{RightsFault, read_rights};
 use gnap_io::bytes::Bytes;
 use gnap_model::rights::Rights;
+use json_objects::sizes::enclosed_size;
 use json_objects::{member, other_member};
 use serde_json::Value;
 use std::alloc::Global;
-
-pub(crate) fn has(value: &Value, name: &str) -> bool
-    ensures { result ≡ is_some (get name.now (view value.now)) }
-{
-    value.get(name).is_some()
-}
 
 pub(crate) fn required<'v>(
     alloc: Global,
@@ -60,6 +55,65 @@ pub(crate) fn id_of(alloc: Global, value: &Value, name: &str) -> Result<Bytes, O
         return Err(ObjectFault::wrong(alloc, name));
     }
     Ok(text)
+}
+
+// The string under the member of that name.
+#[tactic(auto, unfolding(crate::specs::Reading::required_text))]
+pub(crate) fn required_text(alloc: Global, value: &Value, name: &str) -> Result<Bytes, ObjectFault>
+    ensures value { Gives OutOfMemory (λ b. b) result (required_text name.now (view value.now)) }
+    ensures utf8 { IfOk result IsUtf8 }
+{
+    let member = required(alloc, value, name)?;
+    text_of(alloc, member, name)
+}
+
+// The array under the member of that name.
+pub(crate) fn required_items<'v>(
+    alloc: Global,
+    value: &'v Value,
+    name: &str,
+) -> Result<&'v Vec<Value>, ObjectFault>
+    ensures { Gives OutOfMemory (λ items. items_view items.now.items) result (required_items name.now (view value.now)) }
+{
+    let member = required(alloc, value, name)?;
+    match member.as_array() {
+        Some(items) => Ok(items),
+        None => Err(ObjectFault::wrong(alloc, name)),
+    }
+}
+
+pub(crate) fn checked_object<'v>(
+    alloc: Global,
+    value: &'v Value,
+    name: &str,
+) -> Result<&'v Value, ObjectFault>
+    ensures { Gives OutOfMemory (λ v. view v.now) result (checked_object name.now (view value.now)) }
+{
+    if value.is_object() {
+        Ok(value)
+    } else {
+        Err(ObjectFault::wrong(alloc, name))
+    }
+}
+
+// Whether one of the items is this string. All of them have to be strings.
+#[tactic(auto, unfolding(crate::specs::Reading::text_of))]
+pub(crate) fn has_string(
+    alloc: Global,
+    items: &Vec<Value>,
+    wanted: &str,
+    name: &str,
+) -> Result<bool, ObjectFault>
+    ensures { Gives OutOfMemory (λ b. b) result (has_string name.now wanted.now (items_view items.now.items)) }
+{
+    let mut found = false;
+    for item in items {
+        let Some(text) = item.as_str() else {
+            return Err(ObjectFault::wrong(alloc, name));
+        };
+        found |= text == wanted;
+    }
+    Ok(found)
 }
 
 // A text of at least one byte, and at most so many.
@@ -166,4 +220,12 @@ pub(crate) fn counted_rights(
         return Err(ObjectFault::too_many(alloc, name));
     }
     Ok(rights)
+}
+
+// The compact text of the array of the rights has more than 4,096 bytes.
+pub(crate) fn is_too_long(rights: &Rights) -> bool
+    requires { AllByRecursion Fits rights.now }
+    ensures { result ≡ is_too_long rights.now }
+{
+    4096 < enclosed_size(listed_size(rights))
 }

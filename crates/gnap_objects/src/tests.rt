@@ -3,7 +3,7 @@ use json_objects::read_body;
 use std::alloc::{AllocError, Global};
 use std::test::Fail;
 
-pub fn repeated(alloc: Global, piece: &str, times: usize) -> Result<String, AllocError> {
+pub(crate) fn repeated(alloc: Global, piece: &str, times: usize) -> Result<String, AllocError> {
     let mut text = String::new(alloc);
     for _ in 0..times {
         text.push_str(piece)?;
@@ -11,7 +11,7 @@ pub fn repeated(alloc: Global, piece: &str, times: usize) -> Result<String, Allo
     Ok(text)
 }
 
-fn fault_text(alloc: Global, fault: ObjectFault) -> Result<String, AllocError> {
+pub(crate) fn fault_text(alloc: Global, fault: ObjectFault) -> Result<String, AllocError> {
     let (kind, name) = match &fault {
         ObjectFault::Missing(name) => ("missing", name.as_slice()),
         ObjectFault::Wrong(name) => ("wrong", name.as_slice()),
@@ -83,7 +83,7 @@ fn a_grant_request_names_its_first_fault(rt: HostRuntime) -> Result<(), Fail> {
             "\"access_token\":{\"access\":[\"p\"],\"flags\":[\"x\",\"bearer\",\"x\"]},\"client\":\"c1\"",
             "flag flags",
         ),
-        ("\"subject\":{}", "wrong subject"),
+        ("\"subject\":1", "wrong subject"),
         ("\"access_token\":{\"access\":[\"p\"]}", "missing client"),
         (
             "\"access_token\":{\"access\":[\"p\"]},\"client\":{\"id\":\"c1\"}",
@@ -98,11 +98,11 @@ fn a_grant_request_names_its_first_fault(rt: HostRuntime) -> Result<(), Fail> {
             "wrong client",
         ),
         (
-            "\"access_token\":{\"access\":[\"p\"]},\"client\":\"c1\",\"interact\":{},\"user\":\"u\"",
+            "\"access_token\":{\"access\":[\"p\"]},\"client\":\"c1\",\"interact\":1,\"user\":\"\"",
             "wrong user",
         ),
         (
-            "\"access_token\":{\"access\":[\"p\"]},\"client\":\"c1\",\"interact\":{}",
+            "\"access_token\":{\"access\":[\"p\"]},\"client\":\"c1\",\"interact\":1",
             "wrong interact",
         ),
     ] {
