@@ -2,8 +2,8 @@
 use Rattle.std.proofs.Common.{◌≡◌, ℕ, zero, suc, ◌+◌, ◌*◌, ◌/◌, ◌%◌, Bool, true, false, List, [], ◌∷◌, ◌++◌, length, map, replicate, refl, arith, Option, Some, None}
 use Rattle.std.specs.List.{AllByRecursion, list_any, list_all}
 use Rattle.std.specs.Str.{IsUtf8, IsAscii}
-use Rattle.std.specs.Prelude.{if◌then◌else◌, nat_lt, codes, slice_index, ◌&&◌}
-use Rattle.std.proofs.lemmas.Bool.{ltb-true}
+use Rattle.std.specs.Prelude.{if◌then◌else◌, nat_lt, codes, slice_index}
+use Rattle.std.proofs.lemmas.Bool.{ltb-true, and_parts}
 use Rattle.std.proofs.lemmas.Str.{IsUtf8-from_ascii}
 use Rattle.std.proofs.lemmas.Str.Ascii.{IsAscii-nil, IsAscii-push, IsAscii-cons}
 use Rattle.base64.specs.Engines.{url_safe_no_pad}
@@ -32,13 +32,9 @@ value_fits : (s a b : ℕ) → IsUtf8 (value_text s a b)
 unfolding value_text
 value_fits s a b = IsUtf8-from_ascii _ (IsAscii-encode_of url_safe_no_pad _)
 
-both_true : (a b : Bool) → (a && b) ≡ true → (a ≡ true) × (b ≡ true)
-both_true true b h = (refl, h)
-both_true false b h = cc h
-
 ascii_where : (bs : List ℕ) → list_all (λ b. nat_lt b 128) bs ≡ true → IsAscii bs
 ascii_where [] h = IsAscii-nil
-ascii_where (b ∷ bs) h = let both = both_true (nat_lt b 128) (list_all (λ b. nat_lt b 128) bs) h in
+ascii_where (b ∷ bs) h = let both = and_parts (nat_lt b 128) (list_all (λ b. nat_lt b 128) bs) h in
     IsAscii-cons b bs (ltb-true b 128 both.0) (ascii_where bs both.1)
 
 digits_ascii : (places number : ℕ) → IsAscii (code_digits places number)

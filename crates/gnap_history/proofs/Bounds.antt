@@ -1,21 +1,25 @@
 -- How many grants and tokens are live, at most.
 use Rattle.std.proofs.Common.{◌≡◌, ◌∙◌, ℕ, ◌+◌, ◌≤◌, Bool, true, false, cond, List, [], ◌∷◌, length, reverse, Option, Some, None, refl, arith}
 use Rattle.std.specs.List.{count_by, filter_map, cons_option, list_any, list_all}
-use Rattle.std.specs.Prelude.{not, ◌&&◌, ◌==◌, nat_lt, nat_le}
+use Rattle.std.specs.Prelude.{not, ◌&&◌, ◌==◌, nat_lt, nat_le, is_some}
 use Rattle.std.specs.Option.{option_or}
+use Rattle.std.proofs.lemmas.Bool.{and_parts}
 use Rattle.std.proofs.lemmas.Bool.Decides.{nat_tests}
 use Rattle.std.proofs.lemmas.List.{length-reverse, reverse-append}
 use Rattle.std.proofs.lemmas.List.Folds.{list_all-append}
-use Rattle.std.proofs.lemmas.List.Sums.{sum_by-cons}
+use Rattle.std.proofs.lemmas.List.Sums.{sum_by-cons, length-filter, count_by-le-length}
 use Rattle.gnap_model.specs.Common.{some_if, first_of}
 use Rattle.gnap_model.specs.Standing.{is_opening, is_live_opening, live_grants, live_tokens, token_in, is_live, issued_where, is_finalized, is_approved, is_retirement, is_end_of, has_ended, opening_in, state_change_in, grant_state, state_after, StateChange}
 use Rattle.gnap_model.specs.Standing.StateChange.{ToPending, ToApproved}
 use Rattle.gnap_model.specs.Standing.GrantState.{IsApproved}
+use Rattle.gnap_model.specs.Change.{other_live_tokens}
+use Rattle.gnap_model.specs.declared.notes.OpeningNote.{OpeningNote}
 use Rattle.gnap_model.specs.declared.notes.RoundNote.{RoundNote}
 use Rattle.gnap_model.specs.declared.notes.TokenNote.{TokenNote}
 use Rattle.gnap_model.specs.declared.notes.Note.{Note}
 use Rattle.gnap_model.specs.declared.notes.Note.TheVariants.{Opened, Terms, Approved, Issued, Door, Pended, DecidedAs, Finalized, Wrong, Retired}
-use Rattle.gnap_history.specs.Counts.{is_issue, is_unexpired, lets_go_on}
+use Rattle.gnap_model.proofs.NoteCounts.{issues, filter_counted, count-reverse}
+use Rattle.gnap_history.specs.Counts.{is_issue, is_unexpired, is_live_elsewhere, lets_go_on}
 use Rattle.gnap_history.proofs.Counts.{sum_by-reverse}
 
 at_most_one : (b : Bool) → cond b 1 0 ≤ 1
@@ -98,10 +102,6 @@ live_tokens-unexpired notes now = found_before (is_live (reverse notes) now) (is
 
 -- ---- where all grants go on
 
-both_of : (a b : Bool) → (a && b) ≡ true → (a ≡ true) × (b ≡ true)
-both_of true b is = (refl, is)
-both_of false b is = cc is
-
 not_past : (now n : ℕ) → nat_lt now n ≡ true → nat_le n now ≡ false
 not_past now n is = grind (arith, nat_tests)
 
@@ -109,12 +109,12 @@ not_over : (now : ℕ) (trail : List Note) (g : ℕ) → list_all (lets_go_on no
     → (list_any (is_end_of g) trail ≡ false) × (has_ended (first_of (opening_in g) trail) now ≡ false) × ((r : RoundNote) → first_of (state_change_in g) trail ≡ Some (ToPending r) → ⊥)
 not_over now [] g on = (refl, refl, λ r is. cc is)
 not_over now (Opened o ∷ trail) g on =
-    let both = both_of (nat_lt now o.end) (list_all (lets_go_on now) trail) on in
+    let both = and_parts (nat_lt now o.end) (list_all (lets_go_on now) trail) on in
     let rest = not_over now trail g both.1 in
     (rest.0, first_ended (o.grant == g) rest.1, rest.2)
   where
     first_ended : (b : Bool) → has_ended (first_of (opening_in g) trail) now ≡ false → has_ended (option_or (some_if b o) (first_of (opening_in g) trail)) now ≡ false
-    first_ended true rest = not_past now o.end (both_of (nat_lt now o.end) (list_all (lets_go_on now) trail) on).0
+    first_ended true rest = not_past now o.end (and_parts (nat_lt now o.end) (list_all (lets_go_on now) trail) on).0
     first_ended false rest = rest
 not_over now (Approved h consent ∷ trail) g on =
     let rest = not_over now trail g on in
@@ -166,7 +166,7 @@ live_alike whole now on (Retired s why) = refl
 all-reverse : (p : Note → Bool) (notes : List Note) → list_all p notes ≡ true → list_all p (reverse notes) ≡ true
 all-reverse p [] on = refl
 all-reverse p (x ∷ xs) on =
-    let both = both_of (p x) (list_all p xs) on in
+    let both = and_parts (p x) (list_all p xs) on in
     let rest = all-reverse p xs both.1 in
     rw (reverse-append (x ∷ []) xs, list_all-append p (reverse xs) (x ∷ []), rest, both.0) refl
 
@@ -179,7 +179,7 @@ live_grants-all notes now on =
 
 not_retired : (now : ℕ) (trail : List Note) (serial : ℕ) → list_all (lets_go_on now) trail ≡ true → list_any (is_retirement serial) trail ≡ false
 not_retired now [] serial on = refl
-not_retired now (Opened o ∷ trail) serial on = not_retired now trail serial (both_of (nat_lt now o.end) (list_all (lets_go_on now) trail) on).1
+not_retired now (Opened o ∷ trail) serial on = not_retired now trail serial (and_parts (nat_lt now o.end) (list_all (lets_go_on now) trail) on).1
 not_retired now (Terms t ∷ trail) serial on = not_retired now trail serial on
 not_retired now (Approved h consent ∷ trail) serial on = not_retired now trail serial on
 not_retired now (Issued t ∷ trail) serial on = not_retired now trail serial on
@@ -236,3 +236,36 @@ live_tokens-all notes now on =
     let each = tokens_each now (is_live (reverse notes) now) (λ t. live_until now (reverse notes) t on_back) (reverse notes) in
     let turned = length-reverse (filter_map (token_in (is_live (reverse notes) now)) (reverse notes)) in
     let same = sum_by-reverse (λ note. cond (is_unexpired now note) 1 0) notes in omega arith
+
+-- ---- tokens of other grants
+
+is_there : (b : Bool) (t : TokenNote) → is_some (some_if b t) ≡ b
+is_there true t = refl
+is_there false t = refl
+
+other_alike : (trail : List Note) (now : ℕ) (o : OpeningNote) (note : Note)
+    → issues (λ token. is_live trail now token && not (token.grant == o.grant)) note ≡ is_live_elsewhere trail now o.grant note
+other_alike trail now o (Issued t) = is_there (is_live trail now t && not (t.grant == o.grant)) t
+other_alike trail now o (Opened opening) = refl
+other_alike trail now o (Terms t) = refl
+other_alike trail now o (Approved g consent) = refl
+other_alike trail now o (Door g value earliest) = refl
+other_alike trail now o (Pended r) = refl
+other_alike trail now o (DecidedAs d) = refl
+other_alike trail now o (Finalized g) = refl
+other_alike trail now o (Wrong g) = refl
+other_alike trail now o (Retired s why) = refl
+
+-- The live tokens of other grants, as they are counted from the oldest note on.
+pub other_live_tokens-count : (notes : List Note) (now : ℕ) (o : OpeningNote)
+    → length (other_live_tokens (reverse notes) now o) ≡ count_by (is_live_elsewhere (reverse notes) now o.grant) notes
+other_live_tokens-count notes now o =
+    filter_counted (is_live (reverse notes) now) (λ token. not (token.grant == o.grant)) (reverse notes)
+    ∙ counted_alike _ (is_live_elsewhere (reverse notes) now o.grant) (other_alike (reverse notes) now o) (reverse notes)
+    ∙ count-reverse (is_live_elsewhere (reverse notes) now o.grant) notes
+
+-- Not more of them are live than of all.
+pub other_live_tokens-le : (notes : List Note) (now : ℕ) (o : OpeningNote) → length (other_live_tokens (reverse notes) now o) ≤ length (live_tokens (reverse notes) now)
+other_live_tokens-le notes now o =
+    let kept = length-filter (λ token. not (token.grant == o.grant)) (live_tokens (reverse notes) now) in
+    let few = count_by-le-length (λ (token : TokenNote). not (token.grant == o.grant)) (live_tokens (reverse notes) now) in omega arith

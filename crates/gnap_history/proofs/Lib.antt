@@ -4,6 +4,10 @@ pub mod Bounds
 pub mod Counts
 pub mod FitsThrough
 pub mod FoundFits
+pub mod Holders
 pub mod Issuing
 pub mod Deciding
+pub mod Modifying
+pub mod Retiring
+pub mod Terms
 pub mod Weaker

@@ -1,7 +1,8 @@
 -- What is counted over notes.
-use Rattle.std.specs.Prelude.{ℕ, Bool, true, false, List, length, nat_lt}
+use Rattle.std.specs.Prelude.{ℕ, Bool, true, false, List, length, nat_lt, ◌==◌, ◌&&◌, not}
 use Rattle.std.specs.List.{sum_by}
 use Rattle.gnap_model.specs.Notes.{note_values}
+use Rattle.gnap_model.specs.Standing.{is_live}
 use Rattle.gnap_model.specs.declared.notes.Note.{Note}
 use Rattle.gnap_model.specs.declared.notes.Note.TheVariants.{Issued, Opened, Pended, Finalized, Retired}
 
@@ -17,6 +18,11 @@ value_count notes = sum_by (λ note. length (note_values note)) notes
 abbrev pub is_unexpired : ℕ → Note → Bool
 is_unexpired now (Issued t) = nat_lt now t.until
 is_unexpired now _ = false
+
+-- a live token of another grant was issued
+abbrev pub is_live_elsewhere : List Note → ℕ → ℕ → Note → Bool
+is_live_elsewhere trail now grant (Issued t) = is_live trail now t && not (t.grant == grant)
+is_live_elsewhere trail now grant _ = false
 
 -- the note ends no grant and no token and makes no grant pending, and a grant that it opens has not come to its end
 abbrev pub lets_go_on : ℕ → Note → Bool

@@ -1,11 +1,12 @@
 //! What the entry of a call draws on, and what comes of the call.
-ghost use Rattle.std.specs.Prelude.{◌≡◌, ◌≤◌, ◌<◌, ◌+◌, []};
+ghost use Rattle.std.specs.Prelude.{◌≡◌, ◌≤◌, ◌<◌, ◌+◌, [], ◌∷◌, IfOk};
 ghost use Rattle.histories.specs.History.{last_moment};
 ghost use Rattle.gnap_model.specs.declared.notes.Note.TheVariants.{Door};
 ghost use Rattle.gnap_model.specs.declared.calls.Reply.TheVariants.{Error};
 
 use crate::note_list::NoteList;
 use crate::values::value_text;
+use gnap_io::memory::Mem;
 use gnap_io::seq::Seq;
 use gnap_model::calls::Reply;
 use gnap_model::notes::{Note, OpeningNote};
@@ -58,7 +59,7 @@ impl<'a> Drawing<'a> {
 
 /// What comes of a call: its reply, and the notes that its entry leaves.
 #[derive(Drop)]
-pub struct Answered {
+pub struct NotedReply {
     /// The reply.
     pub reply: Reply,
     /// The notes.
@@ -66,20 +67,29 @@ pub struct Answered {
 }
 
 /// A reply without notes.
-pub fn silent(alloc: Global, reply: Reply) -> Answered
+pub fn silent(alloc: Global, reply: Reply) -> NotedReply
     ensures reply { result.reply ≡ reply }
     ensures notes { result.notes ≡ [] }
 {
-    Answered {
+    NotedReply {
         reply,
         notes: Seq::new(alloc),
     }
 }
 
 /// An error reply that changes nothing (RFC 9635, section 3.6).
-pub fn refuse(alloc: Global, code: ErrorCode) -> Answered
+pub fn refuse(alloc: Global, code: ErrorCode) -> NotedReply
     ensures reply { result.reply ≡ Error code }
     ensures notes { result.notes ≡ [] }
 {
     silent(alloc, Reply::Error { code })
+}
+
+/// A reply with one note.
+pub fn noted(alloc: Global, reply: Reply, note: Note) -> Result<NotedReply, Mem>
+    ensures { IfOk result (λ answered. (answered.reply ≡ reply) × (answered.notes ≡ note ∷ [])) }
+{
+    let mut notes = Seq::new(alloc);
+    notes.push(note)?;
+    Ok(NotedReply { reply, notes })
 }

@@ -4,20 +4,47 @@ ghost use Rattle.gnap_model.specs.Actions.{token_for, tokens_for, token_out as t
 ghost use Rattle.gnap_model.specs.declared.notes.Note.TheVariants.{Issued};
 ghost use Rattle.gnap_history.specs.Drawings.{supply, IsAnswer};
 
-use crate::drawing::{Answered, Drawing};
+use crate::drawing::{Drawing, NotedReply};
 use gnap_io::bytes::Bytes;
 use gnap_io::memory::{Duplicate, Mem};
 use gnap_io::seq::Seq;
 use gnap_model::calls::{Reply, TokenOut, Tokens};
 use gnap_model::notes::{Note, OpeningNote, TokenNote};
 use gnap_model::objects::Ask;
+use gnap_model::rights::Rights;
 use std::alloc::Global;
 
 /// A token lasts so many seconds, if its grant does.
 pub const TOKEN_TIME: u64 = 3_600;
 
-/// The token for an ask: its value is that of the entry with this index, its management value the next one (RFC 9635, section 3.2.1).
-pub fn token(
+/// The token with this label and these rights: its value is that of the entry with this index, its management value the next one (RFC 9635, section 3.2.1).
+pub fn token_with(
+    drawing: &Drawing,
+    opening: &OpeningNote,
+    label: Option<Bytes>,
+    rights: Rights,
+    bearer: bool,
+    index: usize,
+) -> Result<TokenNote, Mem>
+    requires { index < 23 }
+    ensures { IfOk result (λ token. token ≡ token_for (supply drawing.now) opening.now (record { label = label; rights = rights; bearer = bearer }) index) }
+{
+    Ok(TokenNote {
+        serial: drawing.notes.first_serial() + index as u64,
+        grant: opening.grant,
+        label,
+        rights,
+        bearer,
+        key: opening.key.copy()?,
+        issued: drawing.moment,
+        until: (drawing.moment + TOKEN_TIME).min(opening.end),
+        value: drawing.value(index),
+        manage: drawing.value(index + 1),
+    })
+}
+
+/// The token for an ask.
+fn token(
     drawing: &Drawing,
     opening: &OpeningNote,
     ask: &Ask,
@@ -26,18 +53,9 @@ pub fn token(
     requires { index < 23 }
     ensures { IfOk result (λ token. token ≡ token_for (supply drawing.now) opening.now ask.now index) }
 {
-    Ok(TokenNote {
-        serial: drawing.notes.first_serial() + index as u64,
-        grant: opening.grant,
-        label: ask.label.copy()?,
-        rights: ask.rights.copy()?,
-        bearer: ask.bearer,
-        key: opening.key.copy()?,
-        issued: drawing.moment,
-        until: (drawing.moment + TOKEN_TIME).min(opening.end),
-        value: drawing.value(index),
-        manage: drawing.value(index + 1),
-    })
+    let label = ask.label.copy()?;
+    let rights = ask.rights.copy()?;
+    token_with(drawing, opening, label, rights, ask.bearer, index)
 }
 
 /// The token as it is handed out (RFC 9635, section 3.2.1).
@@ -87,7 +105,7 @@ pub fn grant(
     single: bool,
     subject: Option<Bytes>,
     instance: Option<Bytes>,
-) -> Result<Answered, Mem>
+) -> Result<NotedReply, Mem>
     requires { length asks.now ≤ 8 }
     ensures { IfOk result (IsAnswer (grant_outcome (supply drawing.now) opening.now before asks.now single subject instance)) }
 {
@@ -95,7 +113,7 @@ pub fn grant(
     let tokens = issue(alloc, drawing, opening, asks, &mut notes)?;
     let door = drawing.value(2 * asks.len());
     notes.push(drawing.door(opening, door))?;
-    Ok(Answered {
+    Ok(NotedReply {
         reply: Reply::Granted {
             door,
             tokens,

@@ -8,7 +8,7 @@ ghost use Rattle.gnap_model.specs.Actions.{outcome_of};
 ghost use Rattle.gnap_model.specs.Begin.{show_token, introspect as introspected};
 ghost use Rattle.gnap_history.specs.Drawings.{trail, supply, IsAnswer};
 
-use crate::drawing::{Answered, Drawing, refuse, silent};
+use crate::drawing::{Drawing, NotedReply, refuse, silent};
 use crate::keys::server_names;
 use crate::look_ups::live_token;
 use access_rights::inclusion::covers;
@@ -97,7 +97,7 @@ fn show(
     binding: Option<Binding>,
     wanted: &Option<Rights>,
     token: &TokenNote,
-) -> Result<Answered, Mem>
+) -> Result<NotedReply, Mem>
     ensures { IfOk result (λ answered. (supply : _) → IsAnswer (outcome_of supply (show_token names.now binding wanted.now (Some token.now))) answered) }
 {
     if !suits(names, binding, wanted, token) {
@@ -124,7 +124,7 @@ pub fn introspect(
     value: &Bytes,
     binding: Option<Binding>,
     wanted: &Option<Rights>,
-) -> Result<Answered, Mem>
+) -> Result<NotedReply, Mem>
     ensures { IfOk result (IsAnswer (outcome_of (supply drawing.now) (introspected setup.now (trail drawing.now) drawing.now.moment server.now value.now binding wanted.now))) }
 {
     let none = Seq::new(alloc);

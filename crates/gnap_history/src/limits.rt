@@ -4,11 +4,12 @@ ghost use Rattle.std.specs.List.{count_by, list_all};
 ghost use Rattle.gnap_model.specs.Limits.{live_limit};
 ghost use Rattle.gnap_model.specs.Standing.{live_grants as grants_live, live_tokens as tokens_live};
 ghost use Rattle.gnap_model.specs.Begin.{pass_limit};
+ghost use Rattle.gnap_model.specs.Change.{other_live_tokens as others_live};
 ghost use Rattle.gnap_history.specs.Counts.{is_unexpired, lets_go_on};
 
 use crate::look_ups::{is_finalized, is_live};
 use crate::note_list::NoteList;
-use gnap_model::notes::Note;
+use gnap_model::notes::{Note, OpeningNote};
 
 /// So many grants may be live, and so many tokens.
 pub const LIVE_LIMIT: usize = 65_536;
@@ -37,6 +38,22 @@ fn live_tokens(notes: &[Note], now: u64) -> usize
     for note in notes {
         if let Note::Issued(token) = note {
             if is_live(notes, token, now) {
+                count += 1;
+            }
+        }
+    }
+    count
+}
+
+/// How many tokens of other grants are live at this moment.
+fn other_live_tokens(notes: &[Note], opening: &OpeningNote, now: u64) -> usize
+    ensures count { result ≡ length (others_live (reverse notes.now) now opening.now) }
+    ensures few { result ≤ length notes.now }
+{
+    let mut count = 0;
+    for note in notes {
+        if let Note::Issued(token) = note {
+            if token.grant != opening.grant && is_live(notes, token, now) {
                 count += 1;
             }
         }
@@ -107,4 +124,16 @@ pub fn passes_limit(notes: &NoteList, now: u64, more: usize) -> bool
         return true;
     }
     live_tokens(notes.as_slice(), now) + more > LIVE_LIMIT
+}
+
+/// The live tokens of other grants and so many more are too many. They are counted one by one only where so many have not expired.
+pub fn others_pass_limit(notes: &[Note], opening: &OpeningNote, now: u64, more: usize) -> bool
+    requires { more ≤ 8 }
+    ensures { result ≡ pass_limit (others_live (reverse notes.now) now opening.now) more }
+{
+    let unexpired = unexpired_tokens(notes, now);
+    if unexpired + more <= LIVE_LIMIT {
+        return false;
+    }
+    other_live_tokens(notes, opening, now) + more > LIVE_LIMIT
 }

@@ -7,9 +7,12 @@ ghost use Rattle.gnap_model.specs.declared.calls.Call.TheVariants.{Lapse};
 ghost use Rattle.gnap_history.specs.Gnap.{GnapFits, StandsFor};
 ghost use Rattle.gnap_history.specs.Drawings.{IsAnswer};
 
-use crate::drawing::{Answered, Drawing};
+use crate::changing::{cancel, modify};
+use crate::continuing::continue_grant;
+use crate::drawing::{Drawing, NotedReply};
 use crate::grant_machine::Gnap;
 use crate::introspecting::introspect;
+use crate::managing::{revoke, rotate};
 use crate::note_list::NoteList;
 use crate::opening::begin;
 use gnap_io::memory::Mem;
@@ -61,7 +64,7 @@ fn answer_call(
     rules: &Setup,
     drawing: &Drawing,
     call: &Call,
-) -> Result<Answered, Mem>
+) -> Result<NotedReply, Mem>
     requires fits { GnapFits call.now }
     requires no_lapse { call.now ≢ Lapse }
     ensures { IfOk result (IsAnswer (gnap_answer rules.now drawing.now.notes.now drawing.now.moment drawing.now.words.now call.now)) }
@@ -72,13 +75,33 @@ fn answer_call(
             request,
             not_after,
         } => begin(alloc, rules, drawing, key, request, *not_after),
+        Call::Continue {
+            key,
+            value,
+            reference,
+        } => continue_grant(alloc, drawing, key, value, reference),
+        Call::Modify {
+            key,
+            value,
+            request,
+        } => modify(alloc, rules, drawing, key, value, request),
+        Call::Cancel { key, value } => cancel(alloc, drawing, key, value),
+        Call::Rotate {
+            key,
+            value,
+            new_key,
+        } => rotate(alloc, drawing, key, value, new_key),
+        Call::Revoke { key, value } => revoke(alloc, drawing, key, value),
         Call::Introspect {
             server,
             value,
             binding,
             wanted,
         } => introspect(alloc, rules, drawing, server, value, *binding, wanted),
-        _ => unreachable!(),
+        Call::Look { .. } => unreachable!(),
+        Call::FindCode { .. } => unreachable!(),
+        Call::Decide { .. } => unreachable!(),
+        Call::Lapse => unreachable!(),
     }
 }
 

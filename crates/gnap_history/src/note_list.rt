@@ -1,13 +1,14 @@
 //! The notes so far, with the counts that answers need.
-ghost use Rattle.std.specs.Prelude.{◌≡◌, ℕ, ◌+◌, ◌<◌, ◌^◌, List, [], ◌++◌, length, reverse, OnOk, OnErr};
+ghost use Rattle.std.specs.Prelude.{◌≡◌, ℕ, ◌+◌, ◌<◌, ◌^◌, List, [], ◌++◌, ◌≤◌, length, reverse, option_map, IfSome, OnOk, OnErr};
 ghost use Rattle.std.specs.List.{count_by};
 ghost use Rattle.gnap_model.specs.Notes.{first_serial};
-ghost use Rattle.gnap_model.specs.Standing.{is_opening, next_grant};
+ghost use Rattle.gnap_model.specs.Standing.{is_opening, next_grant, terms_of};
 ghost use Rattle.gnap_history.specs.Counts.{is_issue, value_count};
+ghost use Rattle.gnap_history.specs.Terms.{AskForFew};
 
 use gnap_io::memory::Mem;
 use gnap_io::seq::Seq;
-use gnap_model::notes::Note;
+use gnap_model::notes::{Note, TermsNote};
 use std::alloc::Global;
 use std::marker::Model;
 
@@ -26,12 +27,30 @@ impl Model for NoteList {
     ghost use Rattle.gnap_model.specs.declared.notes.Note.{Note};
     ghost use Rattle.gnap_model.specs.Standing.{is_opening};
     ghost use Rattle.gnap_history.specs.Counts.{is_issue, value_count};
+    ghost use Rattle.gnap_history.specs.Terms.{AskForFew};
 
     ghost Value = { List Note };
 
     ghost view = { λ s. s.notes };
 
-    ghost invariant = { λ s. (s.grants ≡ count_by is_opening s.notes) × (s.tokens ≡ count_by is_issue s.notes) × (s.values ≡ value_count s.notes) };
+    ghost invariant = { λ s. (s.grants ≡ count_by is_opening s.notes) × (s.tokens ≡ count_by is_issue s.notes) × (s.values ≡ value_count s.notes) × AskForFew s.notes };
+}
+
+/// The terms of a grant.
+fn last_terms<'a>(notes: &'a [Note], grant: u64) -> Option<&'a TermsNote>
+    requires { AskForFew notes.now }
+    ensures terms { option_map (λ t. t.now) result ≡ terms_of (reverse notes.now) grant }
+    ensures few { IfSome result (λ t. length t.now.asks ≤ 8) }
+{
+    let mut found = None;
+    for note in notes {
+        if let Note::Terms(terms) = note {
+            if terms.grant == grant {
+                found = Some(terms);
+            }
+        }
+    }
+    found
 }
 
 // How many notes there are, which take memory each.
@@ -136,8 +155,17 @@ impl NoteList {
         self.values + 1
     }
 
+    /// The terms of a grant, which ask for at most 8 tokens.
+    pub fn terms_of(&self, grant: u64) -> Option<&TermsNote>
+        ensures terms { option_map (λ t. t.now) result ≡ terms_of (reverse self.now) grant }
+        ensures few { IfSome result (λ t. length t.now.asks ≤ 8) }
+    {
+        last_terms(self.notes.as_slice(), grant)
+    }
+
     /// Adds the notes at the end, all or none. An `Err` changes nothing.
     pub fn append(&mut self, more: Seq<Note>) -> Result<(), Mem>
+        requires { AskForFew more }
         ensures ok { OnOk result (self.new ≡ self.old ++ more) }
         ensures err { OnErr result (self.new ≡ self.old) }
     {

@@ -6,7 +6,7 @@ ghost use Rattle.gnap_model.specs.Begin.{is_past as has_passed, opening as openi
 ghost use Rattle.gnap_model.specs.Judging.Settled.{AtOnce as SettledAtOnce};
 ghost use Rattle.gnap_history.specs.Drawings.{trail, supply, IsAnswer};
 
-use crate::drawing::{Answered, Drawing, refuse};
+use crate::drawing::{Drawing, NotedReply, refuse};
 use crate::granting::grant;
 use crate::limits::{has_many_grants, passes_limit};
 use crate::settling::{Course, settle};
@@ -81,7 +81,7 @@ fn open_at_once(
     drawing: &Drawing,
     opening: &OpeningNote,
     request: &GrantRequest,
-) -> Result<Answered, Mem>
+) -> Result<NotedReply, Mem>
     requires { length request.now.asks ≤ 8 }
     ensures { IfOk result (IsAnswer (outcome_of (supply drawing.now) (OpenAtOnce opening.now request.now))) }
 {
@@ -110,7 +110,7 @@ fn begin_at_once(
     drawing: &Drawing,
     opening: &OpeningNote,
     request: &GrantRequest,
-) -> Result<Answered, Mem>
+) -> Result<NotedReply, Mem>
     requires { length request.now.asks ≤ 8 }
     ensures { IfOk result (IsAnswer (outcome_of (supply drawing.now) (begun_by SettledAtOnce (trail drawing.now) drawing.now.moment opening.now request.now))) }
 {
@@ -128,7 +128,7 @@ pub fn begin(
     key: &Bytes,
     request: &GrantRequest,
     not_after: Option<u64>,
-) -> Result<Answered, Mem>
+) -> Result<NotedReply, Mem>
     requires few { length request.now.asks ≤ 8 }
     requires no_modes { request.now.modes ≡ None }
     ensures { IfOk result (IsAnswer (outcome_of (supply drawing.now) (begun setup.now (trail drawing.now) drawing.now.moment key.now request.now not_after))) }

@@ -26,6 +26,8 @@ const V4: &[u8; 32] = b"AAAAAAAAAAQAAAAAAAAAAAAAAAAAAAAA";
 
 const V5: &[u8; 32] = b"AAAAAAAAAAUAAAAAAAAAAAAAAAAAAAAA";
 
+const V7: &[u8; 32] = b"AAAAAAAAAAcAAAAAAAAAAAAAAAAAAAAA";
+
 fn text(alloc: Global, text: &str) -> Result<Bytes, Mem>
     ensures { IfOk result (λ b. IsUtf8 b) }
 {
@@ -308,5 +310,166 @@ fn shows_what_is_served_and_suits(rt: HostRuntime) -> Result<(), Fail> {
     let wanted = Some(rights(alloc, "photos")?);
     let told = look(alloc, &mut desk, 4, 1001, "r2", V1, None, wanted)?;
     assert_eq!(rt; told, Answered::Refused(ErrorCode::InvalidAccess));
+    Ok(())
+}
+
+// What c1 asks for with a presented value.
+#[derive(Clone, Copy, Debug, PartialEq, Eq)]
+enum Wish {
+    Poll,
+    Refer,
+    Modify,
+    Cancel,
+    Rotate,
+    RotateKey,
+    Revoke,
+}
+
+// What came of it: the code of the refusal, or the first value that the reply hands out.
+#[derive(Clone, Copy, Debug, PartialEq, Eq)]
+enum Came {
+    Granted([u8; 32]),
+    Continuing([u8; 32]),
+    Rotated([u8; 32]),
+    Done,
+    Refused(ErrorCode),
+    Other,
+}
+
+fn answer_in(reply: &Reply) -> Came {
+    match reply {
+        Reply::Granted { tokens, .. } => match tokens.as_slice() {
+            [one, ..] => Came::Granted(one.value),
+            [] => Came::Other,
+        },
+        Reply::Continuing { door } => Came::Continuing(*door),
+        Reply::Rotated { token } => Came::Rotated(token.value),
+        Reply::Done => Came::Done,
+        Reply::Error { code } => Came::Refused(*code),
+        _ => Came::Other,
+    }
+}
+
+fn modification(alloc: Global) -> Result<GrantRequest, Mem>
+    ensures { IfOk result (λ request. (length request.asks ≤ 8) × AllByRecursion AskFits request.asks × (request.modes ≡ None)) }
+{
+    let mut asks = Seq::new(alloc);
+    asks.push(ask(alloc, "photos", None, false)?)?;
+    Ok(GrantRequest {
+        asks,
+        single: true,
+        subject: false,
+        client: None,
+        by_object: false,
+        user: None,
+        modes: None,
+    })
+}
+
+fn presenting(alloc: Global, wish: Wish, value: &[u8; 32]) -> Result<Call, Mem>
+    requires { IsUtf8 value.now }
+    ensures { IfOk result (λ call. GnapFits call × (call ≢ Lapse)) }
+{
+    let key = text(alloc, "c1")?;
+    let value = Bytes::from_slice(alloc, value)?;
+    Ok(match wish {
+        Wish::Poll => Call::Continue {
+            key,
+            value,
+            reference: None,
+        },
+        Wish::Refer => Call::Continue {
+            key,
+            value,
+            reference: Some(text(alloc, "r")?),
+        },
+        Wish::Modify => Call::Modify {
+            key,
+            value,
+            request: modification(alloc)?,
+        },
+        Wish::Cancel => Call::Cancel { key, value },
+        Wish::Rotate => Call::Rotate {
+            key,
+            value,
+            new_key: None,
+        },
+        Wish::RotateKey => Call::Rotate {
+            key,
+            value,
+            new_key: Some(text(alloc, "c2")?),
+        },
+        Wish::Revoke => Call::Revoke { key, value },
+    })
+}
+
+fn present(
+    alloc: Global,
+    desk: &mut ListDesk,
+    turn: u64,
+    moment: u64,
+    wish: Wish,
+    value: &[u8; 32],
+) -> Result<Came, Mem>
+    requires utf8 { IsUtf8 value.now }
+    requires few { turn < 100 }
+    requires in_time { moment ≤ last_moment }
+    requires seen { (h : _) × ⟦<ListDesk as Desk>⟧.seen desk.old h × (length (places 0 h) ≤ turn) }
+    ensures { OnOk result ((h : _) × ⟦<ListDesk as Desk>⟧.seen desk.new h × (length (places 0 h) ≤ turn + 1)) }
+{
+    let call = presenting(alloc, wish, value)?;
+    let reply = hand_in(desk, turn, moment, call)?;
+    Ok(answer_in(&reply))
+}
+
+#[test]
+fn continues_a_grant(rt: HostRuntime) -> Result<(), Fail> {
+    let alloc = rt.alloc();
+    let mut desk = list_desk(alloc, setup(alloc)?);
+    let told = ask_for(alloc, &mut desk, 0, "photos")?;
+    assert_eq!(rt; told, Answered::One);
+    let polled = present(alloc, &mut desk, 1, 1004, Wish::Poll, V3)?;
+    assert_eq!(rt; polled, Came::Refused(ErrorCode::TooFast));
+    let polled = present(alloc, &mut desk, 2, 1005, Wish::Poll, V3)?;
+    assert_eq!(rt; polled, Came::Continuing(*V4));
+    let polled = present(alloc, &mut desk, 3, 1010, Wish::Poll, V3)?;
+    assert_eq!(rt; polled, Came::Refused(ErrorCode::InvalidContinuation));
+    let modified = present(alloc, &mut desk, 4, 1010, Wish::Modify, V4)?;
+    assert_eq!(rt; modified, Came::Granted(*V5));
+    let told = look(alloc, &mut desk, 5, 1011, "r1", V1, None, None)?;
+    assert_eq!(rt; told, Answered::Inactive);
+    let referred = present(alloc, &mut desk, 6, 1011, Wish::Refer, V7)?;
+    assert_eq!(rt; referred, Came::Refused(ErrorCode::TooManyAttempts));
+    let told = look(alloc, &mut desk, 7, 1011, "r1", V5, None, None)?;
+    assert_eq!(rt; told, Answered::Inactive);
+    Ok(())
+}
+
+#[test]
+fn manages_tokens(rt: HostRuntime) -> Result<(), Fail> {
+    let alloc = rt.alloc();
+    let mut desk = list_desk(alloc, setup(alloc)?);
+    let told = ask_for(alloc, &mut desk, 0, "photos")?;
+    assert_eq!(rt; told, Answered::One);
+    let rotated = present(alloc, &mut desk, 1, 1001, Wish::RotateKey, V2)?;
+    assert_eq!(rt; rotated, Came::Refused(ErrorCode::KeyRotationNotSupported));
+    let rotated = present(alloc, &mut desk, 2, 1001, Wish::Rotate, V2)?;
+    assert_eq!(rt; rotated, Came::Rotated(*V4));
+    let rotated = present(alloc, &mut desk, 3, 1001, Wish::Rotate, V2)?;
+    assert_eq!(rt; rotated, Came::Refused(ErrorCode::InvalidRotation));
+    let revoked = present(alloc, &mut desk, 4, 1002, Wish::Revoke, V5)?;
+    assert_eq!(rt; revoked, Came::Done);
+    let told = look(alloc, &mut desk, 5, 1002, "r1", V4, None, None)?;
+    assert_eq!(rt; told, Answered::Inactive);
+    let revoked = present(alloc, &mut desk, 6, 1002, Wish::Revoke, V5)?;
+    assert_eq!(rt; revoked, Came::Done);
+    let rotated = present(alloc, &mut desk, 7, 1002, Wish::Rotate, V5)?;
+    assert_eq!(rt; rotated, Came::Refused(ErrorCode::InvalidRotation));
+    let cancelled = present(alloc, &mut desk, 8, 1002, Wish::Cancel, V3)?;
+    assert_eq!(rt; cancelled, Came::Done);
+    let cancelled = present(alloc, &mut desk, 9, 1002, Wish::Cancel, V3)?;
+    assert_eq!(rt; cancelled, Came::Refused(ErrorCode::InvalidContinuation));
+    let revoked = present(alloc, &mut desk, 10, 1002, Wish::Revoke, V5)?;
+    assert_eq!(rt; revoked, Came::Refused(ErrorCode::InvalidRequest));
     Ok(())
 }

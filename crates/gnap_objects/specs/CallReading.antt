@@ -91,12 +91,19 @@ object_call Introspect key (Some d) = introspect_by key (introspection_of d)
 unfoldable pub call_of : Setup → CallKind → Text → Text → Body → CallOrRefusal
 call_of setup kind key value body = if is_caller kind (key_of setup key) then object_call kind key (object_in body) else stranger kind
 
--- A grant request that names no way to interact, an introspection, and the lapse are built.
+-- The calls of clients and of resource servers are built, where a request names no way to interact, and so is the lapse.
 abbrev pub IsBuilt : Call → Type 0
 IsBuilt (calls.Begin key request not_after) = request.modes ≡ None
+IsBuilt (calls.Continue key value reference) = Unit {0}
+IsBuilt (calls.Modify key value request) = request.modes ≡ None
+IsBuilt (calls.Cancel key value) = Unit {0}
+IsBuilt (calls.Rotate key value new_key) = Unit {0}
+IsBuilt (calls.Revoke key value) = Unit {0}
 IsBuilt (calls.Introspect server value binding wanted) = Unit {0}
+IsBuilt (calls.Look front handle) = ⊥
+IsBuilt (calls.FindCode front code) = ⊥
+IsBuilt (calls.Decide front request) = ⊥
 IsBuilt calls.Lapse = Unit {0}
-IsBuilt _ = ⊥
 
 -- the machine takes the call
 abbrev pub IsTaken : CallOrRefusal → Type 0

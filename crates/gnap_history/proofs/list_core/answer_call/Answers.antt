@@ -1,4 +1,19 @@
 use Rattle.gnap_history.proofs.list_core.answer_call.Goals as goal
 
+pub returns-in-Continue : goal.returns-in-Continue
+returns-in-Continue c = rw c.in-Continue.is c.continue_grant.ensures
+
+pub returns-in-Modify : goal.returns-in-Modify
+returns-in-Modify c = rw c.in-Modify.is c.modify.ensures
+
+pub returns-in-Cancel : goal.returns-in-Cancel
+returns-in-Cancel c = rw c.in-Cancel.is c.cancel.ensures
+
+pub returns-in-Rotate : goal.returns-in-Rotate
+returns-in-Rotate c = rw c.in-Rotate.is c.rotate.ensures
+
+pub returns-in-Revoke : goal.returns-in-Revoke
+returns-in-Revoke c = rw c.in-Revoke.is c.revoke.ensures
+
 pub returns-in-Introspect : goal.returns-in-Introspect
 returns-in-Introspect c = rw c.in-Introspect.is c.introspect.ensures

@@ -1,0 +1,16 @@
+use Rattle.std.proofs.Common.{rules, Some, None}
+use Rattle.std.specs.Prelude.{option_map}
+use Rattle.gnap_model.specs.Actions.Action.{Refuse, RotateToken}
+use Rattle.gnap_model.specs.Manage.{rotate_key}
+use Rattle.gnap_history.specs.Drawings.{trail, supply}
+use Rattle.gnap_history.proofs.Acting.{acts_as, answers_as, rotates_as}
+use Rattle.gnap_history.proofs.managing.rotate_token.Goals as goal
+
+pub returns-in-Err : goal.returns-in-Err
+returns-in-Err c =
+    let drawing = c.args.drawing.now in
+    let t = c.args.token.now in
+    answers_as (supply drawing) c.refuse-in-Err.result (Refuse c.in-Err.code) _
+    (rotates_as (trail drawing) drawing.moment c.args.key.now t c.args.new_key.now (option_map (λ o. o.now) c.opening_of-grant.result) _
+    (search rules) (search rules) (search (rules, c.in-Err.ensures.err (rotate_key c.args.new_key.now t))))
+    (c.refuse-in-Err.ensures.reply, c.refuse-in-Err.ensures.notes)

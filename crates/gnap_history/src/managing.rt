@@ -1,0 +1,137 @@
+//! The rotation and the revocation of a token by its management value (RFC 9635, section 6).
+ghost use Rattle.std.specs.Prelude.{◌≡◌, IfOk, if◌then◌else◌};
+ghost use Rattle.gnap_model.specs.Actions.{outcome_of};
+ghost use Rattle.gnap_model.specs.Actions.Action.{Refuse, RotateToken, RevokeToken};
+ghost use Rattle.gnap_model.specs.Standing.{is_live as token_is_live, is_retirement};
+ghost use Rattle.gnap_model.specs.Manage.{on_grant, rotate_key, rotate as rotated, revoke as revoked};
+ghost use Rattle.gnap_model.specs.declared.objects.ErrorCode.TheVariants.{InvalidRequest, InvalidRotation};
+ghost use Rattle.std.specs.List.{list_any};
+ghost use Rattle.gnap_history.specs.Drawings.{trail, supply, IsAnswer};
+
+use crate::drawing::{Drawing, NotedReply, noted, refuse, silent};
+use crate::granting::{token_out, token_with};
+use crate::look_ups::{is_live, is_retired, opening_of};
+use crate::presented_values::{managed_token, of_key};
+use gnap_io::bytes::Bytes;
+use gnap_io::memory::{Duplicate, Mem};
+use gnap_io::seq::Seq;
+use gnap_model::calls::Reply;
+use gnap_model::notes::{Note, OpeningNote, TokenNote, Why};
+use gnap_model::objects::ErrorCode;
+use std::alloc::Global;
+
+/// The token gets a successor, with its label, its rights and its flag (RFC 9635, section 6.1).
+fn replace(
+    alloc: Global,
+    drawing: &Drawing,
+    opening: &OpeningNote,
+    token: &TokenNote,
+) -> Result<NotedReply, Mem>
+    ensures { IfOk result (IsAnswer (outcome_of (supply drawing.now) (RotateToken opening.now token.now))) }
+{
+    let label = token.label.copy()?;
+    let rights = token.rights.copy()?;
+    let successor = token_with(drawing, opening, label, rights, token.bearer, 0)?;
+    let reply = Reply::Rotated {
+        token: token_out(&successor, drawing.moment)?,
+    };
+    let mut notes = Seq::new(alloc);
+    notes.push(Note::Retired {
+        serial: token.serial,
+        why: Why::ByRotation,
+    })?;
+    notes.push(Note::Issued(successor))?;
+    Ok(NotedReply { reply, notes })
+}
+
+/// A live token of the key's grant gets a successor, unless a new key is named.
+fn rotate_token(
+    alloc: Global,
+    drawing: &Drawing,
+    key: &Bytes,
+    token: &TokenNote,
+    new_key: &Option<Bytes>,
+) -> Result<NotedReply, Mem>
+    ensures { IfOk result (IsAnswer (outcome_of (supply drawing.now) (if token_is_live (trail drawing.now) drawing.now.moment token.now
+        then on_grant InvalidRotation (trail drawing.now) key.now token.now (rotate_key new_key.now token.now) else Refuse InvalidRotation))) }
+{
+    let notes = drawing.notes.as_slice();
+    if !is_live(notes, token, drawing.moment) {
+        return Ok(refuse(alloc, ErrorCode::InvalidRotation));
+    }
+    let grant = opening_of(notes, token.grant);
+    match of_key(grant, key.as_slice(), ErrorCode::InvalidRotation) {
+        Ok(opening) => match new_key {
+            Some(_) => Ok(refuse(alloc, ErrorCode::KeyRotationNotSupported)),
+            None => replace(alloc, drawing, opening, token),
+        },
+        Err(code) => Ok(refuse(alloc, code)),
+    }
+}
+
+/// Answers a rotation (RFC 9635, section 6.1).
+pub fn rotate(
+    alloc: Global,
+    drawing: &Drawing,
+    key: &Bytes,
+    value: &Bytes,
+    new_key: &Option<Bytes>,
+) -> Result<NotedReply, Mem>
+    ensures { IfOk result (IsAnswer (outcome_of (supply drawing.now) (rotated (trail drawing.now) drawing.now.moment key.now value.now new_key.now))) }
+{
+    let notes = drawing.notes.as_slice();
+    match managed_token(notes, drawing.moment, value.as_slice()) {
+        Some(token) => rotate_token(alloc, drawing, key, token, new_key),
+        None => Ok(refuse(alloc, ErrorCode::InvalidRotation)),
+    }
+}
+
+/// The token is retired, if it wasn't (RFC 9635, section 6.2).
+fn retire(alloc: Global, drawing: &Drawing, token: &TokenNote) -> Result<NotedReply, Mem>
+    ensures { IfOk result (λ answered. (supply : _) → IsAnswer (outcome_of supply (RevokeToken token.now (list_any (is_retirement token.now.serial) (trail drawing.now)))) answered) }
+{
+    if is_retired(drawing.notes.as_slice(), token.serial) {
+        return Ok(silent(alloc, Reply::Done));
+    }
+    noted(
+        alloc,
+        Reply::Done,
+        Note::Retired {
+            serial: token.serial,
+            why: Why::ByRevocation,
+        },
+    )
+}
+
+/// A token of the key's grant is revoked.
+fn revoke_token(
+    alloc: Global,
+    drawing: &Drawing,
+    key: &Bytes,
+    token: &TokenNote,
+) -> Result<NotedReply, Mem>
+    ensures { IfOk result (IsAnswer (outcome_of (supply drawing.now) (on_grant InvalidRequest (trail drawing.now) key.now token.now
+        (λ _. RevokeToken token.now (list_any (is_retirement token.now.serial) (trail drawing.now)))))) }
+{
+    let grant = opening_of(drawing.notes.as_slice(), token.grant);
+    match of_key(grant, key.as_slice(), ErrorCode::InvalidRequest) {
+        Ok(_) => retire(alloc, drawing, token),
+        Err(code) => Ok(refuse(alloc, code)),
+    }
+}
+
+/// Answers a revocation (RFC 9635, section 6.2).
+pub fn revoke(
+    alloc: Global,
+    drawing: &Drawing,
+    key: &Bytes,
+    value: &Bytes,
+) -> Result<NotedReply, Mem>
+    ensures { IfOk result (IsAnswer (outcome_of (supply drawing.now) (revoked (trail drawing.now) drawing.now.moment key.now value.now))) }
+{
+    let notes = drawing.notes.as_slice();
+    match managed_token(notes, drawing.moment, value.as_slice()) {
+        Some(token) => revoke_token(alloc, drawing, key, token),
+        None => Ok(refuse(alloc, ErrorCode::InvalidRequest)),
+    }
+}
