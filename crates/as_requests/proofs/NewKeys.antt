@@ -1,6 +1,6 @@
 -- The ids of a setup are distinct, so each key adds its secret to the ring.
 use Rattle.std.proofs.Common.{◌≡◌, ◌∙◌, ℕ, suc, ◌+◌, ◌<◌, Bool, true, false, not, ◌||◌, List, [], ◌∷◌, ◌++◌, length, map, drop, get_or, Result, Ok, Err, Option, Some, None, refl, sym, ap, subst, add-one, append_assoc}
-use Rattle.std.specs.Prelude.{if◌then◌else◌, nat_lt}
+use Rattle.std.specs.Prelude.{if◌then◌else◌, nat_lt, codes}
 use Rattle.std.specs.List.{list_any}
 use Rattle.std.specs.Str.{bytes_eq}
 use Rattle.std.proofs.Math.Seq.{drop-cons}
@@ -17,8 +17,9 @@ use Rattle.gnap_objects.specs.declared.fault.ObjectFault.{ObjectFault}
 use Rattle.gnap_objects.specs.declared.fault.ObjectFault.TheVariants as faults
 use Rattle.gnap_objects.specs.declared.setups.SetupFault.{SetupFault}
 use Rattle.gnap_objects.specs.declared.setups.SetupFault.TheVariants.{InSetup}
-use Rattle.gnap_objects.specs.Reading.{none_unknown, checked}
-use Rattle.gnap_objects.specs.Setups.{has_id, key_id_of, key_row_of, in_setup, in_key, keys_from, few_keys, keys_of, setup_of, IsSetup}
+use Rattle.gnap_objects.specs.Reading.{none_unknown, without_others, checked, required, id_of}
+use Rattle.gnap_objects.specs.Setups.{has_id, key_id_of, role_of, secret_of, client_rights, server_names, key_members, key_row_of, in_setup, in_key, keys_from, few_keys, key_items_of, keys_of, object_in, base_of, setup_of, IsSetup}
+use Rattle.json_objects.specs.Bodies.{body_of}
 
 -- ---- what it takes that a reader gives a value
 
@@ -49,7 +50,7 @@ checked_ok test name x y e = by (test x) refl e
 few_ok : (ks ls : List KeyRow) → few_keys ks ≡ Ok ls → ks ≡ ls
 few_ok ks ls e = by (nat_lt 4096 (length ks)) e
   where
-    by : (b : Bool) → (if b then Err (InSetup (faults.TooMany _)) else Ok ks) ≡ Ok ls → ks ≡ ls
+    by : (b : Bool) → (if b then Err (InSetup (faults.TooMany (codes "keys"))) else Ok ks) ≡ Ok ls → ks ≡ ls
     by true e = absurd cc
     by false e = cc
 
@@ -65,11 +66,12 @@ AreNew ring (k ∷ ks) = (value_at ring k.id ≡ None) × AreNew (ring ++ (k.id,
 
 no_id : (ks : List KeyRow) (id : Text) → list_any (has_id id) ks ≡ false → value_at (secrets ks) id ≡ None
 no_id [] id e = refl
-no_id (k ∷ ks) id e = by (bytes_eq k.id id) refl e
+no_id (k ∷ ks) id e = by (bytes_eq k.id id) refl e (no_id ks id)
   where
-    by : (b : Bool) → bytes_eq k.id id ≡ b → (b || list_any (has_id id) ks) ≡ false → value_at (secrets (k ∷ ks)) id ≡ None
-    by true same e = absurd cc
-    by false other e = rw (turned k.id id other) (no_id ks id e)
+    by : (b : Bool) → bytes_eq k.id id ≡ b → (b || list_any (has_id id) ks) ≡ false → (list_any (has_id id) ks ≡ false → value_at (secrets ks) id ≡ None)
+        → value_at (secrets (k ∷ ks)) id ≡ None
+    by true same e others = absurd cc
+    by false other e others = rw (turned k.id id other) (others e)
 
 not_so : (b : Bool) → not b ≡ true → b ≡ false
 not_so true e = absurd cc
@@ -78,8 +80,9 @@ not_so false e = refl
 id_new : (before : List KeyRow) (d : Data) (id : Text) → key_id_of before d ≡ Ok id → value_at (secrets before) id ≡ None
 unfolding key_id_of
 id_new before d id e =
-    let last = read_ok _ (checked (λ id. not (list_any (has_id id) before)) _) id e in
-    no_id before id (not_so _ (checked_ok (λ id. not (list_any (has_id id) before)) _ last.value id last.rest))
+    let test : Text → Bool = λ id. not (list_any (has_id id) before) in
+    let last = read_ok (required (codes "id") d >>= id_of (codes "id")) (checked test (codes "id")) id e in
+    no_id before id (not_so (list_any (has_id id) before) (checked_ok test (codes "id") last.value id last.rest))
 
 none_is : {A : Type 0} (other : Option (List ℕ)) (x y : A) → none_unknown other x ≡ Ok y → x ≡ y
 none_is None x y e = cc
@@ -89,12 +92,12 @@ key_new : (before : List KeyRow) (d : Data) (k : KeyRow) → key_row_of before d
 unfolding key_row_of
 key_new before d k e =
     let id = read_ok (key_id_of before d) _ k e in
-    let role = read_ok _ _ k id.rest in
-    let secret = read_ok _ _ k role.rest in
-    let auto = read_ok _ _ k secret.rest in
-    let ask = read_ok _ _ k auto.rest in
-    let serves = read_ok _ _ k ask.rest in
-    subst (λ (row : KeyRow). value_at (secrets before) row.id ≡ None) (none_is _ _ k serves.rest) (id_new before d id.value id.is)
+    let role = read_ok (role_of d) _ k id.rest in
+    let secret = read_ok (secret_of d) _ k role.rest in
+    let auto = read_ok (client_rights role.value (codes "auto") d) _ k secret.rest in
+    let ask = read_ok (client_rights role.value (codes "ask") d) _ k auto.rest in
+    let serves = read_ok (server_names role.value d) _ k ask.rest in
+    subst (λ (row : KeyRow). value_at (secrets before) row.id ≡ None) (none_is (other_member (key_members role.value) d) _ k serves.rest) (id_new before d id.value id.is)
 
 -- ---- the keys of a setup
 
@@ -118,20 +121,22 @@ keys_new before (item d ds) ks e =
 read_new : (d : Data) (ks : List KeyRow) → keys_of d ≡ Ok ks → AreNew [] ks
 unfolding keys_of
 read_new d ks e =
-    let few = read_ok _ few_keys ks e in
-    let read = read_ok _ (keys_from []) few.value few.is in
+    let few = read_ok (in_setup (key_items_of d) >>= keys_from []) few_keys ks e in
+    let read = read_ok (in_setup (key_items_of d)) (keys_from []) few.value few.is in
     let added = keys_new [] read.value few.value read.rest in
     subst (AreNew []) (sym added.split ∙ few_ok few.value ks few.rest) added.new
 
 -- the keys of a setup are under distinct ids
-pub setup_new : (s : Setup) → IsSetup s → AreNew [] s.keys
+setup_new : (s : Setup) → IsSetup s → AreNew [] s.keys
 unfolding setup_of
 setup_new s is =
-    let d = read_ok _ _ s is.read_as in
-    let base = read_ok _ _ s d.rest in
-    let front = read_ok _ _ s base.rest in
+    let d = read_ok (object_in (body_of is.text)) _ s is.read_as in
+    let base = read_ok (in_setup (base_of (codes "base") d.value)) _ s d.rest in
+    let front = read_ok (in_setup (base_of (codes "front") d.value)) _ s base.rest in
     let keys = read_ok (keys_of d.value) _ s front.rest in
-    subst (λ (setup : Setup). AreNew [] setup.keys) (none_is _ _ s (setup_ok _ s keys.rest)) (read_new d.value keys.value keys.is)
+    let setup : Setup = record { base = base.value; front = front.value; keys = keys.value } in
+    let names = codes "base" ∷ codes "front" ∷ codes "keys" ∷ [] in
+    subst (λ (x : Setup). AreNew [] x.keys) (none_is (other_member names d.value) setup s (setup_ok (without_others names d.value setup) s keys.rest)) (read_new d.value keys.value keys.is)
 
 -- ---- the ring, key by key
 
@@ -139,6 +144,9 @@ setup_new s is =
 pub record IsUpTo (keys : List KeyRow) (i : ℕ) (ring : List (Text × Text)) : Type 0 where
   pub whole : ring ++ secrets (drop i keys) ≡ secrets keys
   pub new : AreNew ring (drop i keys)
+
+pub none_added : (s : Setup) → IsSetup s → IsUpTo s.keys 0 []
+none_added s is = record { whole = refl; new = setup_new s is }
 
 pub next_key : (keys : List KeyRow) (i : ℕ) (ring : List (Text × Text)) (k : KeyRow) → i < length keys → k ≡ get_or keys i k → IsUpTo keys i ring
     → IsUpTo keys (i + 1) (with_secret ring k.id k.secret)

@@ -17,11 +17,14 @@ use Rattle.as_requests.specs.Rings.{secrets_of}
 
 id_text : (ks : List KeyRow) (id secret : Text) → AllByRecursion KeyFits ks → value_at (map (λ k. (k.id, k.secret)) ks) id ≡ Some secret → IsUtf8 id
 id_text [] id secret fit e = absurd cc
-id_text (k ∷ ks) id secret fit e = by (bytes_eq id k.id) refl e
+id_text (k ∷ ks) id secret fit e = by (bytes_eq id k.id) refl e (id_text ks id secret fit.1)
   where
-    by : (b : Bool) → bytes_eq id k.id ≡ b → (if b then Some k.secret else value_at (map (λ k. (k.id, k.secret)) ks) id) ≡ Some secret → IsUtf8 id
-    by true same e = subst IsUtf8 (sym ((bytes_eq-Decides id k.id).0 same)) fit.0.id
-    by false other e = id_text ks id secret fit.1 e
+    secrets : List (Text × Text)
+    secrets = map (λ k. (k.id, k.secret)) ks
+
+    by : (b : Bool) → bytes_eq id k.id ≡ b → (if b then Some k.secret else value_at secrets id) ≡ Some secret → (value_at secrets id ≡ Some secret → IsUtf8 id) → IsUtf8 id
+    by true same e others = subst IsUtf8 (sym ((bytes_eq-Decides id k.id).0 same)) fit.0.id
+    by false other e others = others e
 
 pub signer_text : (setup : Setup) (m : Message) (moment : ℕ) (id : Text) → IsSetup setup → verified m setup.base (secrets_of setup) moment (codes "gnap") ≡ Ok id → IsUtf8 id
 signer_text setup m moment id is e =
