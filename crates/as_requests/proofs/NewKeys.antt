@@ -15,7 +15,6 @@ use Rattle.gnap_model.specs.declared.objects.KeyRow.{KeyRow}
 use Rattle.gnap_model.specs.declared.objects.Setup.{Setup}
 use Rattle.gnap_objects.specs.declared.fault.ObjectFault.{ObjectFault}
 use Rattle.gnap_objects.specs.declared.fault.ObjectFault.TheVariants as faults
-use Rattle.gnap_objects.specs.declared.setups.SetupFault.{SetupFault}
 use Rattle.gnap_objects.specs.declared.setups.SetupFault.TheVariants.{InSetup}
 use Rattle.gnap_objects.specs.Reading.{none_unknown, without_others, checked, required, id_of}
 use Rattle.gnap_objects.specs.Setups.{has_id, key_id_of, role_of, secret_of, client_rights, server_names, key_members, key_row_of, in_setup, in_key, keys_from, few_keys, key_items_of, keys_of, object_in, base_of, setup_of, IsSetup}

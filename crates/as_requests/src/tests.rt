@@ -1,6 +1,4 @@
 //! What requests ask. The signatures and digests were made by Python's `hmac` and `hashlib` over signature bases that were written down by hand.
-ghost use Rattle.std.specs.Prelude.{IfOk};
-
 use crate::{DirectAnswer, Edge, Purpose, RequestStep, Route, desk_call, presented_value};
 use gnap_io::bytes::Bytes;
 use gnap_io::memory::Mem;

@@ -1,4 +1,3 @@
-use Rattle.std.proofs.Common.{refl}
 use Rattle.as_requests.proofs.NewKeys.{none_added}
 use Rattle.as_requests.proofs.edge.ring_of.Goals as goal
 

@@ -1,4 +1,3 @@
-use Rattle.std.proofs.Common.{ℕ}
 use Rattle.as_requests.proofs.NewKeys.{IsUpTo}
 use Rattle.as_requests.proofs.edge.ring_of.Given as goal
 
