@@ -1,8 +1,6 @@
 -- The access token that a request presents (RFC 9635, section 7.2).
-use Rattle.std.specs.Prelude.{ℕ, List, [], ◌∷◌, map, filter, drop, if◌then◌else◌, codes}
-use Rattle.std.specs.Char.{eq_ignore_ascii_case}
-use Rattle.std.specs.List.{starts_with}
-use Rattle.std.specs.Str.{bytes_eq}
+use Rattle.std.specs.Prelude.{ℕ, List, [], ◌∷◌, map, filter, take, drop, if◌then◌else◌, codes}
+use Rattle.std.specs.Str.{bytes_eq, str_eq_ignore_ascii_case}
 use Rattle.gnap_io.specs.declared.message.Field.{Field}
 use Rattle.gnap_io.specs.declared.message.Message.{Message}
 
@@ -12,7 +10,7 @@ authorizations fields = map (λ f. f.value) (filter (λ f. bytes_eq f.name (code
 
 -- what stands behind the scheme `GNAP`, in any case, and one SP; nothing where the scheme is another
 abbrev pub behind_scheme : List ℕ → List ℕ
-behind_scheme value = if starts_with eq_ignore_ascii_case value (codes "GNAP ") then drop 5 value else []
+behind_scheme value = if str_eq_ignore_ascii_case (take 5 value) (codes "GNAP ") then drop 5 value else []
 
 -- of the one field; none and several present nothing
 abbrev pub presented_in : List (List ℕ) → List ℕ

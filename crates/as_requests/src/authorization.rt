@@ -8,9 +8,11 @@ use gnap_io::message::{Fields, Message};
 fn behind_scheme(value: &[u8]) -> &[u8]
     ensures { result.now ≡ behind_scheme value.now }
 {
-    match value.get(..5) {
-        Some(scheme) if scheme.eq_ignore_ascii_case(b"GNAP ") => &value[5..],
-        _ => b"",
+    let (scheme, token) = value.split_at(value.len().min(5));
+    if scheme.eq_ignore_ascii_case(b"GNAP ") {
+        token
+    } else {
+        b""
     }
 }
 

@@ -1,7 +1,7 @@
 //! What a request asks of the authorization server.
 ghost use Rattle.std.specs.Prelude.{◌≡◌, IfOk, IfSome, IsUtf8};
 ghost use Rattle.gnap_objects.specs.CallReading.{IsReadable, body_in, call_of, stranger};
-ghost use Rattle.as_requests.specs.DeskCalls.{signer, message_body, signed_call, step_of, method_step, route_step, desk_call, IsAskable};
+ghost use Rattle.as_requests.specs.DeskCalls.{signer, signed_call, step_of, route_step, desk_call, IsAskable};
 
 use crate::authorization::presented_value;
 use crate::edge::Edge;

@@ -1,5 +1,5 @@
 //! A setup with what its requests are verified by.
-ghost use Rattle.std.specs.Prelude.{◌≡◌, ◌∷◌, [], IfOk, IfErr, codes};
+ghost use Rattle.std.specs.Prelude.{◌≡◌, IfOk, IfErr, codes};
 ghost use Rattle.gnap_model.specs.declared.objects.Setup.{Setup};
 ghost use Rattle.gnap_objects.specs.Setups.{IsSetup};
 ghost use Rattle.as_requests.specs.Rings.{secrets_of};

@@ -1,0 +1,3 @@
+pub mod NewKeys
+pub mod Signers
+pub mod Authorizations
