@@ -1,2 +1,3 @@
 pub mod Requests
 pub mod Statuses
+pub mod Wholes

@@ -1,5 +1,5 @@
 -- The responses of the server have statuses that are used, and 204 has no body.
-use Rattle.std.proofs.Common.{◌≡◌, ◌∙◌, ℕ, List, ◌×◌, true, refl, ap, subst, sym, arith, rules}
+use Rattle.std.proofs.Common.{◌≡◌, ◌∙◌, ℕ, List, true, refl, ap, sym, arith}
 use Rattle.std.specs.Prelude.{Option, Some, None, option_map}
 use Rattle.std.specs.List.{list_all}
 use Rattle.serde_json.specs.Written.{compact_text}

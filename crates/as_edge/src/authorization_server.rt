@@ -1,10 +1,8 @@
 //! The authorization server, as `serving` serves it.
 ghost use Rattle.std.specs.Prelude.{◌≡◌};
-ghost use Rattle.gnap_io.specs.Outside.{HasSent, HasCause};
-ghost use Rattle.http_edge.specs.Replies.{reply_bytes, MayWrite};
 ghost use Rattle.as_edge.specs.EdgeWire.{no_message};
 
-use crate::replies::{ReadyReply, http_reply, print_direct};
+use crate::replies::{ReadyReply, http_reply, print_direct, write_whole};
 use as_requests::{Edge, RequestStep, desk_call};
 use gnap_history::Gnap;
 use gnap_io::device::{Failed, Sink, Source};
@@ -13,7 +11,7 @@ use gnap_io::memory::Mem;
 use gnap_io::message::Message;
 use gnap_model::calls::{Call, Reply};
 use histories::machine::Desk;
-use http_edge::{EdgeFault, Held, HttpReply, WriteFault, fault_reply, write_reply};
+use http_edge::{EdgeFault, Held, HttpReply, fault_reply};
 use serving::connection::serve_connection;
 use serving::ends::NoMessage;
 use serving::front::Front;
@@ -38,19 +36,9 @@ fn no_message(fault: EdgeFault) -> NoMessage<EdgeFault>
     }
 }
 
-fn write<K: Sink>(out: &mut K, reply: &HttpReply) -> Result<(), Failed>
-    requires { MayWrite reply.now }
-    ensures sent { HasSent (reply_bytes reply.now) (K.told out.old) (K.told out.new) result }
-    ensures cause { HasCause (K.faults out.old) (K.faults out.new) result }
-{
-    match write_reply(out, reply) {
-        Ok(()) => Ok(()),
-        Err(WriteFault) => Err(Failed),
-    }
-}
-
 impl Server for AuthorizationServer {
     ghost use Rattle.gnap_objects.specs.CallsFit.{ReplyFits};
+    ghost use Rattle.http_edge.specs.Replies.{reply_bytes};
     ghost use Rattle.as_edge.specs.EdgeFace.{edge_face};
     ghost use Rattle.as_edge.specs.EdgeWire.{edge_wire, stays};
     ghost use Rattle.as_edge.specs.EdgeSessions.{says_all};
@@ -71,7 +59,7 @@ impl Server for AuthorizationServer {
 
     ghost wire = { edge_wire };
 
-    ghost text = { λ response. reply_bytes response.reply };
+    ghost text = { λ response. reply_bytes response };
 
     ghost can_say = { ReplyFits };
 
@@ -122,11 +110,11 @@ impl Server for AuthorizationServer {
     }
 
     fn write_response<K: Sink>(&self, response: &ReadyReply, out: &mut K) -> Result<(), Failed> {
-        write(out, &response.reply)
+        response.write(out)
     }
 
     fn write_busy<K: Sink>(&self, out: &mut K) -> Result<(), Failed> {
-        write(out, &HttpReply::busy())
+        write_whole(out, &HttpReply::busy())
     }
 
     fn write_starved<K: Sink>(&self, out: &mut K) -> Result<(), Failed> {
@@ -135,7 +123,7 @@ impl Server for AuthorizationServer {
 
     fn write_refusal<K: Sink>(&self, fault: &EdgeFault, out: &mut K) -> Result<(), Failed> {
         match fault_reply(*fault) {
-            Some(reply) => write(out, &reply),
+            Some(reply) => write_whole(out, &reply),
             None => Ok(()),
         }
     }

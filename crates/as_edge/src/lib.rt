@@ -6,6 +6,7 @@
 #![tactic(auto)]
 
 pub mod authorization_server;
+pub mod laws;
 pub mod replies;
 
 pub use authorization_server::AuthorizationServer;

@@ -21,16 +21,21 @@ use std::alloc::Global;
 use std::sync::Wait;
 use std::thread::Threads;
 
-const SETUP: &[u8] = b"{\"base\":\"https://as.example\",\"front\":\"https://front.example\",\"keys\":[{\"ask\":[],\"auto\":[\"photos\"],\"id\":\"c1\",\"role\":\"client\",\"secret\":\"c2VjcmV0LWtleS1vZi1jMQ==\"},{\"id\":\"r1\",\"role\":\"server\",\"secret\":\"c2VjcmV0LWtleS1vZi1yMQ==\",\"serves\":[\"photos\"]}]}";
+const SETUP: &[u8] =
+    b"{\"base\":\"https://as.example\",\"front\":\"https://front.example\",\"keys\":[{\"ask\":[],\"auto\":[\"photos\"],\"id\":\"c1\",\"role\":\"client\",\"secret\":\"c2VjcmV0LWtleS1vZi1jMQ==\"},{\"id\":\"r1\",\"role\":\"server\",\"secret\":\"c2VjcmV0LWtleS1vZi1yMQ==\",\"serves\":[\"photos\"]}]}";
 
 // A signed grant request, and the introspection of its token, signed by another program.
-const BEGIN: &[u8] = b"POST /gnap HTTP/1.1\r\nHost: as.example\r\nContent-Type: application/json\r\nContent-Digest: sha-256=:sokhpObDYVkSZEb8/PUgff1BUrQpmCFg5KKz7hUUpIU=:\r\nSignature-Input: sig1=(\"@method\" \"@target-uri\" \"content-digest\");created=1000;keyid=\"c1\";tag=\"gnap\"\r\nSignature: sig1=:HwEDWPz8bA8wzviConJZBqONvOgFj6sUzw3A0p4G7DY=:\r\nContent-Length: 52\r\n\r\n{\"access_token\":{\"access\":[\"photos\"]},\"client\":\"c1\"}";
+const BEGIN: &[u8] =
+    b"POST /gnap HTTP/1.1\r\nHost: as.example\r\nContent-Type: application/json\r\nContent-Digest: sha-256=:sokhpObDYVkSZEb8/PUgff1BUrQpmCFg5KKz7hUUpIU=:\r\nSignature-Input: sig1=(\"@method\" \"@target-uri\" \"content-digest\");created=1000;keyid=\"c1\";tag=\"gnap\"\r\nSignature: sig1=:HwEDWPz8bA8wzviConJZBqONvOgFj6sUzw3A0p4G7DY=:\r\nContent-Length: 52\r\n\r\n{\"access_token\":{\"access\":[\"photos\"]},\"client\":\"c1\"}";
 
-const INTROSPECTION: &[u8] = b"POST /introspect HTTP/1.1\r\nHost: as.example\r\nContent-Type: application/json\r\nContent-Digest: sha-256=:G5oec+d/whEzlqJ+Ll3DNeIcRAqZT/9XSTHJcs78tV0=:\r\nSignature-Input: sig1=(\"@method\" \"@target-uri\" \"content-digest\");created=1001;keyid=\"r1\";tag=\"gnap\"\r\nSignature: sig1=:mzO5re7XmWQdxT4nyMpEPaqmu1JnNQSEjdBsYGQKsq0=:\r\nContent-Length: 74\r\n\r\n{\"access_token\":\"AAAAAAAAAAEAAAAAAAAAAAAAAAAAAAAA\",\"resource_server\":\"r1\"}";
+const INTROSPECTION: &[u8] =
+    b"POST /introspect HTTP/1.1\r\nHost: as.example\r\nContent-Type: application/json\r\nContent-Digest: sha-256=:G5oec+d/whEzlqJ+Ll3DNeIcRAqZT/9XSTHJcs78tV0=:\r\nSignature-Input: sig1=(\"@method\" \"@target-uri\" \"content-digest\");created=1001;keyid=\"r1\";tag=\"gnap\"\r\nSignature: sig1=:mzO5re7XmWQdxT4nyMpEPaqmu1JnNQSEjdBsYGQKsq0=:\r\nContent-Length: 74\r\n\r\n{\"access_token\":\"AAAAAAAAAAEAAAAAAAAAAAAAAAAAAAAA\",\"resource_server\":\"r1\"}";
 
-const ACTIVE: &[u8] = b"HTTP/1.1 200 OK\r\nContent-Type: application/json\r\nCache-Control: no-store\r\nContent-Length: 119\r\n\r\n{\"access\":[\"photos\"],\"active\":true,\"exp\":4600,\"iat\":1000,\"instance_id\":\"c1\",\"iss\":\"https://as.example/gnap\",\"key\":\"c1\"}";
+const ACTIVE: &[u8] =
+    b"HTTP/1.1 200 OK\r\nContent-Type: application/json\r\nCache-Control: no-store\r\nContent-Length: 119\r\n\r\n{\"access\":[\"photos\"],\"active\":true,\"exp\":4600,\"iat\":1000,\"instance_id\":\"c1\",\"iss\":\"https://as.example/gnap\",\"key\":\"c1\"}";
 
-const NOT_FOUND: &[u8] = b"HTTP/1.1 404 Not Found\r\nCache-Control: no-store\r\nContent-Length: 0\r\n\r\n";
+const NOT_FOUND: &[u8] =
+    b"HTTP/1.1 404 Not Found\r\nCache-Control: no-store\r\nContent-Length: 0\r\n\r\n";
 
 // A connection that gives at most so many bytes at once.
 #[derive(Drop)]
@@ -197,11 +202,7 @@ fn wrong_answers(alloc: Global) -> Result<Vec<usize>, Mem> {
         ),
         (
             // Nothing.
-            b"",
-            0,
-            b"",
-            b"",
-            "Closed",
+            b"", 0, b"", b"", "Closed",
         ),
         (
             // Less than a head.
