@@ -1,6 +1,6 @@
 -- The responses of the server have statuses that are used, and 204 has no body.
 use Rattle.std.proofs.Common.{◌≡◌, ◌∙◌, ℕ, List, true, refl, ap, sym, arith}
-use Rattle.std.specs.Prelude.{Option, Some, None, option_map}
+use Rattle.std.specs.Prelude.{Option, None, option_map}
 use Rattle.std.specs.List.{list_all}
 use Rattle.serde_json.specs.Written.{compact_text}
 use Rattle.http_edge.specs.Replies.{is_used, is_method_byte}
@@ -9,7 +9,6 @@ use Rattle.gnap_model.specs.declared.objects.ErrorCode.{ErrorCode}
 use Rattle.gnap_model.specs.declared.objects.ErrorCode.TheVariants as code
 use Rattle.gnap_model.specs.declared.calls.Reply.{Reply}
 use Rattle.gnap_model.specs.declared.calls.Reply.TheVariants as reply
-use Rattle.gnap_replies.specs.Errors.{error_status}
 use Rattle.gnap_replies.specs.Responses.{Response, response_of, error_response, text_of}
 use Rattle.as_requests.specs.declared.routes.Route.{Route}
 use Rattle.as_requests.specs.declared.routes.Route.TheVariants as route

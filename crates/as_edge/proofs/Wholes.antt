@@ -1,5 +1,5 @@
 -- Connections on which nothing failed.
-use Rattle.std.proofs.Common.{◌≡◌, ℕ, ◌<◌, List, [], ◌∷◌, ◌++◌, ap, arith}
+use Rattle.std.proofs.Common.{◌≡◌, ℕ, List, [], ◌∷◌, ◌++◌, ap, arith}
 use Rattle.gnap_io.specs.Outside.{Served}
 use Rattle.gnap_io.specs.declared.message.Message.{Message}
 use Rattle.histories.specs.Turns.{Turn, IsTurn}

@@ -1,5 +1,5 @@
 -- HTTP replies of the authorization server: how its responses stand in them, and those that need no state.
-use Rattle.std.specs.Prelude.{Bool, Option, Some, None, option_map}
+use Rattle.std.specs.Prelude.{Bool, Some, None, option_map}
 use Rattle.serde_json.specs.Written.{compact_text}
 use Rattle.http_edge.specs.declared.reply.HttpReply.{HttpReply}
 use Rattle.http_edge.specs.declared.reply.Extra.TheVariants.{Allow}

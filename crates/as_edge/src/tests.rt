@@ -21,21 +21,179 @@ use std::alloc::Global;
 use std::sync::Wait;
 use std::thread::Threads;
 
-const SETUP: &[u8] =
-    b"{\"base\":\"https://as.example\",\"front\":\"https://front.example\",\"keys\":[{\"ask\":[],\"auto\":[\"photos\"],\"id\":\"c1\",\"role\":\"client\",\"secret\":\"c2VjcmV0LWtleS1vZi1jMQ==\"},{\"id\":\"r1\",\"role\":\"server\",\"secret\":\"c2VjcmV0LWtleS1vZi1yMQ==\",\"serves\":[\"photos\"]}]}";
+const SETUP: &str =
+    r#"{"base":"https://as.example","front":"https://front.example","keys":[{"ask":[],"auto":["photos"],"id":"c1","role":"client","secret":"c2VjcmV0LWtleS1vZi1jMQ=="},{"id":"r1","role":"server","secret":"c2VjcmV0LWtleS1vZi1yMQ==","serves":["photos"]}]}"#;
 
-// A signed grant request, and the introspection of its token, signed by another program.
-const BEGIN: &[u8] =
-    b"POST /gnap HTTP/1.1\r\nHost: as.example\r\nContent-Type: application/json\r\nContent-Digest: sha-256=:sokhpObDYVkSZEb8/PUgff1BUrQpmCFg5KKz7hUUpIU=:\r\nSignature-Input: sig1=(\"@method\" \"@target-uri\" \"content-digest\");created=1000;keyid=\"c1\";tag=\"gnap\"\r\nSignature: sig1=:HwEDWPz8bA8wzviConJZBqONvOgFj6sUzw3A0p4G7DY=:\r\nContent-Length: 52\r\n\r\n{\"access_token\":{\"access\":[\"photos\"]},\"client\":\"c1\"}";
+// A grant request and the introspection of its token, signed by another program. Lines of requests and replies end with CR LF.
+const BEGIN: &str = r#"POST /gnap HTTP/1.1
+Host: as.example
+Content-Type: application/json
+Content-Digest: sha-256=:sokhpObDYVkSZEb8/PUgff1BUrQpmCFg5KKz7hUUpIU=:
+Signature-Input: sig1=("@method" "@target-uri" "content-digest");created=1000;keyid="c1";tag="gnap"
+Signature: sig1=:HwEDWPz8bA8wzviConJZBqONvOgFj6sUzw3A0p4G7DY=:
+Content-Length: 52
 
-const INTROSPECTION: &[u8] =
-    b"POST /introspect HTTP/1.1\r\nHost: as.example\r\nContent-Type: application/json\r\nContent-Digest: sha-256=:G5oec+d/whEzlqJ+Ll3DNeIcRAqZT/9XSTHJcs78tV0=:\r\nSignature-Input: sig1=(\"@method\" \"@target-uri\" \"content-digest\");created=1001;keyid=\"r1\";tag=\"gnap\"\r\nSignature: sig1=:mzO5re7XmWQdxT4nyMpEPaqmu1JnNQSEjdBsYGQKsq0=:\r\nContent-Length: 74\r\n\r\n{\"access_token\":\"AAAAAAAAAAEAAAAAAAAAAAAAAAAAAAAA\",\"resource_server\":\"r1\"}";
+{"access_token":{"access":["photos"]},"client":"c1"}"#;
 
-const ACTIVE: &[u8] =
-    b"HTTP/1.1 200 OK\r\nContent-Type: application/json\r\nCache-Control: no-store\r\nContent-Length: 119\r\n\r\n{\"access\":[\"photos\"],\"active\":true,\"exp\":4600,\"iat\":1000,\"instance_id\":\"c1\",\"iss\":\"https://as.example/gnap\",\"key\":\"c1\"}";
+const INTROSPECTION: &str = r#"POST /introspect HTTP/1.1
+Host: as.example
+Content-Type: application/json
+Content-Digest: sha-256=:G5oec+d/whEzlqJ+Ll3DNeIcRAqZT/9XSTHJcs78tV0=:
+Signature-Input: sig1=("@method" "@target-uri" "content-digest");created=1001;keyid="r1";tag="gnap"
+Signature: sig1=:mzO5re7XmWQdxT4nyMpEPaqmu1JnNQSEjdBsYGQKsq0=:
+Content-Length: 74
 
-const NOT_FOUND: &[u8] =
-    b"HTTP/1.1 404 Not Found\r\nCache-Control: no-store\r\nContent-Length: 0\r\n\r\n";
+{"access_token":"AAAAAAAAAAEAAAAAAAAAAAAAAAAAAAAA","resource_server":"r1"}"#;
+
+// What is written, by the rules of docs/HTTP.md and docs/FORMATS.md.
+const GRANTED: &str = r#"HTTP/1.1 200 OK
+Content-Type: application/json
+Cache-Control: no-store
+Content-Length: 321
+
+{"access_token":{"access":["photos"],"expires_in":3600,"manage":{"access_token":{"value":"AAAAAAAAAAIAAAAAAAAAAAAAAAAAAAAA"},"uri":"https://as.example/token"},"value":"AAAAAAAAAAEAAAAAAAAAAAAAAAAAAAAA"},"continue":{"access_token":{"value":"AAAAAAAAAAMAAAAAAAAAAAAAAAAAAAAA"},"uri":"https://as.example/continue","wait":5}}"#;
+
+const ACTIVE: &str = r#"HTTP/1.1 200 OK
+Content-Type: application/json
+Cache-Control: no-store
+Content-Length: 119
+
+{"access":["photos"],"active":true,"exp":4600,"iat":1000,"instance_id":"c1","iss":"https://as.example/gnap","key":"c1"}"#;
+
+const NOT_FOUND: &str = r"HTTP/1.1 404 Not Found
+Cache-Control: no-store
+Content-Length: 0
+
+";
+
+const INVALID_CLIENT: &str = r#"HTTP/1.1 401 Unauthorized
+Content-Type: application/json
+Cache-Control: no-store
+WWW-Authenticate: GNAP
+Content-Length: 35
+
+{"error":{"code":"invalid_client"}}"#;
+
+const INVALID_RESOURCE_SERVER: &str = r#"HTTP/1.1 401 Unauthorized
+Content-Type: application/json
+Cache-Control: no-store
+WWW-Authenticate: GNAP
+Content-Length: 44
+
+{"error":{"code":"invalid_resource_server"}}"#;
+
+const DISCOVERY: &str = r#"HTTP/1.1 200 OK
+Content-Type: application/json
+Cache-Control: no-store
+Content-Length: 229
+
+{"grant_request_endpoint":"https://as.example/gnap","interaction_finish_methods_supported":[],"interaction_start_modes_supported":[],"key_proofs_supported":["httpsig"],"key_rotation_supported":false,"sub_id_formats_supported":[]}"#;
+
+const RS_DISCOVERY: &str = r#"HTTP/1.1 200 OK
+Content-Type: application/json
+Cache-Control: no-store
+Content-Length: 144
+
+{"grant_request_endpoint":"https://as.example/gnap","introspection_endpoint":"https://as.example/introspect","key_proofs_supported":["httpsig"]}"#;
+
+const NOT_ALLOWED: &str = r"HTTP/1.1 405 Method Not Allowed
+Cache-Control: no-store
+Allow: POST, OPTIONS
+Content-Length: 0
+
+";
+
+const GET_X: &str = "GET /x HTTP/1.1\n\n";
+
+const UNSIGNED: &str = "POST /gnap HTTP/1.1\nContent-Length: 2\n\n{}";
+
+const LAST_NOT_FOUND: &str = r"HTTP/1.1 404 Not Found
+Cache-Control: no-store
+Connection: close
+Content-Length: 0
+
+";
+
+const TOO_LARGE: &str = r"HTTP/1.1 413 Payload Too Large
+Cache-Control: no-store
+Connection: close
+Content-Length: 0
+
+";
+
+const CODED: &str = r"HTTP/1.1 501 Not Implemented
+Cache-Control: no-store
+Connection: close
+Content-Length: 0
+
+";
+
+const BAD_HEAD: &str = r"HTTP/1.1 400 Bad Request
+Cache-Control: no-store
+Connection: close
+Content-Length: 0
+
+";
+
+// What a connection brings, what is written to it, and how it ends.
+const ANSWERS: [([&str; 2], [&str; 2], &str); 16] = [
+    ([BEGIN, INTROSPECTION], [GRANTED, ACTIVE], "Closed"),
+    ([UNSIGNED, ""], [INVALID_CLIENT, ""], "Closed"),
+    (
+        ["POST /introspect HTTP/1.1\n", "Content-Length: 2\n\n{}"],
+        [INVALID_RESOURCE_SERVER, ""],
+        "Closed",
+    ),
+    (
+        ["OPTIONS /gnap HTTP/1.1\n\n", ""],
+        [DISCOVERY, ""],
+        "Closed",
+    ),
+    (
+        ["GET /.well-known/gnap-as-rs HTTP/1.1\n\n", ""],
+        [RS_DISCOVERY, ""],
+        "Closed",
+    ),
+    (["GET /gnap HTTP/1.1\n\n", ""], [NOT_ALLOWED, ""], "Closed"),
+    ([GET_X, UNSIGNED], [NOT_FOUND, INVALID_CLIENT], "Closed"),
+    (
+        ["GET /x HTTP/1.1\nConnection: close\n\n", GET_X],
+        [LAST_NOT_FOUND, ""],
+        "Closed",
+    ),
+    (["", ""], ["", ""], "Closed"),
+    (["POST /gnap HTTP/1.1\nHost: as", ""], ["", ""], "Truncated"),
+    (
+        [GET_X, "POST /gnap HTTP/1.1\nContent-Length: 2\n\n{"],
+        [NOT_FOUND, ""],
+        "Truncated",
+    ),
+    (
+        ["GET /x HTTP/1.1\nContent-Encoding: identity\n\n", ""],
+        [CODED, ""],
+        "Refused",
+    ),
+    (
+        ["GET /x HTTP/1.1\nContent-Length: 1x\n\n", ""],
+        [BAD_HEAD, ""],
+        "Refused",
+    ),
+    (
+        ["POST /gnap HTTP/1.1\nContent-Length: 65537\n\n", ""],
+        [TOO_LARGE, ""],
+        "Refused",
+    ),
+    (
+        [GET_X, "GET  /x HTTP/1.1\n\n"],
+        [NOT_FOUND, BAD_HEAD],
+        "Refused",
+    ),
+    (
+        ["GET /x HTTP/1.0\n\n", GET_X],
+        [LAST_NOT_FOUND, ""],
+        "Closed",
+    ),
+];
 
 // A connection that gives at most so many bytes at once.
 #[derive(Drop)]
@@ -66,7 +224,7 @@ impl Sink for SlowConn {
 
 // The server of the setup above.
 fn server(alloc: Global) -> Result<AuthorizationServer, Mem> {
-    let Ok(setup) = read_setup(alloc, SETUP) else {
+    let Ok(setup) = read_setup(alloc, SETUP.as_bytes()) else {
         return Err(Mem);
     };
     match Edge::new(alloc, setup) {
@@ -75,33 +233,41 @@ fn server(alloc: Global) -> Result<AuthorizationServer, Mem> {
     }
 }
 
+// Puts texts behind bytes, with CR LF at the ends of their lines.
+fn put_texts(bytes: &mut Bytes, texts: &[&str]) -> Result<(), Mem> {
+    for text in texts {
+        for byte in text.as_bytes() {
+            if *byte == b'\n' {
+                bytes.push(b'\r')?;
+            }
+            bytes.push(*byte)?;
+        }
+    }
+    Ok(())
+}
+
+fn bytes_of(alloc: Global, texts: &[&str]) -> Result<Bytes, Mem> {
+    let mut bytes = Bytes::new(alloc);
+    put_texts(&mut bytes, texts)?;
+    Ok(bytes)
+}
+
 // What is written to a connection that brings these bytes, so many at once, and how it ends. The first message comes at 1000, the others at 1001.
 fn answered(
     alloc: Global,
     bytes: Bytes,
     most: usize,
-    bad_writes: Vec<u64>,
 ) -> Result<(Bytes, ConnectionEnd<EdgeFault>), Mem>
     requires { 1 ≤ most }
 {
     let server = server(alloc)?;
     let mut desk = list_desk(alloc, server.edge.setup().copy()?);
-    let conn = MemConn::new(alloc, bytes, 4000, Vec::new(alloc), bad_writes)?;
+    let conn = MemConn::new(alloc, bytes, 4000, Vec::new(alloc), Vec::new(alloc))?;
     let mut slow = SlowConn { conn, most };
     let moments = Vec::from_slice(alloc, &[1000, 1001])?;
     let mut gear = MemGear::new(Vec::new(alloc), moments, Vec::new(alloc), Vec::new(alloc))?;
     let ended = serve_connection(&server, alloc, &mut desk, &mut slow, &mut gear);
     Ok((Bytes::from_slice(alloc, slow.conn.written())?, ended))
-}
-
-// A front, so many letters, and a back.
-fn text(alloc: Global, front: &[u8], letters: usize, back: &[u8]) -> Result<Bytes, Mem> {
-    let mut bytes = Bytes::from_slice(alloc, front)?;
-    for _ in 0..letters {
-        bytes.push(b'x')?;
-    }
-    bytes.extend(back)?;
-    Ok(bytes)
 }
 
 // How a connection ended.
@@ -117,169 +283,55 @@ fn end_named(ended: &ConnectionEnd<EdgeFault>) -> &'static str {
     }
 }
 
-// The places of the table whose texts are answered otherwise than it says, however they are cut.
+// Whether the bytes are answered by these replies and the connection ends so, however they are cut.
+fn is_answered(alloc: Global, bytes: &Bytes, replies: &[&str], end: &str) -> Result<bool, Mem> {
+    let expected = bytes_of(alloc, replies)?;
+    for most in [1usize, 7, 100_000] {
+        let (written, ended) = answered(alloc, bytes.copy()?, most.max(1))?;
+        if written.as_slice() != expected.as_slice() || end_named(&ended) != end {
+            return Ok(false);
+        }
+    }
+    Ok(true)
+}
+
+// The places of the table whose requests are answered otherwise than it says.
 fn wrong_answers(alloc: Global) -> Result<Vec<usize>, Mem> {
-    let table: [(&[u8], usize, &[u8], &[u8], &str); 17] = [
-        (
-            // Nobody signed.
-            b"POST /gnap HTTP/1.1\r\nContent-Length: 2\r\n\r\n{}",
-            0,
-            b"",
-            b"HTTP/1.1 401 Unauthorized\r\nContent-Type: application/json\r\nCache-Control: no-store\r\nWWW-Authenticate: GNAP\r\nContent-Length: 35\r\n\r\n{\"error\":{\"code\":\"invalid_client\"}}",
-            "Closed",
-        ),
-        (
-            // No resource server signed.
-            b"POST /introspect HTTP/1.1\r\nContent-Length: 2\r\n\r\n{}",
-            0,
-            b"",
-            b"HTTP/1.1 401 Unauthorized\r\nContent-Type: application/json\r\nCache-Control: no-store\r\nWWW-Authenticate: GNAP\r\nContent-Length: 44\r\n\r\n{\"error\":{\"code\":\"invalid_resource_server\"}}",
-            "Closed",
-        ),
-        (
-            // Discovery.
-            b"OPTIONS /gnap HTTP/1.1\r\n\r\n",
-            0,
-            b"",
-            b"HTTP/1.1 200 OK\r\nContent-Type: application/json\r\nCache-Control: no-store\r\nContent-Length: 229\r\n\r\n{\"grant_request_endpoint\":\"https://as.example/gnap\",\"interaction_finish_methods_supported\":[],\"interaction_start_modes_supported\":[],\"key_proofs_supported\":[\"httpsig\"],\"key_rotation_supported\":false,\"sub_id_formats_supported\":[]}",
-            "Closed",
-        ),
-        (
-            // Discovery for resource servers.
-            b"GET /.well-known/gnap-as-rs HTTP/1.1\r\n\r\n",
-            0,
-            b"",
-            b"HTTP/1.1 200 OK\r\nContent-Type: application/json\r\nCache-Control: no-store\r\nContent-Length: 144\r\n\r\n{\"grant_request_endpoint\":\"https://as.example/gnap\",\"introspection_endpoint\":\"https://as.example/introspect\",\"key_proofs_supported\":[\"httpsig\"]}",
-            "Closed",
-        ),
-        (
-            // A method too many.
-            b"GET /gnap HTTP/1.1\r\n\r\n",
-            0,
-            b"",
-            b"HTTP/1.1 405 Method Not Allowed\r\nCache-Control: no-store\r\nAllow: POST, OPTIONS\r\nContent-Length: 0\r\n\r\n",
-            "Closed",
-        ),
-        (
-            // No such path.
-            b"GET /x?/gnap HTTP/1.1\r\n\r\n",
-            0,
-            b"",
-            NOT_FOUND,
-            "Closed",
-        ),
-        (
-            // A long head.
-            b"GET /x HTTP/1.1\r\nA: ",
-            16362,
-            b"\r\n\r\n",
-            b"HTTP/1.1 413 Payload Too Large\r\nCache-Control: no-store\r\nConnection: close\r\nContent-Length: 0\r\n\r\n",
-            "Refused",
-        ),
-        (
-            // A long body.
-            b"POST /gnap HTTP/1.1\r\nContent-Length: 65537\r\n\r\n",
-            0,
-            b"",
-            b"HTTP/1.1 413 Payload Too Large\r\nCache-Control: no-store\r\nConnection: close\r\nContent-Length: 0\r\n\r\n",
-            "Refused",
-        ),
-        (
-            // A coding.
-            b"GET /x HTTP/1.1\r\nContent-Encoding: identity\r\n\r\n",
-            0,
-            b"",
-            b"HTTP/1.1 501 Not Implemented\r\nCache-Control: no-store\r\nConnection: close\r\nContent-Length: 0\r\n\r\n",
-            "Refused",
-        ),
-        (
-            // No length.
-            b"GET /x HTTP/1.1\r\nContent-Length: 1x\r\n\r\n",
-            0,
-            b"",
-            b"HTTP/1.1 400 Bad Request\r\nCache-Control: no-store\r\nConnection: close\r\nContent-Length: 0\r\n\r\n",
-            "Refused",
-        ),
-        (
-            // Nothing.
-            b"", 0, b"", b"", "Closed",
-        ),
-        (
-            // Less than a head.
-            b"POST /gnap HTTP/1.1\r\nHost: as",
-            0,
-            b"",
-            b"",
-            "Truncated",
-        ),
-        (
-            // Less than a body.
-            b"POST /gnap HTTP/1.1\r\nContent-Length: 2\r\n\r\n{",
-            0,
-            b"",
-            b"",
-            "Truncated",
-        ),
-        (
-            // Two requests.
-            b"GET /x HTTP/1.1\r\n\r\nPOST /gnap HTTP/1.1\r\nContent-Length: 2\r\n\r\n{}",
-            0,
-            b"",
-            b"HTTP/1.1 404 Not Found\r\nCache-Control: no-store\r\nContent-Length: 0\r\n\r\nHTTP/1.1 401 Unauthorized\r\nContent-Type: application/json\r\nCache-Control: no-store\r\nWWW-Authenticate: GNAP\r\nContent-Length: 35\r\n\r\n{\"error\":{\"code\":\"invalid_client\"}}",
-            "Closed",
-        ),
-        (
-            // A grant and its token.
-            BEGIN,
-            0,
-            INTROSPECTION,
-            b"HTTP/1.1 200 OK\r\nContent-Type: application/json\r\nCache-Control: no-store\r\nContent-Length: 321\r\n\r\n{\"access_token\":{\"access\":[\"photos\"],\"expires_in\":3600,\"manage\":{\"access_token\":{\"value\":\"AAAAAAAAAAIAAAAAAAAAAAAAAAAAAAAA\"},\"uri\":\"https://as.example/token\"},\"value\":\"AAAAAAAAAAEAAAAAAAAAAAAAAAAAAAAA\"},\"continue\":{\"access_token\":{\"value\":\"AAAAAAAAAAMAAAAAAAAAAAAAAAAAAAAA\"},\"uri\":\"https://as.example/continue\",\"wait\":5}}HTTP/1.1 200 OK\r\nContent-Type: application/json\r\nCache-Control: no-store\r\nContent-Length: 119\r\n\r\n{\"access\":[\"photos\"],\"active\":true,\"exp\":4600,\"iat\":1000,\"instance_id\":\"c1\",\"iss\":\"https://as.example/gnap\",\"key\":\"c1\"}",
-            "Closed",
-        ),
-        (
-            // Another signature.
-            b"POST /gnap HTTP/1.1\r\nHost: as.example\r\nContent-Type: application/json\r\nContent-Digest: sha-256=:sokhpObDYVkSZEb8/PUgff1BUrQpmCFg5KKz7hUUpIU=:\r\nSignature-Input: sig1=(\"@method\" \"@target-uri\" \"content-digest\");created=1000;keyid=\"c1\";tag=\"gnap\"\r\nSignature: sig1=:IwEDWPz8bA8wzviConJZBqONvOgFj6sUzw3A0p4G7DY=:\r\nContent-Length: 52\r\n\r\n{\"access_token\":{\"access\":[\"photos\"]},\"client\":\"c1\"}",
-            0,
-            b"",
-            b"HTTP/1.1 401 Unauthorized\r\nContent-Type: application/json\r\nCache-Control: no-store\r\nWWW-Authenticate: GNAP\r\nContent-Length: 35\r\n\r\n{\"error\":{\"code\":\"invalid_client\"}}",
-            "Closed",
-        ),
-        (
-            // A last request.
-            b"GET /x HTTP/1.1\r\nConnection: close\r\n\r\nGET /x HTTP/1.1\r\n\r\n",
-            0,
-            b"",
-            b"HTTP/1.1 404 Not Found\r\nCache-Control: no-store\r\nConnection: close\r\nContent-Length: 0\r\n\r\n",
-            "Closed",
-        ),
-    ];
     let mut wrong = Vec::new(alloc);
-    for (place, (front, letters, back, expected, end)) in table.iter().enumerate() {
-        for most in [1usize, 7, 100_000] {
-            let bytes = text(alloc, front, *letters, back)?;
-            let (written, ended) = answered(alloc, bytes, most.max(1), Vec::new(alloc))?;
-            if written.as_slice() != *expected || end_named(&ended) != *end {
-                wrong.push(place)?;
-            }
+    for (place, (requests, replies, end)) in ANSWERS.iter().enumerate() {
+        let bytes = bytes_of(alloc, requests)?;
+        if !is_answered(alloc, &bytes, replies, end)? {
+            wrong.push(place)?;
         }
     }
     Ok(wrong)
 }
 
+// Whether a head of 16,385 bytes is too large.
+fn is_long_head_refused(alloc: Global) -> Result<bool, Mem> {
+    let mut bytes = bytes_of(alloc, &["GET /x HTTP/1.1\nA: "])?;
+    for _ in 0..16_360 {
+        bytes.push(b'x')?;
+    }
+    put_texts(&mut bytes, &["x\n\n"])?;
+    is_answered(alloc, &bytes, &[TOO_LARGE], "Refused")
+}
+
 /// Signed requests, requests that nobody signed, bytes that are no request, and what the server says of itself: what is written, and how the connection
-/// ends, whether the bytes come one by one, seven at once or all at once. The signatures were made by another program.
+/// ends, whether the bytes come one by one, seven at once or all at once.
 #[test]
 fn requests_are_answered(rt: HostRuntime) {
     let wrong = wrong_answers(rt.alloc());
     assert!(rt; wrong.is_ok(), "no memory");
     let wrong = wrong.unwrap_or(Vec::new(rt.alloc()));
     assert!(rt; wrong.is_empty(), "{wrong:?}");
+    assert!(rt; is_long_head_refused(rt.alloc()) == Ok(true), "a long head");
 }
 
-fn conn(alloc: Global, front: &[u8], back: &[u8], bad_write: u64) -> Result<MemConn, Mem>
+fn conn(alloc: Global, requests: &[&str], bad_write: u64) -> Result<MemConn, Mem>
     ensures { IfOk result IsUnusedConn }
 {
-    let bytes = text(alloc, front, 0, back)?;
+    let bytes = bytes_of(alloc, requests)?;
     let bad_writes = Vec::from_slice(alloc, &[bad_write])?;
     MemConn::new(alloc, bytes, 4000, Vec::new(alloc), bad_writes)
 }
@@ -290,8 +342,8 @@ fn gear(alloc: Global) -> Result<MemGear, Mem>
     ensures { IfOk result (λ gear. ⟦<MemGear as Counted>⟧.state gear ≡ new_gear 2) }
 {
     let mut conns = Vec::new(alloc);
-    conns.push(conn(alloc, b"GET /x HTTP/1.1\r\n\r\n", BEGIN, 2)?)?;
-    conns.push(conn(alloc, INTROSPECTION, b"", 0)?)?;
+    conns.push(conn(alloc, &[GET_X, BEGIN], 2)?)?;
+    conns.push(conn(alloc, &[INTROSPECTION], 0)?)?;
     let moments = Vec::from_slice(alloc, &[1000, 1000, 1001])?;
     MemGear::new(conns, moments, Vec::new(alloc), Vec::new(alloc))
 }
@@ -313,9 +365,21 @@ fn served_gears<R: Threads + Wait + Sync>(rt: &R, alloc: Global) -> Result<Vec<M
     Ok(gears)
 }
 
-// What was written to a connection.
-fn written(gears: &[MemGear], place: usize) -> Option<&[u8]> {
-    Some(gears.get(0)?.served().get(place)?.written())
+// Whether these replies were written to the connection of a place.
+fn has_replies(
+    alloc: Global,
+    gears: &[MemGear],
+    place: usize,
+    replies: &[&str],
+) -> Result<bool, Mem> {
+    let Some(gear) = gears.get(0) else {
+        return Ok(false);
+    };
+    let Some(conn) = gear.served().get(place) else {
+        return Ok(false);
+    };
+    let expected = bytes_of(alloc, replies)?;
+    Ok(conn.written() == expected.as_slice())
 }
 
 /// A worker at a core: after a write that failed the replies before it are whole and the entry stands.
@@ -324,6 +388,12 @@ fn an_entry_stands_whose_reply_was_not_written(rt: HostRuntime) {
     let gears = served_gears(&rt, rt.alloc());
     assert!(rt; gears.is_ok(), "no memory");
     let gears = gears.unwrap_or(Vec::new(rt.alloc()));
-    assert_eq!(rt; written(&gears, 0), Some(NOT_FOUND), "the first");
-    assert_eq!(rt; written(&gears, 1), Some(ACTIVE), "the second");
+    assert!(rt;
+        has_replies(rt.alloc(), &gears, 0, &[NOT_FOUND]) == Ok(true),
+        "the first"
+    );
+    assert!(rt;
+        has_replies(rt.alloc(), &gears, 1, &[ACTIVE]) == Ok(true),
+        "the second"
+    );
 }
