@@ -32,6 +32,208 @@ const NO_SERVER: Option<DirectAnswer> = Some(DirectAnswer::Error(ErrorCode::Inva
 
 const OUT_OF_FORM: Option<DirectAnswer> = Some(DirectAnswer::Error(ErrorCode::InvalidRequest));
 
+// A method and a target, and what is said to them where nobody signed.
+const UNSIGNED: [(&str, &str, Option<DirectAnswer>); 15] = [
+    ("GET", "/x", Some(DirectAnswer::NotFound)),
+    ("GET", "/", Some(DirectAnswer::NotFound)),
+    ("GET", "", Some(DirectAnswer::NotFound)),
+    ("POST", "/gnap/", Some(DirectAnswer::NotFound)),
+    ("POST", "/continue", Some(DirectAnswer::NotFound)),
+    (
+        "POST",
+        "https://as.example/gnap",
+        Some(DirectAnswer::NotFound),
+    ),
+    (
+        "GET",
+        "/gnap",
+        Some(DirectAnswer::NotAllowed(Route::Grants)),
+    ),
+    (
+        "post",
+        "/gnap",
+        Some(DirectAnswer::NotAllowed(Route::Grants)),
+    ),
+    (
+        "OPTIONS",
+        "/introspect",
+        Some(DirectAnswer::NotAllowed(Route::Introspection)),
+    ),
+    (
+        "POST",
+        "/.well-known/gnap-as-rs",
+        Some(DirectAnswer::NotAllowed(Route::RsDiscovery)),
+    ),
+    ("OPTIONS", "/gnap", Some(DirectAnswer::Discovery)),
+    ("OPTIONS", "/gnap?a=b", Some(DirectAnswer::Discovery)),
+    (
+        "GET",
+        "/.well-known/gnap-as-rs",
+        Some(DirectAnswer::RsDiscovery),
+    ),
+    ("POST", "/gnap", NOBODY),
+    ("POST", "/introspect", NO_SERVER),
+];
+
+// Messages to `POST` that were signed at 1000: target, key, body, digest, signature; the moment at which they came, and what is said at once. None is a
+// call.
+type Signed = (
+    &'static str,
+    &'static str,
+    &'static str,
+    &'static str,
+    &'static str,
+    u64,
+    Option<DirectAnswer>,
+);
+
+const SIGNED: [Signed; 16] = [
+    (
+        "/gnap",
+        "c1",
+        PHOTOS,
+        PHOTOS_DIGEST,
+        "HwEDWPz8bA8wzviConJZBqONvOgFj6sUzw3A0p4G7DY=",
+        1300,
+        None,
+    ),
+    (
+        "/gnap",
+        "c1",
+        PHOTOS,
+        PHOTOS_DIGEST,
+        "HwEDWPz8bA8wzviConJZBqONvOgFj6sUzw3A0p4G7DY=",
+        1301,
+        NOBODY,
+    ),
+    (
+        "/gnap",
+        "c1",
+        r#"{"access_token":{"access":["photoz"]},"client":"c1"}"#,
+        PHOTOS_DIGEST,
+        "HwEDWPz8bA8wzviConJZBqONvOgFj6sUzw3A0p4G7DY=",
+        1000,
+        NOBODY,
+    ),
+    (
+        "/gnap?x=2",
+        "c1",
+        PHOTOS,
+        PHOTOS_DIGEST,
+        "dYDMpsJ1HX64crajlOsAEfwETZOstuperFBOlNpGeCw=",
+        1000,
+        NOBODY,
+    ),
+    (
+        "/gnap?x=1",
+        "c1",
+        PHOTOS,
+        PHOTOS_DIGEST,
+        "dYDMpsJ1HX64crajlOsAEfwETZOstuperFBOlNpGeCw=",
+        1000,
+        None,
+    ),
+    (
+        "/introspect",
+        "r1",
+        TOKEN,
+        TOKEN_DIGEST,
+        "s1CD6HSh83EUnokEFR6c1/ibJaaF4STjQA46A5cTMu4=",
+        1000,
+        None,
+    ),
+    (
+        "/gnap",
+        "r1",
+        PHOTOS,
+        PHOTOS_DIGEST,
+        "WkKHPGWHtTvoNxwOI0ylG9cF7nmgK78uVXoe9UaI9Ps=",
+        1000,
+        NOBODY,
+    ),
+    (
+        "/gnap",
+        "f1",
+        PHOTOS,
+        PHOTOS_DIGEST,
+        "QCJ+TERbkDecni+UuAwHVN+7xqmOkrXX4fv/3ByBqfQ=",
+        1000,
+        NOBODY,
+    ),
+    (
+        "/introspect",
+        "c1",
+        TOKEN,
+        TOKEN_DIGEST,
+        "Xrt91tDs0MFFAcrVU1CZMjeIc/gnNGxz0qVXw9yA6pE=",
+        1000,
+        NO_SERVER,
+    ),
+    (
+        "/gnap",
+        "c1",
+        "{}",
+        "RBNvo1WzZ4oRRq0W9+hknpT7T8If536DEMBg9hyq/4o=",
+        "w7KIpyHWM8dgNz6y1zfauH1r3D5ci95AQ35QeGon03s=",
+        1000,
+        OUT_OF_FORM,
+    ),
+    (
+        "/gnap",
+        "c1",
+        "[1]",
+        "CAqe1ChVnvYCZotMAPEU8aEcP2sCpDXwvcFUV45NfyI=",
+        "2431Ln900IqIqEg5+4K1ZoSfIEUKZ6Ef7KJ4q2Ul34A=",
+        1000,
+        OUT_OF_FORM,
+    ),
+    (
+        "/gnap",
+        "c1",
+        "",
+        "",
+        "uKTNKrVtuNwQpdrC8Hxf+OulSb/qzkEhgvkRg3ruZKc=",
+        1000,
+        OUT_OF_FORM,
+    ),
+    (
+        "/introspect",
+        "r1",
+        "",
+        "",
+        "a3UNVozG9hIlTRz5fFxCd81PyV11YjWrfxbW/P+e0ew=",
+        1000,
+        OUT_OF_FORM,
+    ),
+    (
+        "/gnap",
+        "c2",
+        FLAGS,
+        FLAGS_DIGEST,
+        "GMOsqI13fs9Tntu94+J62FeGfSdlLKHYuCgcSKw/x3M=",
+        1000,
+        NOBODY,
+    ),
+    (
+        "/gnap",
+        "c1",
+        FLAGS,
+        FLAGS_DIGEST,
+        "4uPjuy4xC2cJ4TGfEf2WzY9MVU8pQWtFzNuby0WFTdA=",
+        1000,
+        Some(DirectAnswer::Error(ErrorCode::InvalidFlag)),
+    ),
+    (
+        "/introspect",
+        "r2",
+        TOKEN,
+        TOKEN_DIGEST,
+        "+FAcP81T2hDvdXZa/55NIqCSAJI87YkIts5k46IzJSo=",
+        1000,
+        NO_SERVER,
+    ),
+];
+
 fn message(
     alloc: Global,
     method: &str,
@@ -89,47 +291,7 @@ fn unsigned_requests_are_answered_by_their_route(rt: HostRuntime) -> Result<(), 
     let Some(edge) = edge(rt.alloc()) else {
         panic!(rt; "no setup");
     };
-    for (method, target, wanted) in [
-        ("GET", "/x", Some(DirectAnswer::NotFound)),
-        ("GET", "/", Some(DirectAnswer::NotFound)),
-        ("GET", "", Some(DirectAnswer::NotFound)),
-        ("POST", "/gnap/", Some(DirectAnswer::NotFound)),
-        ("POST", "/continue", Some(DirectAnswer::NotFound)),
-        (
-            "POST",
-            "https://as.example/gnap",
-            Some(DirectAnswer::NotFound),
-        ),
-        (
-            "GET",
-            "/gnap",
-            Some(DirectAnswer::NotAllowed(Route::Grants)),
-        ),
-        (
-            "post",
-            "/gnap",
-            Some(DirectAnswer::NotAllowed(Route::Grants)),
-        ),
-        (
-            "OPTIONS",
-            "/introspect",
-            Some(DirectAnswer::NotAllowed(Route::Introspection)),
-        ),
-        (
-            "POST",
-            "/.well-known/gnap-as-rs",
-            Some(DirectAnswer::NotAllowed(Route::RsDiscovery)),
-        ),
-        ("OPTIONS", "/gnap", Some(DirectAnswer::Discovery)),
-        ("OPTIONS", "/gnap?a=b", Some(DirectAnswer::Discovery)),
-        (
-            "GET",
-            "/.well-known/gnap-as-rs",
-            Some(DirectAnswer::RsDiscovery),
-        ),
-        ("POST", "/gnap", NOBODY),
-        ("POST", "/introspect", NO_SERVER),
-    ] {
+    for (method, target, wanted) in UNSIGNED {
         let fields = Fields::new(rt.alloc());
         let message = message(rt.alloc(), method, target, fields, PHOTOS)?;
         let step = desk_call(rt.alloc(), &message, &edge, 1000)?;
@@ -138,161 +300,27 @@ fn unsigned_requests_are_answered_by_their_route(rt: HostRuntime) -> Result<(), 
     Ok(())
 }
 
+// What is said at once to the message.
+fn said(alloc: Global, edge: &Edge, sent: &Signed) -> Result<Option<DirectAnswer>, Fail> {
+    let (target, key, body, digest, signature, moment, _) = *sent;
+    let fields = signed(alloc, key, digest, signature)?;
+    let message = message(alloc, "POST", target, fields, body)?;
+    let step = desk_call(alloc, &message, edge, moment)?;
+    Ok(direct(&step))
+}
+
 #[test]
 fn signed_requests_are_calls(rt: HostRuntime) -> Result<(), Fail> {
     let Some(edge) = edge(rt.alloc()) else {
         panic!(rt; "no setup");
     };
-    for (target, key, body, digest, signature, moment, wanted) in [
-        (
-            "/gnap",
-            "c1",
-            PHOTOS,
-            PHOTOS_DIGEST,
-            "HwEDWPz8bA8wzviConJZBqONvOgFj6sUzw3A0p4G7DY=",
-            1300,
-            None,
-        ),
-        (
-            "/gnap",
-            "c1",
-            PHOTOS,
-            PHOTOS_DIGEST,
-            "HwEDWPz8bA8wzviConJZBqONvOgFj6sUzw3A0p4G7DY=",
-            1301,
-            NOBODY,
-        ),
-        (
-            "/gnap",
-            "c1",
-            r#"{"access_token":{"access":["photoz"]},"client":"c1"}"#,
-            PHOTOS_DIGEST,
-            "HwEDWPz8bA8wzviConJZBqONvOgFj6sUzw3A0p4G7DY=",
-            1000,
-            NOBODY,
-        ),
-        (
-            "/gnap?x=2",
-            "c1",
-            PHOTOS,
-            PHOTOS_DIGEST,
-            "dYDMpsJ1HX64crajlOsAEfwETZOstuperFBOlNpGeCw=",
-            1000,
-            NOBODY,
-        ),
-        (
-            "/gnap?x=1",
-            "c1",
-            PHOTOS,
-            PHOTOS_DIGEST,
-            "dYDMpsJ1HX64crajlOsAEfwETZOstuperFBOlNpGeCw=",
-            1000,
-            None,
-        ),
-        (
-            "/introspect",
-            "r1",
-            TOKEN,
-            TOKEN_DIGEST,
-            "s1CD6HSh83EUnokEFR6c1/ibJaaF4STjQA46A5cTMu4=",
-            1000,
-            None,
-        ),
-        (
-            "/gnap",
-            "r1",
-            PHOTOS,
-            PHOTOS_DIGEST,
-            "WkKHPGWHtTvoNxwOI0ylG9cF7nmgK78uVXoe9UaI9Ps=",
-            1000,
-            NOBODY,
-        ),
-        (
-            "/gnap",
-            "f1",
-            PHOTOS,
-            PHOTOS_DIGEST,
-            "QCJ+TERbkDecni+UuAwHVN+7xqmOkrXX4fv/3ByBqfQ=",
-            1000,
-            NOBODY,
-        ),
-        (
-            "/introspect",
-            "c1",
-            TOKEN,
-            TOKEN_DIGEST,
-            "Xrt91tDs0MFFAcrVU1CZMjeIc/gnNGxz0qVXw9yA6pE=",
-            1000,
-            NO_SERVER,
-        ),
-        (
-            "/gnap",
-            "c1",
-            "{}",
-            "RBNvo1WzZ4oRRq0W9+hknpT7T8If536DEMBg9hyq/4o=",
-            "w7KIpyHWM8dgNz6y1zfauH1r3D5ci95AQ35QeGon03s=",
-            1000,
-            OUT_OF_FORM,
-        ),
-        (
-            "/gnap",
-            "c1",
-            "[1]",
-            "CAqe1ChVnvYCZotMAPEU8aEcP2sCpDXwvcFUV45NfyI=",
-            "2431Ln900IqIqEg5+4K1ZoSfIEUKZ6Ef7KJ4q2Ul34A=",
-            1000,
-            OUT_OF_FORM,
-        ),
-        (
-            "/gnap",
-            "c1",
-            "",
-            "",
-            "uKTNKrVtuNwQpdrC8Hxf+OulSb/qzkEhgvkRg3ruZKc=",
-            1000,
-            OUT_OF_FORM,
-        ),
-        (
-            "/introspect",
-            "r1",
-            "",
-            "",
-            "a3UNVozG9hIlTRz5fFxCd81PyV11YjWrfxbW/P+e0ew=",
-            1000,
-            OUT_OF_FORM,
-        ),
-        (
-            "/gnap",
-            "c2",
-            FLAGS,
-            FLAGS_DIGEST,
-            "GMOsqI13fs9Tntu94+J62FeGfSdlLKHYuCgcSKw/x3M=",
-            1000,
-            NOBODY,
-        ),
-        (
-            "/gnap",
-            "c1",
-            FLAGS,
-            FLAGS_DIGEST,
-            "4uPjuy4xC2cJ4TGfEf2WzY9MVU8pQWtFzNuby0WFTdA=",
-            1000,
-            Some(DirectAnswer::Error(ErrorCode::InvalidFlag)),
-        ),
-        (
-            "/introspect",
-            "r2",
-            TOKEN,
-            TOKEN_DIGEST,
-            "+FAcP81T2hDvdXZa/55NIqCSAJI87YkIts5k46IzJSo=",
-            1000,
-            NO_SERVER,
-        ),
-    ] {
-        let fields = signed(rt.alloc(), key, digest, signature)?;
-        let message = message(rt.alloc(), "POST", target, fields, body)?;
-        let step = desk_call(rt.alloc(), &message, &edge, moment)?;
-        assert_eq!(rt; direct(&step), wanted, "{target} {key} {body} at {moment}");
+    for sent in &SIGNED {
+        let (target, key, body, _, _, moment, wanted) = *sent;
+        assert_eq!(rt;
+            said(rt.alloc(), &edge, sent)?,
+            wanted,
+            "{target} {key} {body} at {moment}"
+        );
     }
     Ok(())
 }
