@@ -1,0 +1,4 @@
+pub mod DirectReplies
+pub mod EdgeFace
+pub mod EdgeWire
+pub mod EdgeSessions
