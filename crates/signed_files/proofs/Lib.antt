@@ -1,0 +1,3 @@
+pub mod SetupIds
+pub mod ReadMessages
+pub mod Answers

@@ -1,0 +1,3 @@
+pub mod MessageFiles
+pub mod SignedText
+pub mod Verdicts

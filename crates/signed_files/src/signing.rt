@@ -1,0 +1,75 @@
+//! Signing the message of a file.
+ghost use Rattle.std.specs.Prelude.{◌≡◌, ◌≢◌, Err, ◌<◌, ◌^◌, [], ◌++◌, IsOk};
+ghost use Rattle.gnap_io.specs.Outside.{IsAtEnd, IsRest, Leaves};
+ghost use Rattle.gnap_objects.specs.Setups.{IsSetup};
+ghost use Rattle.signed_files.specs.MessageFiles.{Gives, CountsReadFault};
+ghost use Rattle.signed_files.specs.SignedText.{SignsMessage, SignsFile};
+
+use crate::fault::FileFault;
+use crate::message_file::read_message;
+use crate::message_text::message_text;
+use gnap_io::bytes::Bytes;
+use gnap_io::device::Source;
+use gnap_io::message::Message;
+use gnap_model::objects::Setup;
+use message_signature::{SignFault, sign};
+use std::alloc::Global;
+
+/// The tag of GNAP's signatures (RFC 9635, section 7.3.1).
+pub(crate) const GNAP_TAG: &[u8] = b"gnap";
+
+fn sign_message(
+    alloc: Global,
+    setup: &Setup,
+    id: &Bytes,
+    created: u64,
+    mut message: Message,
+) -> Result<Bytes, FileFault>
+    requires setup { IsSetup setup.now }
+    requires created { created < 10 ^ 15 }
+    ensures answer { Gives (SignsMessage setup.now id.now created message) result }
+    ensures unread { result ≢ Err FileFault.ReadFault }
+{
+    let Some(key) = setup.key(id.as_slice()) else {
+        return Err(FileFault::Refused(b"UnknownKey"));
+    };
+    let tag = Bytes::from_slice(alloc, GNAP_TAG)?;
+    match sign(
+        alloc,
+        &mut message,
+        &setup.base,
+        id,
+        &key.secret,
+        created,
+        &tag,
+    ) {
+        Ok(()) => Ok(message_text(alloc, &message)?),
+        Err(SignFault::HasSignature) => Err(FileFault::Refused(b"HasSignature")),
+        Err(SignFault::OutOfMemory) => Err(FileFault::OutOfMemory),
+    }
+}
+
+/// The bytes of the message that the file is, with the signature that the key of this id makes for it (RFC 9421; it covers what RFC 9635, section
+/// 7.3.1, asks for): the request line with `HTTP/1.1`, the fields in their order with their names in lower case, and the body.
+///
+/// Nothing of the file was read yet. `created` is in seconds since 1970. The name of the fault is that of the `EdgeFault` where the file is no whole
+/// message, `Truncated` where it is empty and `BadHead` where bytes follow the message; then `UnknownKey` where the setup has no key of this id;
+/// then `HasSignature`.
+pub fn sign_file<S: Source>(
+    alloc: Global,
+    setup: &Setup,
+    id: &Bytes,
+    created: u64,
+    source: &mut S,
+) -> Result<Bytes, FileFault>
+    requires setup { IsSetup setup.now }
+    requires created { created < 10 ^ 15 }
+    requires fresh { (S.told source.old).taken ≡ [] }
+    ensures answer { (rest : _) → IsRest (S.told source.new) rest → Gives (SignsFile setup.now id.now created ((S.told source.new).taken ++ rest)) result }
+    ensures leaves { Leaves (S.told source.new).taken (S.told source.old).left (S.told source.new).left }
+    ensures end { IsOk result → IsAtEnd (S.told source.new) }
+    ensures counts { CountsReadFault result (S.faults source.old) (S.faults source.new) }
+{
+    let message = read_message(alloc, source)?;
+    sign_message(alloc, setup, id, created, message)
+}
