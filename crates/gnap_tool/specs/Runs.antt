@@ -1,12 +1,15 @@
 -- How a run of a command ends, and what it did.
-use Rattle.std.specs.Prelude.{◌≡◌, ◌≢◌, ◌<◌, ◌≤◌, ◌^◌, ◌⊎◌, ℕ, List, [], ◌∷◌, ◌++◌, Any, All, length, drop, slice_get, Option, Some, None, IsSome, Result, Err}
+use Rattle.std.specs.Prelude.{◌≡◌, ◌≢◌, ◌<◌, ◌≤◌, ◌^◌, ◌⊎◌, ℕ, List, [], ◌∷◌, ◌++◌, Any, All, length, drop, slice_get, Option, Some, None, IsSome, Result, Ok, Err}
 use Rattle.std.specs.Io.BufRead.{strip_last}
 use Rattle.gnap_io.specs.Outside.{Told, Served, Leaves, IsAtEnd, IsRest, Rose}
 use Rattle.gnap_io.specs.declared.world.Opening.{Opening}
 use Rattle.gnap_io.specs.Worlds.{WorldState}
+use Rattle.gnap_io.specs.declared.world.WorldFault.{WorldFault}
+use Rattle.gnap_io.specs.declared.world.WorldFault.TheVariants as faults
+use Rattle.as_service.specs.Services.{IsService}
 use Rattle.gnap_io.specs.Openings.{Gives, GivesBack, gears_in, new_files}
 use Rattle.gnap_tool.specs.declared.command.Command.{Command}
-use Rattle.gnap_tool.specs.declared.command.Command.TheVariants.{Replay, Field, Sign, Verify}
+use Rattle.gnap_tool.specs.declared.command.Command.TheVariants.{Replay, Field, Sign, Verify, As}
 use Rattle.gnap_tool.specs.declared.purpose.Purpose.{Purpose}
 use Rattle.gnap_tool.specs.declared.purpose.Purpose.TheVariants as purposes
 use Rattle.gnap_tool.specs.declared.ended.Ended.{Ended}
@@ -83,6 +86,19 @@ BySetup text before after out out_now ended Then =
     × ((rest : List ℕ) → IsRest config.told rest
     → Follows (setup_in (config.told.taken ++ rest)) config.told.taken between after out out_now ended (Then between)))
 
+-- ---- a server at an address
+
+-- how a command ends by what serving at an address answered
+abbrev pub ended_service : Result (Unit {0}) WorldFault → Ended
+ended_service (Ok done) = Done
+ended_service (Err faults.Failed) = Failed
+ended_service (Err faults.OutOfMemory) = Memory
+
+-- A setup was to be served at an address. Nothing was opened, for a fault or for want of memory; or it was served, and so the command ended.
+abbrev pub Serves : Setup → List ℕ → ℕ → ℕ → WorldState → WorldState → Ended → Type 0
+Serves setup listen workers quota before after ended = ((after ≡ before) × ((ended ≡ Failed) ⊎ (ended ≡ Memory)))
+    ⊎ ((answer : Result (Unit {0}) WorldFault) × (ended ≡ ended_service answer) × IsService setup listen workers quota before after answer)
+
 -- What a command carries out.
 abbrev pub CarriesOut : Command → (List ℕ → Option (List ℕ)) → WorldState → WorldState → Told → Told → Ended → Type 0
 CarriesOut (Replay file) text before after out out_now ended =
@@ -95,6 +111,9 @@ CarriesOut (Sign config key created file) text before after out out_now ended =
 CarriesOut (Verify config now file) text before after out out_now ended =
     BySetup (text config) before after out out_now ended (λ between setup.
     Over (text file) between after (Unopened out out_now ended) (λ taken rest. PrintsFor (VerifiesFile setup now (taken ++ rest)) out out_now ended))
+CarriesOut (As config listen workers quota) text before after out out_now ended =
+    BySetup (text config) before after out out_now ended (λ between setup.
+    (out_now ≡ out) × Serves setup listen workers quota between after ended)
 
 -- the same, of the status that says how it ended
 pub record Carries (command : Command) (text : List ℕ → Option (List ℕ)) (before after : WorldState) (out out_now : Told) (status : ℕ) : Type 0 where

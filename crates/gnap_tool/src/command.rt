@@ -1,7 +1,7 @@
 //! The commands, and which of them words are.
 ghost use Rattle.std.specs.Prelude.{◌≡◌, ◌≤◌, IfOk, IfSome, map, string_bytes};
 ghost use Rattle.gnap_io.specs.Gears.{last_moment};
-ghost use Rattle.gnap_tool.specs.Commands.{IsReadAs, HasMoments, is_argument, kind_of, moment_of, replay_of, field_of, sign_of, verify_of, command_of};
+ghost use Rattle.gnap_tool.specs.Commands.{IsReadAs, IsWithinRanges, is_argument, kind_of, moment_of, replay_of, field_of, sign_of, verify_of, as_of, command_of};
 
 use crate::fields::Kind;
 use crate::numbers::number_within;
@@ -20,6 +20,8 @@ pub enum Command {
     Sign(Bytes, Bytes, u64, Bytes),
     /// `verify CONFIG NOW FILE`: the key of the setup is printed that signed the message of the file.
     Verify(Bytes, u64, Bytes),
+    /// `as CONFIG LISTEN WORKERS QUOTA`: the authorization server of a setup is served at an address, by so many workers, each for so many connections.
+    As(Bytes, Bytes, usize, u32),
 }
 
 /// The last second of the year 9999, in seconds since 1970.
@@ -60,7 +62,7 @@ fn owned(alloc: Global, word: &str) -> Result<Bytes, Mem>
 
 fn replay_of(alloc: Global, arguments: &[String]) -> Result<Option<Command>, Mem>
     ensures read { IsReadAs result (replay_of (map string_bytes arguments.now)) }
-    ensures moments { IfOk result (λ command. IfSome command HasMoments) }
+    ensures ranges { IfOk result (λ command. IfSome command IsWithinRanges) }
 {
     match arguments {
         [file] if is_argument(file.as_str()) => {
@@ -72,7 +74,7 @@ fn replay_of(alloc: Global, arguments: &[String]) -> Result<Option<Command>, Mem
 
 fn field_of(alloc: Global, arguments: &[String]) -> Result<Option<Command>, Mem>
     ensures read { IsReadAs result (field_of (map string_bytes arguments.now)) }
-    ensures moments { IfOk result (λ command. IfSome command HasMoments) }
+    ensures ranges { IfOk result (λ command. IfSome command IsWithinRanges) }
 {
     match arguments {
         [kind, file] if is_argument(file.as_str()) => match kind_of(kind.as_str()) {
@@ -85,7 +87,7 @@ fn field_of(alloc: Global, arguments: &[String]) -> Result<Option<Command>, Mem>
 
 fn sign_of(alloc: Global, arguments: &[String]) -> Result<Option<Command>, Mem>
     ensures read { IsReadAs result (sign_of (map string_bytes arguments.now)) }
-    ensures moments { IfOk result (λ command. IfSome command HasMoments) }
+    ensures ranges { IfOk result (λ command. IfSome command IsWithinRanges) }
 {
     match arguments {
         [config, key, created, file]
@@ -106,7 +108,7 @@ fn sign_of(alloc: Global, arguments: &[String]) -> Result<Option<Command>, Mem>
 
 fn verify_of(alloc: Global, arguments: &[String]) -> Result<Option<Command>, Mem>
     ensures read { IsReadAs result (verify_of (map string_bytes arguments.now)) }
-    ensures moments { IfOk result (λ command. IfSome command HasMoments) }
+    ensures ranges { IfOk result (λ command. IfSome command IsWithinRanges) }
 {
     match arguments {
         [config, now, file] if is_argument(config.as_str()) && is_argument(file.as_str()) => {
@@ -123,10 +125,32 @@ fn verify_of(alloc: Global, arguments: &[String]) -> Result<Option<Command>, Mem
     }
 }
 
+// At most 64 workers, and at most 1,000,000 connections for each.
+fn as_of(alloc: Global, arguments: &[String]) -> Result<Option<Command>, Mem>
+    ensures read { IsReadAs result (as_of (map string_bytes arguments.now)) }
+    ensures ranges { IfOk result (λ command. IfSome command IsWithinRanges) }
+{
+    let [config, listen, workers, quota] = arguments else {
+        return Ok(None);
+    };
+    if !is_argument(config.as_str()) || !is_argument(listen.as_str()) {
+        return Ok(None);
+    }
+    let Some(workers) = number_within(workers.as_str(), 1, 64) else {
+        return Ok(None);
+    };
+    let Some(quota) = number_within(quota.as_str(), 0, 1_000_000) else {
+        return Ok(None);
+    };
+    let config = owned(alloc, config.as_str())?;
+    let listen = owned(alloc, listen.as_str())?;
+    Ok(Some(Command::As(config, listen, workers as usize, quota as u32)))
+}
+
 /// The command that the words are, where they are one.
 pub fn command_of(alloc: Global, words: &[String]) -> Result<Option<Command>, Mem>
     ensures read { IsReadAs result (command_of (map string_bytes words.now)) }
-    ensures moments { IfOk result (λ command. IfSome command HasMoments) }
+    ensures ranges { IfOk result (λ command. IfSome command IsWithinRanges) }
 {
     let Some((name, arguments)) = words.split_first() else {
         return Ok(None);
@@ -136,6 +160,7 @@ pub fn command_of(alloc: Global, words: &[String]) -> Result<Option<Command>, Me
         "field" => field_of(alloc, arguments),
         "sign" => sign_of(alloc, arguments),
         "verify" => verify_of(alloc, arguments),
+        "as" => as_of(alloc, arguments),
         _ => Ok(None),
     }
 }

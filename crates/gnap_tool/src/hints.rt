@@ -48,7 +48,9 @@ fn tell_setup<E: Sink>(err: &mut E, command: &Command, why: &WrongSetup) {
                 b" is no setup: ",
             ],
         ),
-        Command::Sign(config, _, _, _) | Command::Verify(config, _, _) => {
+        Command::Sign(config, _, _, _)
+        | Command::Verify(config, _, _)
+        | Command::As(config, _, _, _) => {
             tell(err, &[b"gnap: ", config.as_slice(), b" is no setup: "])
         }
     }
@@ -76,6 +78,9 @@ fn tell_files<E: Sink>(err: &mut E, command: &Command) {
         Command::Sign(config, _, _, file) | Command::Verify(config, _, file) => {
             tell(err, &[config.as_slice(), b" or ", file.as_slice()])
         }
+        Command::As(config, listen, _, _) => {
+            tell(err, &[config.as_slice(), b" or ", listen.as_slice()])
+        }
     }
 }
 
@@ -95,6 +100,8 @@ fn tell_refusal<E: Sink>(err: &mut E, command: &Command) {
                 b" is refused for what was printed\n",
             ],
         ),
+        // Nothing that it reads is refused.
+        Command::As(_, _, _, _) => {}
     }
 }
 

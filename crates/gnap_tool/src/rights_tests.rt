@@ -5,17 +5,25 @@ use gnap_io::bytes::Bytes;
 use gnap_io::memory::Mem;
 use std::alloc::Global;
 use std::rt::HostRuntime;
+use std::sync::Wait;
+use std::thread::Threads;
 
 // The client has two rights to things of type t, which differ in actions and locations, and the resource server serves that type.
 const SETUP_OF_OBJECTS: &str =
     r#"{"base":"https://as.example","front":"https://front.example","keys":[{"ask":[],"auto":[{"type":"t","actions":["read","write"],"locations":["a"]},{"type":"t","actions":["read"],"locations":["b"]}],"id":"c1","role":"client","secret":"c2VjcmV0LWtleS1vZi1jMQ=="},{"id":"r1","role":"server","secret":"c2VjcmV0LWtleS1vZi1yMQ==","serves":["t"]}]}"#;
 
 // The lines after a setup are answered so.
-fn answered(alloc: Global, setup: &str, lines: &str, printed: &str) -> Result<bool, Mem> {
+fn answered<R: Threads + Wait + Sync>(
+    rt: &R,
+    alloc: Global,
+    setup: &str,
+    lines: &str,
+    printed: &str,
+) -> Result<bool, Mem> {
     let mut text = Bytes::from_slice(alloc, setup.as_bytes())?;
     text.push(b'\n')?;
     text.extend(lines.as_bytes())?;
-    Ok(replayed(alloc, text, &[], &[], printed)? == Some(0))
+    Ok(replayed(rt, alloc, text, &[], &[], printed)? == Some(0))
 }
 
 // What is wanted is covered by the union of the client's rights, by none of them, or not at all, since an absent dimension is no wildcard. A token
@@ -43,7 +51,7 @@ fn rights_are_covered_together(rt: HostRuntime) {
         ),
     ];
     for (lines, printed) in cases {
-        assert!(rt; answered(rt.alloc(), SETUP_OF_OBJECTS, lines, printed) == Ok(true));
+        assert!(rt; answered(&rt, rt.alloc(), SETUP_OF_OBJECTS, lines, printed) == Ok(true));
     }
 }
 
@@ -69,7 +77,7 @@ fn labels_are_distinct_and_flags_known_or_not(rt: HostRuntime) {
         ),
     ];
     for (lines, printed) in cases {
-        assert!(rt; answered(rt.alloc(), SETUP, lines, printed) == Ok(true));
+        assert!(rt; answered(&rt, rt.alloc(), SETUP, lines, printed) == Ok(true));
     }
 }
 
@@ -91,5 +99,5 @@ fn two_tokens_are_granted_and_one_is_a_bearer_token(rt: HostRuntime) {
 200 {"active":false}
 200 {"access":["photos"],"active":true,"exp":4600,"iat":1000,"instance_id":"c1","iss":"https://as.example/gnap","key":"c1"}
 "#;
-    assert!(rt; answered(rt.alloc(), SETUP, lines, printed) == Ok(true));
+    assert!(rt; answered(&rt, rt.alloc(), SETUP, lines, printed) == Ok(true));
 }

@@ -7,6 +7,8 @@ use gnap_io::memory_devices::{MemSink, MemSource};
 use gnap_io::memory_world::MemWorld;
 use std::alloc::Global;
 use std::rt::HostRuntime;
+use std::sync::Wait;
+use std::thread::Threads;
 
 pub const SETUP: &str =
     r#"{"base":"https://as.example","front":"https://front.example","keys":[{"ask":["mail"],"auto":["photos"],"id":"c1","role":"client","secret":"c2VjcmV0LWtleS1vZi1jMQ=="},{"ask":[],"auto":["photos"],"id":"c2","role":"client","secret":"c2VjcmV0LWtleS1vZi1jMg=="},{"id":"r1","role":"server","secret":"c2VjcmV0LWtleS1vZi1yMQ==","serves":["photos","mail"]}]}"#;
@@ -51,7 +53,8 @@ fn words(alloc: Global, parts: &[&str]) -> Result<Vec<String>, Mem> {
 }
 
 // The status of a command over the text, where this is printed.
-fn ran(
+fn ran<R: Threads + Wait + Sync>(
+    rt: &R,
     alloc: Global,
     parts: &[&str],
     text: Bytes,
@@ -63,7 +66,7 @@ fn ran(
     let words = words(alloc, parts)?;
     let mut out = MemSink::new(alloc, 32_768, Vec::from_slice(alloc, bad_writes)?)?;
     let mut err = MemSink::new(alloc, 1_024, Vec::new(alloc))?;
-    let status = run(alloc, words.as_slice(), &mut world, &mut out, &mut err);
+    let status = run(rt, alloc, words.as_slice(), &mut world, &mut out, &mut err);
     Ok(if out.written() == printed {
         Some(status)
     } else {
@@ -71,7 +74,8 @@ fn ran(
     })
 }
 
-pub fn replayed(
+pub fn replayed<R: Threads + Wait + Sync>(
+    rt: &R,
     alloc: Global,
     text: Bytes,
     bad_reads: &[u64],
@@ -79,6 +83,7 @@ pub fn replayed(
     printed: &str,
 ) -> Result<Option<u8>, Mem> {
     ran(
+        rt,
         alloc,
         &["replay", "f"],
         text,
@@ -89,11 +94,16 @@ pub fn replayed(
 }
 
 // The lines after the setup are answered so.
-fn answers(alloc: Global, lines: &[u8], printed: &str) -> Result<bool, Mem> {
+fn answers<R: Threads + Wait + Sync>(
+    rt: &R,
+    alloc: Global,
+    lines: &[u8],
+    printed: &str,
+) -> Result<bool, Mem> {
     let mut text = Bytes::from_slice(alloc, SETUP.as_bytes())?;
     text.push(b'\n')?;
     text.extend(lines)?;
-    Ok(replayed(alloc, text, &[], &[], printed)? == Some(0))
+    Ok(replayed(rt, alloc, text, &[], &[], printed)? == Some(0))
 }
 
 #[test]
@@ -153,7 +163,7 @@ fn lines_are_refused_in_order(rt: HostRuntime) {
         ),
     ];
     for (line, printed) in cases {
-        assert!(rt; answers(rt.alloc(), line.as_bytes(), printed) == Ok(true));
+        assert!(rt; answers(&rt, rt.alloc(), line.as_bytes(), printed) == Ok(true));
     }
 }
 
@@ -172,38 +182,43 @@ fn numbers_of_a_body_are_whole(rt: HostRuntime) {
         ("1.5,\"more\":2", DENIED),
     ];
     for (number, printed) in cases {
-        assert!(rt; with_member(rt.alloc(), number, printed) == Ok(true));
+        assert!(rt; with_member(&rt, rt.alloc(), number, printed) == Ok(true));
     }
 }
 
-fn with_member(alloc: Global, member: &str, printed: &str) -> Result<bool, Mem> {
+fn with_member<R: Threads + Wait + Sync>(
+    rt: &R,
+    alloc: Global,
+    member: &str,
+    printed: &str,
+) -> Result<bool, Mem> {
     let mut line = String::from_str(
         alloc,
         r#"{"at":1,"call":"begin","key":"c1","body":{"client":"c1","access_token":{"access":["secrets"]},"more":"#,
     )?;
     line.push_str(member)?;
     line.push_str("}}")?;
-    answers(alloc, line.as_bytes(), printed)
+    answers(rt, alloc, line.as_bytes(), printed)
 }
 
 #[test]
 fn numbers_of_named_members_are_whole(rt: HostRuntime) {
     let alloc = rt.alloc();
     for number in ["1.5", "-0", "1e3", "18446744073709551616", "7"] {
-        assert!(rt; with_client(alloc, number) == Ok(true));
+        assert!(rt; with_client(&rt, alloc, number) == Ok(true));
     }
-    assert!(rt; with_client(alloc, "\"c1\"") == Ok(false));
+    assert!(rt; with_client(&rt, alloc, "\"c1\"") == Ok(false));
 }
 
 // The request is refused for the client that it names.
-fn with_client(alloc: Global, client: &str) -> Result<bool, Mem> {
+fn with_client<R: Threads + Wait + Sync>(rt: &R, alloc: Global, client: &str) -> Result<bool, Mem> {
     let mut line = String::from_str(
         alloc,
         r#"{"at":1,"call":"begin","key":"c1","body":{"access_token":{"access":["secrets"]},"client":"#,
     )?;
     line.push_str(client)?;
     line.push_str("}}")?;
-    answers(alloc, line.as_bytes(), NOT_A_REQUEST)
+    answers(rt, alloc, line.as_bytes(), NOT_A_REQUEST)
 }
 
 // So many arrays, one in another.
@@ -218,15 +233,20 @@ fn nested(alloc: Global, levels: usize) -> Result<String, Mem> {
     Ok(text)
 }
 
-fn with_levels(alloc: Global, levels: usize, printed: &str) -> Result<bool, Mem> {
-    with_member(alloc, nested(alloc, levels)?.as_str(), printed)
+fn with_levels<R: Threads + Wait + Sync>(
+    rt: &R,
+    alloc: Global,
+    levels: usize,
+    printed: &str,
+) -> Result<bool, Mem> {
+    with_member(rt, alloc, nested(alloc, levels)?.as_str(), printed)
 }
 
 // The arrays stand in the body's object, and that in the line's.
 #[test]
 fn lines_have_127_levels(rt: HostRuntime) {
-    assert!(rt; with_levels(rt.alloc(), 125, DENIED) == Ok(true));
-    assert!(rt; with_levels(rt.alloc(), 126, NOT_A_REQUEST) == Ok(true));
+    assert!(rt; with_levels(&rt, rt.alloc(), 125, DENIED) == Ok(true));
+    assert!(rt; with_levels(&rt, rt.alloc(), 126, NOT_A_REQUEST) == Ok(true));
 }
 
 #[test]
@@ -234,23 +254,28 @@ fn lines_are_in_utf8(rt: HostRuntime) {
     let alloc = rt.alloc();
     let text = b"{\"at\":1,\"call\":\"dance\",\"key\":\"\xc3\xa9\"}";
     let cut = b"{\"at\":1,\"call\":\"dance\",\"key\":\"\xc3\"}";
-    assert!(rt; answers(alloc, text, NOT_BUILT) == Ok(true));
-    assert!(rt; answers(alloc, cut, NOT_A_REQUEST) == Ok(true));
+    assert!(rt; answers(&rt, alloc, text, NOT_BUILT) == Ok(true));
+    assert!(rt; answers(&rt, alloc, cut, NOT_A_REQUEST) == Ok(true));
 }
 
 // A call that isn't built, in a line of so many bytes.
-fn of_length(alloc: Global, length: usize, printed: &str) -> Result<bool, Mem> {
+fn of_length<R: Threads + Wait + Sync>(
+    rt: &R,
+    alloc: Global,
+    length: usize,
+    printed: &str,
+) -> Result<bool, Mem> {
     let mut line = Bytes::from_slice(alloc, b"{\"at\":1,\"call\":\"dance\",\"key\":\"\"}")?;
     for _ in line.len()..length {
         line.push(b' ')?;
     }
-    answers(alloc, line.as_slice(), printed)
+    answers(rt, alloc, line.as_slice(), printed)
 }
 
 #[test]
 fn lines_have_131072_bytes(rt: HostRuntime) {
-    assert!(rt; of_length(rt.alloc(), 131_072, NOT_BUILT) == Ok(true));
-    assert!(rt; of_length(rt.alloc(), 131_073, TOO_LONG) == Ok(true));
+    assert!(rt; of_length(&rt, rt.alloc(), 131_072, NOT_BUILT) == Ok(true));
+    assert!(rt; of_length(&rt, rt.alloc(), 131_073, TOO_LONG) == Ok(true));
 }
 
 // A token lasts 3,600 seconds, and time doesn't go back.
@@ -263,11 +288,16 @@ fn tokens_end(rt: HostRuntime) {
 200 {"active":false}
 200 {"active":false}
 "#;
-    assert!(rt; asked_at(alloc, &["4599", "4600", "4599"], printed) == Ok(true));
+    assert!(rt; asked_at(&rt, alloc, &["4599", "4600", "4599"], printed) == Ok(true));
 }
 
 // A token is asked about at these moments.
-fn asked_at(alloc: Global, moments: &[&str], printed: &str) -> Result<bool, Mem> {
+fn asked_at<R: Threads + Wait + Sync>(
+    rt: &R,
+    alloc: Global,
+    moments: &[&str],
+    printed: &str,
+) -> Result<bool, Mem> {
     let mut lines = String::from_str(alloc, BEGIN)?;
     for moment in moments {
         lines.push_str("\n{\"at\":")?;
@@ -276,7 +306,7 @@ fn asked_at(alloc: Global, moments: &[&str], printed: &str) -> Result<bool, Mem>
             r#","body":{"access_token":"AAAAAAAAAAEAAAAAAAAAAAAAAAAAAAAA","resource_server":"r1"},"call":"introspect","key":"r1"}"#,
         )?;
     }
-    answers(alloc, lines.as_bytes(), printed)
+    answers(rt, alloc, lines.as_bytes(), printed)
 }
 
 #[test]
@@ -286,27 +316,33 @@ fn values_show_the_words_of_their_line(rt: HostRuntime) {
     let printed =
         r#"200 {"access_token":{"access":["photos"],"expires_in":3600,"manage":{"access_token":{"value":"AAAAAAAAAAIAAAAAAAAAAAAAAAAAAAAA"},"uri":"https://as.example/token"},"value":"AAAAAAAAAAH_____________________"},"continue":{"access_token":{"value":"AAAAAAAAAAMAAAAAAAAAAAAAAAAAAAAA"},"uri":"https://as.example/continue","wait":5}}
 "#;
-    assert!(rt; answers(rt.alloc(), line, printed) == Ok(true));
+    assert!(rt; answers(&rt, rt.alloc(), line, printed) == Ok(true));
 }
 
 // So many spaces after a text, and a status.
-fn padded(alloc: Global, text: &str, spaces: usize, printed: &str) -> Result<Option<u8>, Mem> {
+fn padded<R: Threads + Wait + Sync>(
+    rt: &R,
+    alloc: Global,
+    text: &str,
+    spaces: usize,
+    printed: &str,
+) -> Result<Option<u8>, Mem> {
     let mut bytes = Bytes::from_slice(alloc, text.as_bytes())?;
     for _ in 0..spaces {
         bytes.push(b' ')?;
     }
-    replayed(alloc, bytes, &[], &[], printed)
+    replayed(rt, alloc, bytes, &[], &[], printed)
 }
 
 #[test]
 fn setups_have_a_limit(rt: HostRuntime) {
     let alloc = rt.alloc();
     let setup = SETUP.len();
-    assert!(rt; padded(alloc, SETUP, 1_048_576 - setup, "") == Ok(Some(0)));
-    assert!(rt; padded(alloc, SETUP, 1_048_577 - setup, "") == Ok(Some(3)));
-    assert!(rt; padded(alloc, SETUP, 0, "") == Ok(Some(0)));
-    assert!(rt; padded(alloc, "{}", 0, "") == Ok(Some(3)));
-    assert!(rt; padded(alloc, "", 0, "") == Ok(Some(3)));
+    assert!(rt; padded(&rt, alloc, SETUP, 1_048_576 - setup, "") == Ok(Some(0)));
+    assert!(rt; padded(&rt, alloc, SETUP, 1_048_577 - setup, "") == Ok(Some(3)));
+    assert!(rt; padded(&rt, alloc, SETUP, 0, "") == Ok(Some(0)));
+    assert!(rt; padded(&rt, alloc, "{}", 0, "") == Ok(Some(3)));
+    assert!(rt; padded(&rt, alloc, "", 0, "") == Ok(Some(3)));
 }
 
 // A sink that takes one byte at a time.
@@ -327,7 +363,8 @@ impl Sink for ByteSink {
     }
 }
 
-fn narrow(
+fn narrow<R: Threads + Wait + Sync>(
+    rt: &R,
     alloc: Global,
     parts: &[&str],
     text: Bytes,
@@ -339,19 +376,29 @@ fn narrow(
         sink: MemSink::new(alloc, 4096, Vec::from_slice(alloc, bad_writes)?)?,
     };
     let mut err = MemSink::new(alloc, 1_024, Vec::new(alloc))?;
-    let status = run(alloc, words.as_slice(), &mut world, &mut out, &mut err);
+    let status = run(rt, alloc, words.as_slice(), &mut world, &mut out, &mut err);
     Ok((status, out.sink.written().len()))
 }
 
 // Two lines that are refused.
-fn narrow_replay(alloc: Global, bad_writes: &[u64]) -> Result<(u8, usize), Mem> {
+fn narrow_replay<R: Threads + Wait + Sync>(
+    rt: &R,
+    alloc: Global,
+    bad_writes: &[u64],
+) -> Result<(u8, usize), Mem> {
     let mut text = Bytes::from_slice(alloc, SETUP.as_bytes())?;
     text.extend(b"\n{\n{")?;
-    narrow(alloc, &["replay", "f"], text, bad_writes)
+    narrow(rt, alloc, &["replay", "f"], text, bad_writes)
 }
 
-fn narrow_field(alloc: Global, text: &[u8], bad_writes: &[u64]) -> Result<(u8, usize), Mem> {
+fn narrow_field<R: Threads + Wait + Sync>(
+    rt: &R,
+    alloc: Global,
+    text: &[u8],
+    bad_writes: &[u64],
+) -> Result<(u8, usize), Mem> {
     narrow(
+        rt,
         alloc,
         &["field", "item", "f"],
         Bytes::from_slice(alloc, text)?,
@@ -363,16 +410,17 @@ fn narrow_field(alloc: Global, text: &[u8], bad_writes: &[u64]) -> Result<(u8, u
 fn a_narrow_sink_gets_all_or_a_beginning(rt: HostRuntime) {
     let alloc = rt.alloc();
     let length = 2 * NOT_A_REQUEST.len();
-    assert!(rt; narrow_replay(alloc, &[]) == Ok((0, length)));
-    assert!(rt; narrow_replay(alloc, &[50]) == Ok((5, 49)));
-    assert!(rt; narrow_field(alloc, b"1.50", &[]) == Ok((0, 4)));
-    assert!(rt; narrow_field(alloc, b"1.50", &[4]) == Ok((5, 3)));
-    assert!(rt; narrow_field(alloc, b"1.", &[]) == Ok((7, NO_FIELD.len())));
-    assert!(rt; narrow_field(alloc, b"1.", &[5]) == Ok((5, 4)));
+    assert!(rt; narrow_replay(&rt, alloc, &[]) == Ok((0, length)));
+    assert!(rt; narrow_replay(&rt, alloc, &[50]) == Ok((5, 49)));
+    assert!(rt; narrow_field(&rt, alloc, b"1.50", &[]) == Ok((0, 4)));
+    assert!(rt; narrow_field(&rt, alloc, b"1.50", &[4]) == Ok((5, 3)));
+    assert!(rt; narrow_field(&rt, alloc, b"1.", &[]) == Ok((7, NO_FIELD.len())));
+    assert!(rt; narrow_field(&rt, alloc, b"1.", &[5]) == Ok((5, 4)));
 }
 
 // A setup and two lines that are refused.
-fn with_faults(
+fn with_faults<R: Threads + Wait + Sync>(
+    rt: &R,
     alloc: Global,
     bad_reads: &[u64],
     bad_writes: &[u64],
@@ -380,21 +428,28 @@ fn with_faults(
 ) -> Result<Option<u8>, Mem> {
     let mut text = Bytes::from_slice(alloc, SETUP.as_bytes())?;
     text.extend(b"\n{\n{\"at\":1,\"call\":\"dance\",\"key\":\"\"}")?;
-    replayed(alloc, text, bad_reads, bad_writes, printed)
+    replayed(rt, alloc, text, bad_reads, bad_writes, printed)
 }
 
 #[test]
 fn faults_have_their_statuses(rt: HostRuntime) {
     let alloc = rt.alloc();
-    assert!(rt; with_faults(alloc, &[1], &[], "") == Ok(Some(4)));
-    assert!(rt; with_faults(alloc, &[2], &[], NOT_A_REQUEST) == Ok(Some(4)));
-    assert!(rt; with_faults(alloc, &[], &[1], "") == Ok(Some(5)));
-    assert!(rt; with_faults(alloc, &[], &[2], NOT_A_REQUEST) == Ok(Some(5)));
+    assert!(rt; with_faults(&rt, alloc, &[1], &[], "") == Ok(Some(4)));
+    assert!(rt; with_faults(&rt, alloc, &[2], &[], NOT_A_REQUEST) == Ok(Some(4)));
+    assert!(rt; with_faults(&rt, alloc, &[], &[1], "") == Ok(Some(5)));
+    assert!(rt; with_faults(&rt, alloc, &[], &[2], NOT_A_REQUEST) == Ok(Some(5)));
 }
 
 // The status of a field of this kind, where this is printed.
-fn field(alloc: Global, kind: &str, text: &str, printed: &str) -> Result<Option<u8>, Mem> {
+fn field<R: Threads + Wait + Sync>(
+    rt: &R,
+    alloc: Global,
+    kind: &str,
+    text: &str,
+    printed: &str,
+) -> Result<Option<u8>, Mem> {
     ran(
+        rt,
         alloc,
         &["field", kind, "f"],
         Bytes::from_slice(alloc, text.as_bytes())?,
@@ -430,12 +485,13 @@ fn fields_are_printed_or_refused(rt: HostRuntime) {
         ("item", "a\r\n", 7, NO_FIELD),
     ];
     for (kind, text, status, printed) in cases {
-        assert!(rt; field(rt.alloc(), kind, text, printed) == Ok(Some(status)));
+        assert!(rt; field(&rt, rt.alloc(), kind, text, printed) == Ok(Some(status)));
     }
 }
 
 // The status of a token of so many bytes. Its line is printed where no read and no write fails, and else nothing.
-fn token(
+fn token<R: Threads + Wait + Sync>(
+    rt: &R,
     alloc: Global,
     length: usize,
     bad_reads: &[u64],
@@ -451,6 +507,7 @@ fn token(
         printed.push(b'\n')?;
     }
     ran(
+        rt,
         alloc,
         &["field", "item", "f"],
         text,
@@ -465,26 +522,30 @@ fn token(
 fn long_fields_are_read_to_their_end(rt: HostRuntime) {
     let alloc = rt.alloc();
     for length in [1, 16_383, 16_384, 16_385, 32_767] {
-        assert!(rt; token(alloc, length, &[], &[]) == Ok(Some(0)));
+        assert!(rt; token(&rt, alloc, length, &[], &[]) == Ok(Some(0)));
     }
     for bad_read in [1, 2, 3] {
-        assert!(rt; token(alloc, 20_000, &[bad_read], &[]) == Ok(Some(4)));
+        assert!(rt; token(&rt, alloc, 20_000, &[bad_read], &[]) == Ok(Some(4)));
     }
-    assert!(rt; token(alloc, 20_000, &[], &[1]) == Ok(Some(5)));
+    assert!(rt; token(&rt, alloc, 20_000, &[], &[1]) == Ok(Some(5)));
 }
 
 // The status of words, where nothing is printed.
-fn status(alloc: Global, parts: &[&str]) -> Result<Option<u8>, Mem> {
-    ran(alloc, parts, Bytes::new(alloc), &[], &[], b"")
+fn status<R: Threads + Wait + Sync>(
+    rt: &R,
+    alloc: Global,
+    parts: &[&str],
+) -> Result<Option<u8>, Mem> {
+    ran(rt, alloc, parts, Bytes::new(alloc), &[], &[], b"")
 }
 
 #[test]
 fn words_are_commands_or_not(rt: HostRuntime) {
     let alloc = rt.alloc();
-    assert!(rt; status(alloc, &["replay", "g"]) == Ok(Some(4)));
-    assert!(rt; status(alloc, &["field", "item", "g"]) == Ok(Some(4)));
-    assert!(rt; status(alloc, &["sign", "g", "c1", "253402300799", "f"]) == Ok(Some(4)));
-    assert!(rt; status(alloc, &["verify", "g", "0", "f"]) == Ok(Some(4)));
+    assert!(rt; status(&rt, alloc, &["replay", "g"]) == Ok(Some(4)));
+    assert!(rt; status(&rt, alloc, &["field", "item", "g"]) == Ok(Some(4)));
+    assert!(rt; status(&rt, alloc, &["sign", "g", "c1", "253402300799", "f"]) == Ok(Some(4)));
+    assert!(rt; status(&rt, alloc, &["verify", "g", "0", "f"]) == Ok(Some(4)));
     let others: [&[&str]; 26] = [
         &["sign", "s", "c1", "1000"],
         &["sign", "s", "c1", "f", "1000"],
@@ -514,7 +575,7 @@ fn words_are_commands_or_not(rt: HostRuntime) {
         &["field", "item", "f", "f"],
     ];
     for words in others {
-        assert!(rt; status(alloc, words) == Ok(Some(2)));
+        assert!(rt; status(&rt, alloc, words) == Ok(Some(2)));
     }
 }
 
@@ -525,14 +586,15 @@ const SIGNED: &str =
     "POST /gnap HTTP/1.1\r\ncontent-length: 18\r\ncontent-digest: sha-256=:X48E9qOokqqrvdts8nOJRJN3OWDUoyWxBf7kbu9DBPE=:\r\nsignature-input: sig1=(\"@method\" \"@target-uri\" \"content-digest\");created=1000;keyid=\"c1\";tag=\"gnap\"\r\nsignature: sig1=:/AST8V8kV8dVOnUSRIniNoVVk+H6Wg0mJM3/XN6+lgY=:\r\n\r\n{\"hello\": \"world\"}";
 
 // The status of a command over a message, where this is printed.
-fn over_message(
+fn over_message<R: Threads + Wait + Sync>(
+    rt: &R,
     alloc: Global,
     parts: &[&str],
     message: &str,
     printed: &str,
 ) -> Result<Option<u8>, Mem> {
     let text = Bytes::from_slice(alloc, message.as_bytes())?;
-    ran(alloc, parts, text, &[], &[], printed.as_bytes())
+    ran(rt, alloc, parts, text, &[], &[], printed.as_bytes())
 }
 
 #[test]
@@ -572,12 +634,13 @@ fn messages_are_signed_and_verified(rt: HostRuntime) {
         (&["verify", "g", "1000", "f"], SIGNED, 4, ""),
     ];
     for (parts, message, status, printed) in cases {
-        assert!(rt; over_message(rt.alloc(), parts, message, printed) == Ok(Some(status)));
+        assert!(rt; over_message(&rt, rt.alloc(), parts, message, printed) == Ok(Some(status)));
     }
 }
 
 // The status of a verification whose setup has so many bytes of blanks behind it, and whose reads and writes fail so.
-fn with_blanks(
+fn with_blanks<R: Threads + Wait + Sync>(
+    rt: &R,
     alloc: Global,
     blanks: usize,
     bad_reads: &[u64],
@@ -588,6 +651,7 @@ fn with_blanks(
         text.push(b' ')?;
     }
     ran(
+        rt,
         alloc,
         &["verify", "f", "0", "s"],
         text,
@@ -602,10 +666,10 @@ fn setups_have_1048576_bytes(rt: HostRuntime) {
     let alloc = rt.alloc();
     let room = 1_048_576 - SETUP.len().min(1_000);
     let refused = "refused BadHead\n";
-    assert!(rt; with_blanks(alloc, room, &[], refused) == Ok(Some(7)));
-    assert!(rt; with_blanks(alloc, room + 1, &[], "") == Ok(Some(3)));
-    assert!(rt; with_blanks(alloc, 0, &[1], "") == Ok(Some(4)));
-    assert!(rt; with_blanks(alloc, 0, &[2], "") == Ok(Some(4)));
+    assert!(rt; with_blanks(&rt, alloc, room, &[], refused) == Ok(Some(7)));
+    assert!(rt; with_blanks(&rt, alloc, room + 1, &[], "") == Ok(Some(3)));
+    assert!(rt; with_blanks(&rt, alloc, 0, &[1], "") == Ok(Some(4)));
+    assert!(rt; with_blanks(&rt, alloc, 0, &[2], "") == Ok(Some(4)));
 }
 
 #[test]
@@ -622,17 +686,25 @@ fn answers_to_messages_may_be_cut(rt: HostRuntime) {
         let Ok(text) = text else {
             panic!(rt; "out of memory");
         };
-        assert!(rt; ran(alloc, parts, text, &[], &[1], printed.as_bytes()) == Ok(Some(status)));
+        assert!(rt;
+            ran(&rt, alloc, parts, text, &[], &[1], printed.as_bytes()) == Ok(Some(status))
+        );
     }
 }
 
 // What a person is told where the command isn't carried out.
-fn told(alloc: Global, parts: &[&str], text: &str, told: &str) -> Result<bool, Mem> {
+fn told<R: Threads + Wait + Sync>(
+    rt: &R,
+    alloc: Global,
+    parts: &[&str],
+    text: &str,
+    told: &str,
+) -> Result<bool, Mem> {
     let mut world = world(alloc, Bytes::from_slice(alloc, text.as_bytes())?, &[])?;
     let words = words(alloc, parts)?;
     let mut out = MemSink::new(alloc, 1_024, Vec::new(alloc))?;
     let mut err = MemSink::new(alloc, 1_024, Vec::new(alloc))?;
-    run(alloc, words.as_slice(), &mut world, &mut out, &mut err);
+    run(rt, alloc, words.as_slice(), &mut world, &mut out, &mut err);
     Ok(err.written() == told.as_bytes())
 }
 
@@ -661,7 +733,7 @@ fn causes_are_told(rt: HostRuntime) {
     ];
     for (command, file, text, hint) in cases {
         assert_eq!(rt;
-            told(rt.alloc(), &[command, file], text, hint),
+            told(&rt, rt.alloc(), &[command, file], text, hint),
             Ok(true),
             "{text}"
         );
@@ -685,11 +757,11 @@ fn causes_are_told(rt: HostRuntime) {
         ),
     ];
     for (words, hint) in hints {
-        assert_eq!(rt; told(rt.alloc(), words, "x", hint), Ok(true), "{hint}");
+        assert_eq!(rt; told(&rt, rt.alloc(), words, "x", hint), Ok(true), "{hint}");
     }
     let hint = "gnap: f isn't a valid field\n";
     assert_eq!(rt;
-        told(rt.alloc(), &["field", "item", "f"], "1.", hint),
+        told(&rt, rt.alloc(), &["field", "item", "f"], "1.", hint),
         Ok(true),
         "field"
     );

@@ -3,7 +3,7 @@ use Rattle.std.specs.Prelude.{Option, Some, IsSome, IfSome}
 use Rattle.gnap_io.specs.Openings.{GivesBack}
 use Rattle.gnap_tool.specs.declared.command.Command.{Command}
 use Rattle.gnap_tool.specs.declared.ended.Ended.TheVariants.{Done, Memory, TooLong}
-use Rattle.gnap_tool.specs.Commands.{HasMoments, openings_of, input_place}
+use Rattle.gnap_tool.specs.Commands.{IsWithinRanges, openings_of, input_place}
 use Rattle.gnap_tool.specs.Ends.{status_of}
 use Rattle.gnap_tool.specs.Runs.{InputTook}
 use Rattle.gnap_tool.proofs.Uses.{back-none, unopened_sound, failed_at_4, full_at_8, whole_at_0, to_end_at_0, starved_carries}
@@ -44,8 +44,8 @@ returns-in-Err-clause-given_back g c = λ command found. back-none (openings_of 
 
 pub carry_out-ended-requires : goal.carry_out-ended-requires
 carry_out-ended-requires g c =
-    let M : Option Command → Type 0 = λ o. IfSome o HasMoments in
-    subst M c.in-Ok-Some.field-0-is c.in-Ok-Some.ensures.moments
+    let M : Option Command → Type 0 = λ o. IfSome o IsWithinRanges in
+    subst M c.in-Ok-Some.field-0-is c.in-Ok-Some.ensures.ranges
 
 pub returns-in-Ok-Some-clause-to_end : goal.returns-in-Ok-Some-clause-to_end
 returns-in-Ok-Some-clause-to_end g c = λ is. to_end_at_0 _ _ _ _ c.carry_out-ended.result c.carry_out-ended.ensures.world (sym c.status_of.ensures ∙ is)

@@ -1,0 +1,2 @@
+pub mod UsedUp
+pub mod TakenBack

@@ -1,0 +1,92 @@
+-- What serving at an address does to the world.
+use Rattle.std.proofs.Common.{◌≡◌, ◌≢◌, ◌∙◌, ℕ, ◌<◌, nat_lt, List, [], ◌∷◌, ◌++◌, length, refl, ap, sym, subst, arith, ◌⊎◌, inl, inr}
+use Rattle.std.specs.Prelude.{true, Option, Some, None, IsSome, All, Any, drop, Result, Ok, Err}
+use Rattle.std.proofs.Math.Seq.{drop-length, drop-append_seam}
+use Rattle.std.proofs.lemmas.List.Elements.{All-nil}
+use Rattle.std.proofs.lemmas.List.Folds.{Any-from_list_any}
+use Rattle.gnap_io.specs.declared.world.Opening.{Opening}
+use Rattle.gnap_io.specs.declared.world.Opening.TheVariants.{File, Gears}
+use Rattle.gnap_io.specs.declared.world.WorldFault.{WorldFault}
+use Rattle.gnap_io.specs.declared.world.WorldFault.TheVariants as faults
+use Rattle.gnap_io.specs.Outside.{Served, IsAtEnd}
+use Rattle.gnap_io.specs.Gears.{GearState, IsUnused}
+use Rattle.gnap_io.specs.Worlds.{WorldState, with_opening, with_gears}
+use Rattle.gnap_io.specs.Openings.{Gives, gears_in, new_files}
+use Rattle.gnap_io.proofs.OpeningLemmas.{gives-gears, back-all}
+use Rattle.gnap_model.specs.declared.objects.Setup.{Setup}
+use Rattle.as_service.specs.Services.{has_failed, IsUsedUp, AreServed, IsEndOfService, IsService, not_started, served}
+use Rattle.gnap_tool.specs.declared.ended.Ended.{Ended}
+use Rattle.gnap_tool.specs.declared.ended.Ended.TheVariants.{Done, Failed, Memory}
+use Rattle.gnap_tool.specs.Runs.{ended_service, NothingFailed, UsesWorld, new_openings}
+use Rattle.gnap_tool.proofs.Uses.{unopened_failed, unopened_starved}
+
+failed_gear : (gear : GearState) → has_failed gear ≡ true → gear.faults ≢ 0
+failed_gear gear is zero = let none : nat_lt 0 0 ≡ true = subst (λ n. nat_lt 0 n ≡ true) zero is in absurd cc
+
+failed_gears : (gears : List GearState) → Any (λ gear. has_failed gear ≡ true) gears → Any (λ (gear : GearState). gear.faults ≢ 0) gears
+failed_gears gears any = (any.0, any.1, any.2, any.3, failed_gear any.3 any.4)
+
+unused_unfailed : (gears : List GearState) → All IsUnused gears → All (λ (gear : GearState). gear.faults ≡ 0) gears
+unused_unfailed gears unused k d lt = ap (λ (gear : GearState). gear.faults) (unused k d lt)
+
+used_unfailed : (gears : List GearState) → All IsUsedUp gears → All (λ (gear : GearState). gear.faults ≡ 0) gears
+used_unfailed gears used k d lt = (used k d lt).unfailed
+
+module _ (address : List ℕ) (n quota : ℕ) (before after : WorldState) (gears : List GearState)
+    (back : after ≡ with_gears gears (with_opening (Gears address n quota) before)) (many : length gears ≡ n) where
+  gives : Gives (Gears address n quota ∷ []) before after
+  gives = gives-gears address n quota gears before (with_opening (Gears address n quota) before) after refl back many
+
+  gears_are : after.gears ≡ gears
+  gears_are = ap (λ (s : WorldState). s.gears) back
+
+  no_files : new_files before after ≡ []
+  no_files = ap (λ (s : WorldState). drop (length before.files) s.files) back ∙ drop-length before.files
+
+  new_opening : new_openings before after ≡ Gears address n quota ∷ []
+  new_opening = ap (λ (s : WorldState). drop (length before.opened) s.opened) back ∙ drop-append_seam before.opened (Gears address n quota ∷ [])
+
+  sound : All (λ (gear : GearState). gear.faults ≡ 0) gears → NothingFailed before after
+  sound unfailed = record {
+    world = ap (λ (s : WorldState). s.faults) back;
+    files = subst (All (λ (file : Served). file.faults ≡ 0)) (sym no_files) (All-nil (λ (file : Served). file.faults ≡ 0));
+    doors = λ some. subst (All (λ (gear : GearState). gear.faults ≡ 0)) (sym gears_are) unfailed;
+  }
+
+  -- each door gave all its connections, or memory ran out before the first one
+  whole : (ended : Ended) → All (λ (gear : GearState). gear.faults ≡ 0) gears → ended ≢ Failed → ((ended ≡ Done) ⊎ (ended ≡ Memory))
+      → UsesWorld (Gears address n quota ∷ []) None before after ended
+  whole ended unfailed isnt how = record {
+    given_back = back-all (Gears address n quota ∷ []) before after gives;
+    all = λ done. gives;
+    failed = λ is. absurd (isnt is);
+    sound = λ no. sound unfailed;
+    took = λ place is file found. absurd cc;
+    limited = λ is. absurd (elim how [ inl done ↦ (let bad = sym done ∙ is in cc) | inr memory ↦ (let bad = sym memory ∙ is in cc) ]);
+    to_end = λ is. subst (All (λ (file : Served). IsAtEnd file.told)) (sym no_files) (All-nil (λ (file : Served). IsAtEnd file.told));
+  }
+
+  broken : Any (λ (gear : GearState). gear.faults ≢ 0) gears → UsesWorld (Gears address n quota ∷ []) None before after Failed
+  broken any = record {
+    given_back = back-all (Gears address n quota ∷ []) before after gives;
+    all = λ done. gives;
+    failed = λ is. inr (inr (
+      subst (λ (os : List Opening). IsSome (gears_in os)) (sym new_opening) refl,
+      subst (Any (λ (gear : GearState). gear.faults ≢ 0)) (sym gears_are) any,
+    ));
+    sound = λ isnt. absurd (isnt refl);
+    took = λ place is file found. absurd cc;
+    limited = λ is. absurd cc;
+    to_end = λ is. absurd cc;
+  }
+
+pub service_used : (setup : Setup) (address : List ℕ) (n quota : ℕ) (before after : WorldState) (answer : Result (Unit {0}) WorldFault)
+    → IsService setup address n quota before after answer → UsesWorld (Gears address n quota ∷ []) None before after (ended_service answer)
+service_used setup address n quota before after (Err faults.Failed) (not_started _ same cause) = unopened_failed (Gears address n quota ∷ []) None before after same cause
+service_used setup address n quota before after (Err faults.OutOfMemory) (not_started _ same cause) = unopened_starved (Gears address n quota ∷ []) None before after same cause
+service_used setup address n quota before after (Ok done) (served _ gears back many are ended) =
+    whole address n quota before after gears back many Done (used_unfailed gears ended) (λ is. absurd cc) (inl refl)
+service_used setup address n quota before after (Err faults.Failed) (served _ gears back many are ended) =
+    broken address n quota before after gears back many (failed_gears gears (Any-from_list_any has_failed gears ended))
+service_used setup address n quota before after (Err faults.OutOfMemory) (served _ gears back many are ended) =
+    whole address n quota before after gears back many Memory (unused_unfailed gears ended) (λ is. absurd cc) (inr refl)
