@@ -60,7 +60,7 @@ unopened_stopped ended (inr is) = subst IsStopped (sym is) tt
 
 module _ (text : Option (List ℕ)) (before between : WorldState) where
   pub stopped : (ended : Ended) → Over text before between (HasNoConfig (Err ended)) (GivesConfig (Err ended)) → IsStopped ended
-  stopped ended (inl no) = unopened_stopped ended (not_opened ended no.1)
+  stopped ended (inl missing) = unopened_stopped ended (not_opened ended missing.1)
   stopped ended (inr is) = read_stopped ended is.0.told is.3
 
 pub stopped_writes : (ended : Ended) (faults : ℕ) → IsStopped ended → CountsWrites ended faults faults
@@ -97,7 +97,7 @@ module _ (text : Option (List ℕ)) (before between : WorldState) (Then : WorldS
   -- the setup was read
   pub by_setup_on : (setup : Setup) (after : WorldState) (out out_now : Told) (ended : Ended)
       → Over text before between (HasNoConfig (Ok setup)) (GivesConfig (Ok setup)) → Then between setup → BySetup text before after out out_now ended Then
-  by_setup_on setup after out out_now ended (inl no) follows = absurd (no_fault setup no.1)
+  by_setup_on setup after out out_now ended (inl missing) follows = absurd (no_fault setup missing.1)
   by_setup_on setup after out out_now ended (inr is) follows =
       inr (
         is.0,
@@ -127,7 +127,7 @@ module _ (text : Option (List ℕ)) (before between : WorldState) (Then : WorldS
 
   pub by_setup_off : (out : Told) (ended : Ended) → ((ended ≡ Failed) ⊎ (ended ≡ Memory) → (setup : Setup) → Then between setup)
       → Over text before between (HasNoConfig (Err ended)) (GivesConfig (Err ended)) → BySetup text before between out out ended Then
-  by_setup_off out ended stops (inl no) = inl (no.0, (refl, not_opened ended no.1))
+  by_setup_off out ended stops (inl missing) = inl (missing.0, (refl, not_opened ended missing.1))
   by_setup_off out ended stops (inr is) = inr (is.0, between, is.1, is.2, λ rest known. follows_none out ended stops is.0.told.taken rest (is.3 rest known))
 
 -- ---- the world

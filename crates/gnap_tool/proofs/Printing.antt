@@ -29,7 +29,7 @@ module _ (T R U V : List ℕ → Type 0) (text : (line : List ℕ) → T line �
   prints_weaker before after ended prints = record { sent = prints.sent; told = prints.told; ends = ends_weaker ended prints.sent prints.ends }
 
 module _ (answers : Result (List ℕ) (List ℕ) → Type 0) (before after : Told) (ended : Ended) where
-  IsRefusal : List ℕ → Type 0
+  abbrev pub IsRefusal : List ℕ → Type 0
   IsRefusal line = (name : List ℕ) × answers (Err name) × (line ≡ refused_line name)
 
   pub prints_text : (text : List ℕ) → answers (Ok text) → PrintsAnswer (λ line. line ≡ text) (λ line. ⊥) before after ended → PrintsFor answers before after ended
@@ -75,7 +75,7 @@ fault_reads (file_faults.Refused name) ended before after faults faults_now prin
 fault_reads file_faults.ReadFault ended before after faults faults_now prints counts = subst (λ (e : Ended). CountsReads e faults faults_now) (sym prints.1) counts
 fault_reads file_faults.OutOfMemory ended before after faults faults_now prints counts = subst (λ (e : Ended). CountsReads e faults faults_now) (sym prints.1) counts
 
-IsFault : Ended → Type 0
+abbrev pub IsFault : Ended → Type 0
 IsFault Refused = Unit {0}
 IsFault WriteFault = Unit {0}
 IsFault Memory = Unit {0}

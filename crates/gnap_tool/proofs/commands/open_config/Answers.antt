@@ -26,7 +26,7 @@ returns-in-Err-OutOfMemory-clause-config g c = inl (ap (λ s. s.files) c.in-Err-
 
 pub returns-in-Ok-clause-config : goal.returns-in-Ok-clause-config
 returns-in-Ok-clause-config g c =
-    let source = c.read_config-setup.new.config in
+    let source = c.read_config-setup.new.source in
     let file = served_of (g.W.File.Device.told source) (g.W.File.Device.faults source) in
     let files = ap (λ s. s.files) c.close_file.ensures.state ∙ ap (λ s. s.files ++ file ∷ []) c.in-Ok.ensures.state in
     let L : Told → Type 0 = λ told. Leaves (g.W.File.Device.told source).taken told.left (g.W.File.Device.told source).left in
@@ -34,7 +34,7 @@ returns-in-Ok-clause-config g c =
 
 pub returns-in-Ok-clause-world : goal.returns-in-Ok-clause-world
 returns-in-Ok-clause-world g c =
-    let source = c.read_config-setup.new.config in
+    let source = c.read_config-setup.new.source in
     let told = g.W.File.Device.told source in
     let result = c.read_config-setup.result in
     let gives = c.read_config-setup.ensures.setup in
