@@ -1,12 +1,12 @@
 -- Words that are numbers.
 use Rattle.std.proofs.Common.{◌≡◌, ◌≢◌, ◌∙◌, ℕ, ◌<◌, ◌≤◌, ◌^◌, List, [], ◌∷◌, length, drop, refl, ap, sym, subst, arith, true}
-use Rattle.std.specs.Prelude.{Bool, ◌==◌, ◌&&◌, not, nat_le, false, Option, Some, None}
+use Rattle.std.specs.Prelude.{Bool, ◌==◌, ◌&&◌, not, nat_le, false, Option, Some, None, if◌then◌else◌}
 use Rattle.std.specs.List.{list_all}
 use Rattle.std.specs.Char.{is_ascii_digit, digit_value}
 use Rattle.std.specs.Str.Parse.{IsNumeral, AllDigits, digits_value, without_leading_plus}
-use Rattle.std.proofs.lemmas.Bool.{and_parts}
+use Rattle.std.proofs.lemmas.Bool.{and_parts, leb-true, false_from_ne_true}
 use Rattle.std.proofs.lemmas.Bool.Decides.{nat_tests}
-use Rattle.gnap_tool.specs.Numbers.{is_number}
+use Rattle.gnap_tool.specs.Numbers.{has_no_needless_zero, is_number, number_within}
 
 digit_below : (c : ℕ) → is_ascii_digit c ≡ true → digit_value c < 10
 digit_below c is = grind (arith, nat_tests)
@@ -25,11 +25,21 @@ no_plus c word is =
 -- a number is a numeral without a sign
 pub numeral : (word : List ℕ) → is_number word ≡ true → IsNumeral 10 (without_leading_plus word) × (without_leading_plus word ≡ word)
 numeral [] is = absurd cc
-numeral (c ∷ []) is =
-    let plain = no_plus c [] is in
-    (subst (IsNumeral 10) (sym plain) (omega arith, (digit_below c is, tt)), plain)
-numeral (c ∷ d ∷ word) is =
-    let parts = and_parts (not (c == 48)) (list_all is_ascii_digit (c ∷ d ∷ word)) is in
-    let first = and_parts (is_ascii_digit c) (list_all is_ascii_digit (d ∷ word)) parts.1 in
-    let plain = no_plus c (d ∷ word) first.0 in
-    (subst (IsNumeral 10) (sym plain) (omega arith, all_digits (c ∷ d ∷ word) parts.1), plain)
+numeral (c ∷ word) is =
+    let digits = (and_parts (has_no_needless_zero (c ∷ word)) (list_all is_ascii_digit (c ∷ word)) is).1 in
+    let first = (and_parts (is_ascii_digit c) (list_all is_ascii_digit word) digits).0 in
+    let plain = no_plus c word first in
+    (subst (IsNumeral 10) (sym plain) (omega arith, all_digits (c ∷ word) digits), plain)
+
+-- a number that isn't read is past every range of 64 bits
+pub past_range : (least most : ℕ) (word : List ℕ) → is_number word ≡ true → most < 2 ^ 64
+    → ((IsNumeral 10 (without_leading_plus word) × (digits_value 10 (without_leading_plus word) < 2 ^ 64)) → ⊥) → None ≡ number_within least most word
+past_range least most word is fits unread =
+    let value = digits_value 10 word in
+    let outside = false_from_ne_true (is_number word && (nat_le least value && nat_le value most)) (λ within.
+    let range = (and_parts (is_number word) (nat_le least value && nat_le value most) within).1 in
+    let below = (and_parts (nat_le least value) (nat_le value most) range).1 in
+    let few : value ≤ most = leb-true value most below in
+    let n = numeral word is in
+    unread (n.0, subst (λ w. digits_value 10 w < 2 ^ 64) (sym n.1) (omega (arith, few, fits)))) in
+    sym (ap (λ b. if b then Some value else None) outside)

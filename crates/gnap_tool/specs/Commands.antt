@@ -41,31 +41,36 @@ abbrev pub field_of : List (List ℕ) → Option Command
 field_of (kind ∷ file ∷ []) = if is_argument file then option_map (λ k. Field k file) (kind_of kind) else None
 field_of _ = None
 
-abbrev pub sign_of : List (List ℕ) → Option Command
-sign_of (config ∷ key ∷ created ∷ file ∷ []) =
-    if are_arguments (config ∷ key ∷ file ∷ []) then option_map (λ moment. Sign config key moment file) (moment_of created) else None
-sign_of _ = None
+-- three words, or four
+abbrev pub with_three : (List ℕ → List ℕ → List ℕ → Option Command) → List (List ℕ) → Option Command
+with_three f (first ∷ second ∷ third ∷ []) = f first second third
+with_three f _ = None
 
-abbrev pub verify_of : List (List ℕ) → Option Command
-verify_of (config ∷ now ∷ file ∷ []) =
-    if are_arguments (config ∷ file ∷ []) then option_map (λ moment. Verify config moment file) (moment_of now) else None
-verify_of _ = None
+abbrev pub with_four : (List ℕ → List ℕ → List ℕ → List ℕ → Option Command) → List (List ℕ) → Option Command
+with_four f (first ∷ second ∷ third ∷ fourth ∷ []) = f first second third fourth
+with_four f _ = None
+
+abbrev pub sign_words : List ℕ → List ℕ → List ℕ → List ℕ → Option Command
+sign_words config key created file =
+    if are_arguments (config ∷ key ∷ file ∷ []) then option_map (λ moment. Sign config key moment file) (moment_of created) else None
+
+abbrev pub verify_words : List ℕ → List ℕ → List ℕ → Option Command
+verify_words config now file = if are_arguments (config ∷ file ∷ []) then option_map (λ moment. Verify config moment file) (moment_of now) else None
 
 -- 1 to 64 workers, and at most 1,000,000 connections for each
-abbrev pub as_of : List (List ℕ) → Option Command
-as_of (config ∷ listen ∷ workers ∷ quota ∷ []) =
+abbrev pub as_words : List ℕ → List ℕ → List ℕ → List ℕ → Option Command
+as_words config listen workers quota =
     if are_arguments (config ∷ listen ∷ [])
-    then option_and_then (number_within 1 64 workers) (λ n. option_map (λ most. As config listen n most) (number_within 0 1000000 quota)) else None
-as_of _ = None
+    then option_and_then (λ n. option_map (λ most. As config listen n most) (number_within 0 1000000 quota)) (number_within 1 64 workers) else None
 
 abbrev pub command_of : List (List ℕ) → Option Command
 command_of [] = None
 command_of (name ∷ arguments) =
     if bytes_eq name (codes "replay") then replay_of arguments
     else if bytes_eq name (codes "field") then field_of arguments
-    else if bytes_eq name (codes "sign") then sign_of arguments
-    else if bytes_eq name (codes "verify") then verify_of arguments
-    else if bytes_eq name (codes "as") then as_of arguments
+    else if bytes_eq name (codes "sign") then with_four sign_words arguments
+    else if bytes_eq name (codes "verify") then with_three verify_words arguments
+    else if bytes_eq name (codes "as") then with_four as_words arguments
     else None
 
 -- what was read of words is this; memory runs out only where they are a command

@@ -1,7 +1,7 @@
 //! The commands, and which of them words are.
-ghost use Rattle.std.specs.Prelude.{◌≡◌, ◌≤◌, IfOk, IfSome, map, string_bytes};
+ghost use Rattle.std.specs.Prelude.{◌≡◌, ◌≤◌, ℕ, List, Option, None, IfOk, IfSome, IfNone, map, string_bytes};
 ghost use Rattle.gnap_io.specs.Gears.{last_moment};
-ghost use Rattle.gnap_tool.specs.Commands.{IsReadAs, IsWithinRanges, is_argument, kind_of, moment_of, replay_of, field_of, sign_of, verify_of, as_of, command_of};
+ghost use Rattle.gnap_tool.specs.Commands.{IsReadAs, IsWithinRanges, is_argument, kind_of, moment_of, replay_of, field_of, with_three, with_four, sign_words, verify_words, as_words, command_of};
 
 use crate::fields::Kind;
 use crate::numbers::number_within;
@@ -85,65 +85,90 @@ fn field_of(alloc: Global, arguments: &[String]) -> Result<Option<Command>, Mem>
     }
 }
 
-fn sign_of(alloc: Global, arguments: &[String]) -> Result<Option<Command>, Mem>
-    ensures read { IsReadAs result (sign_of (map string_bytes arguments.now)) }
-    ensures ranges { IfOk result (λ command. IfSome command IsWithinRanges) }
+// The words, where they are three.
+fn three(words: &[String]) -> Option<(&str, &str, &str)>
+    ensures some { IfSome result (λ w. (f : List ℕ → List ℕ → List ℕ → Option Command) → with_three f (map string_bytes words.now) ≡ f w.0.now w.1.now w.2.now) }
+    ensures none { IfNone result ((f : List ℕ → List ℕ → List ℕ → Option Command) → with_three f (map string_bytes words.now) ≡ None) }
 {
-    match arguments {
-        [config, key, created, file]
-            if is_argument(config.as_str())
-                && is_argument(key.as_str())
-                && is_argument(file.as_str()) => match moment_of(created.as_str()) {
-            Some(created) => {
-                let config = owned(alloc, config.as_str())?;
-                let key = owned(alloc, key.as_str())?;
-                let file = owned(alloc, file.as_str())?;
-                Ok(Some(Command::Sign(config, key, created, file)))
-            }
-            None => Ok(None),
-        },
-        _ => Ok(None),
+    match words {
+        [first, second, third] => Some((first.as_str(), second.as_str(), third.as_str())),
+        _ => None,
     }
 }
 
-fn verify_of(alloc: Global, arguments: &[String]) -> Result<Option<Command>, Mem>
-    ensures read { IsReadAs result (verify_of (map string_bytes arguments.now)) }
+// The words, where they are four.
+fn four(words: &[String]) -> Option<(&str, &str, &str, &str)>
+    ensures some { IfSome result (λ w. (f : List ℕ → List ℕ → List ℕ → List ℕ → Option Command)
+        → with_four f (map string_bytes words.now) ≡ f w.0.now w.1.now w.2.now w.3.now) }
+    ensures none { IfNone result ((f : List ℕ → List ℕ → List ℕ → List ℕ → Option Command) → with_four f (map string_bytes words.now) ≡ None) }
+{
+    match words {
+        [first, second, third, fourth] => Some((
+            first.as_str(),
+            second.as_str(),
+            third.as_str(),
+            fourth.as_str(),
+        )),
+        _ => None,
+    }
+}
+
+fn sign_of(alloc: Global, arguments: &[String]) -> Result<Option<Command>, Mem>
+    ensures read { IsReadAs result (with_four sign_words (map string_bytes arguments.now)) }
     ensures ranges { IfOk result (λ command. IfSome command IsWithinRanges) }
 {
-    match arguments {
-        [config, now, file] if is_argument(config.as_str()) && is_argument(file.as_str()) => {
-            match moment_of(now.as_str()) {
-                Some(now) => {
-                    let config = owned(alloc, config.as_str())?;
-                    let file = owned(alloc, file.as_str())?;
-                    Ok(Some(Command::Verify(config, now, file)))
-                }
-                None => Ok(None),
-            }
-        }
-        _ => Ok(None),
+    let Some((config, key, created, file)) = four(arguments) else {
+        return Ok(None);
+    };
+    if !(is_argument(config) && is_argument(key) && is_argument(file)) {
+        return Ok(None);
     }
+    let Some(created) = moment_of(created) else {
+        return Ok(None);
+    };
+    let config = owned(alloc, config)?;
+    let key = owned(alloc, key)?;
+    let file = owned(alloc, file)?;
+    Ok(Some(Command::Sign(config, key, created, file)))
+}
+
+fn verify_of(alloc: Global, arguments: &[String]) -> Result<Option<Command>, Mem>
+    ensures read { IsReadAs result (with_three verify_words (map string_bytes arguments.now)) }
+    ensures ranges { IfOk result (λ command. IfSome command IsWithinRanges) }
+{
+    let Some((config, now, file)) = three(arguments) else {
+        return Ok(None);
+    };
+    if !(is_argument(config) && is_argument(file)) {
+        return Ok(None);
+    }
+    let Some(now) = moment_of(now) else {
+        return Ok(None);
+    };
+    let config = owned(alloc, config)?;
+    let file = owned(alloc, file)?;
+    Ok(Some(Command::Verify(config, now, file)))
 }
 
 // At most 64 workers, and at most 1,000,000 connections for each.
 fn as_of(alloc: Global, arguments: &[String]) -> Result<Option<Command>, Mem>
-    ensures read { IsReadAs result (as_of (map string_bytes arguments.now)) }
+    ensures read { IsReadAs result (with_four as_words (map string_bytes arguments.now)) }
     ensures ranges { IfOk result (λ command. IfSome command IsWithinRanges) }
 {
-    let [config, listen, workers, quota] = arguments else {
+    let Some((config, listen, workers, quota)) = four(arguments) else {
         return Ok(None);
     };
-    if !is_argument(config.as_str()) || !is_argument(listen.as_str()) {
+    if !(is_argument(config) && is_argument(listen)) {
         return Ok(None);
     }
-    let Some(workers) = number_within(workers.as_str(), 1, 64) else {
+    let Some(workers) = number_within(workers, 1, 64) else {
         return Ok(None);
     };
-    let Some(quota) = number_within(quota.as_str(), 0, 1_000_000) else {
+    let Some(quota) = number_within(quota, 0, 1_000_000) else {
         return Ok(None);
     };
-    let config = owned(alloc, config.as_str())?;
-    let listen = owned(alloc, listen.as_str())?;
+    let config = owned(alloc, config)?;
+    let listen = owned(alloc, listen)?;
     Ok(Some(Command::As(config, listen, workers as usize, quota as u32)))
 }
 
