@@ -74,5 +74,7 @@ error_not_empty c printed is = text_empty (error_response c) printed is (error_w
 -- the methods of a route may stand in a field
 pub methods_fit : (r : Route) → list_all is_method_byte (allowed_methods r) ≡ true
 methods_fit route.Grants = refl
+methods_fit route.Continuation = refl
+methods_fit route.TokenManagement = refl
 methods_fit route.Introspection = refl
 methods_fit route.RsDiscovery = refl

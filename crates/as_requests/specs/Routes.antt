@@ -4,7 +4,7 @@ use Rattle.std.specs.Prelude.{ℕ, List, [], ◌∷◌, take, Option, Some, None
 use Rattle.std.specs.Str.{bytes_eq}
 use Rattle.structured_fields.specs.Canonical.{separated_text}
 use Rattle.message_signature.specs.Components.{until}
-use Rattle.gnap_objects.specs.declared.call_reading.CallKind.TheVariants.{Begin, Introspect}
+use Rattle.gnap_objects.specs.declared.call_reading.CallKind.TheVariants.{Begin, Continue, Modify, Cancel, Rotate, Revoke, Introspect}
 use Rattle.as_requests.specs.declared.routes.Route.{Route}
 use Rattle.as_requests.specs.declared.routes.Route.TheVariants as route
 use Rattle.as_requests.specs.declared.routes.Purpose.{Purpose}
@@ -16,12 +16,16 @@ path_of target = take (until 63 target) target
 
 abbrev pub route_at : List ℕ → Option Route
 route_at path = if bytes_eq path (codes "/gnap") then Some route.Grants
+    else (if bytes_eq path (codes "/continue") then Some route.Continuation
+    else (if bytes_eq path (codes "/token") then Some route.TokenManagement
     else (if bytes_eq path (codes "/introspect") then Some route.Introspection
-    else (if bytes_eq path (codes "/.well-known/gnap-as-rs") then Some route.RsDiscovery else None))
+    else (if bytes_eq path (codes "/.well-known/gnap-as-rs") then Some route.RsDiscovery else None))))
 
 -- the methods of a route, each with what it is for, in the order in which `Allow` lists them
 abbrev pub methods_of : Route → List (List ℕ × Purpose)
 methods_of route.Grants = (codes "POST", purpose.Calls Begin) ∷ (codes "OPTIONS", purpose.Discovery) ∷ []
+methods_of route.Continuation = (codes "POST", purpose.Calls Continue) ∷ (codes "PATCH", purpose.Calls Modify) ∷ (codes "DELETE", purpose.Calls Cancel) ∷ []
+methods_of route.TokenManagement = (codes "POST", purpose.Calls Rotate) ∷ (codes "DELETE", purpose.Calls Revoke) ∷ []
 methods_of route.Introspection = (codes "POST", purpose.Calls Introspect) ∷ []
 methods_of route.RsDiscovery = (codes "GET", purpose.RsDiscovery) ∷ []
 

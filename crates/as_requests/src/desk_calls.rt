@@ -1,6 +1,6 @@
 //! What a request asks of the authorization server.
 ghost use Rattle.std.specs.Prelude.{◌≡◌, IfOk, IfSome, IsUtf8};
-ghost use Rattle.gnap_objects.specs.CallReading.{IsReadable, body_in, call_of, stranger};
+ghost use Rattle.gnap_objects.specs.CallReading.{IsReadable, IsTaken, body_in, call_of};
 ghost use Rattle.as_requests.specs.DeskCalls.{signer, signed_call, step_of, route_step, desk_call, IsAskable};
 
 use crate::authorization::presented_value;
@@ -10,7 +10,7 @@ use gnap_io::bytes::Bytes;
 use gnap_io::memory::Mem;
 use gnap_io::message::Message;
 use gnap_model::calls::Call;
-use gnap_objects::{BodyForm, CallKind, CallOrRefusal, ErrorCode, read_call};
+use gnap_objects::{BodyForm, CallKind, CallOrRefusal, ErrorCode, read_call, stranger};
 use json_objects::{BodyFault, read_body};
 use message_signature::{SigFault, verify};
 use std::alloc::Global;
@@ -58,16 +58,15 @@ fn signer(alloc: Global, edge: &Edge, message: &Message, moment: u64) -> Result<
     }
 }
 
-// The refusal of one who didn't sign.
-fn stranger(kind: CallKind) -> RequestStep
-    ensures step { result ≡ step_of (stranger kind) }
+// A call is asked, and a refusal is answered by its code.
+fn step_of(answer: CallOrRefusal) -> RequestStep
+    requires { IsTaken answer }
+    ensures step { result ≡ step_of answer }
     ensures askable { IsAskable result }
 {
-    match kind {
-        CallKind::Begin => RequestStep::Direct(DirectAnswer::Error(ErrorCode::InvalidClient)),
-        CallKind::Introspect => RequestStep::Direct(DirectAnswer::Error(
-            ErrorCode::InvalidResourceServer,
-        )),
+    match answer {
+        CallOrRefusal::Accepted(call) => RequestStep::Ask(call),
+        CallOrRefusal::Refused(code) => RequestStep::Direct(DirectAnswer::Error(code)),
     }
 }
 
@@ -85,10 +84,7 @@ fn call_with(
     ensures step { IfOk result (λ s. s ≡ step_of (call_of edge.now kind key.now value.now (body_in body.entry))) }
     ensures askable { IfOk result IsAskable }
 {
-    match read_call(alloc, edge.setup(), kind, key, value, body)? {
-        CallOrRefusal::Accepted(call) => Ok(RequestStep::Ask(call)),
-        CallOrRefusal::Refused(code) => Ok(RequestStep::Direct(DirectAnswer::Error(code))),
-    }
+    Ok(step_of(read_call(alloc, edge.setup(), kind, key, value, body)?))
 }
 
 // The call of the key that signed the message.
@@ -128,7 +124,7 @@ fn signed_step(
     ensures askable { IfOk result IsAskable }
 {
     match signer(alloc, edge, message, moment)? {
-        None => Ok(stranger(kind)),
+        None => Ok(step_of(stranger(kind))),
         Some(key) => call_by(alloc, edge, kind, key.as_slice(), message),
     }
 }

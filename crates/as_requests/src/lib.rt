@@ -17,4 +17,6 @@ pub use edge::Edge;
 pub use routes::{Purpose, Route};
 
 #[cfg(test)]
+mod later_calls_tests;
+#[cfg(test)]
 mod tests;

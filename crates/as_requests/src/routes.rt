@@ -11,6 +11,10 @@ use gnap_objects::CallKind;
 pub enum Route {
     /// `/gnap`, where grants are asked for (RFC 9635, section 2).
     Grants,
+    /// `/continue`, where a grant is continued, modified and cancelled (RFC 9635, section 5).
+    Continuation,
+    /// `/token`, where a token is rotated and revoked (RFC 9635, section 6).
+    TokenManagement,
     /// `/introspect`, where resource servers ask about tokens (RFC 9767, section 3.3).
     Introspection,
     /// `/.well-known/gnap-as-rs`, where resource servers learn of the server (RFC 9767, section 3.1).
@@ -50,6 +54,10 @@ impl Route {
     {
         if path == b"/gnap".as_slice() {
             Some(Route::Grants)
+        } else if path == b"/continue".as_slice() {
+            Some(Route::Continuation)
+        } else if path == b"/token".as_slice() {
+            Some(Route::TokenManagement)
         } else if path == b"/introspect".as_slice() {
             Some(Route::Introspection)
         } else if path == b"/.well-known/gnap-as-rs".as_slice() {
@@ -68,6 +76,22 @@ impl Route {
                 Some(Purpose::Calls(CallKind::Begin))
             } else if method == b"OPTIONS".as_slice() {
                 Some(Purpose::Discovery)
+            } else {
+                None
+            },
+            Route::Continuation => if method == b"POST".as_slice() {
+                Some(Purpose::Calls(CallKind::Continue))
+            } else if method == b"PATCH".as_slice() {
+                Some(Purpose::Calls(CallKind::Modify))
+            } else if method == b"DELETE".as_slice() {
+                Some(Purpose::Calls(CallKind::Cancel))
+            } else {
+                None
+            },
+            Route::TokenManagement => if method == b"POST".as_slice() {
+                Some(Purpose::Calls(CallKind::Rotate))
+            } else if method == b"DELETE".as_slice() {
+                Some(Purpose::Calls(CallKind::Revoke))
             } else {
                 None
             },
@@ -90,6 +114,8 @@ impl Route {
     {
         match self {
             Route::Grants => "POST, OPTIONS",
+            Route::Continuation => "POST, PATCH, DELETE",
+            Route::TokenManagement => "POST, DELETE",
             Route::Introspection => "POST",
             Route::RsDiscovery => "GET",
         }

@@ -33,12 +33,12 @@ const NO_SERVER: Option<DirectAnswer> = Some(DirectAnswer::Error(ErrorCode::Inva
 const OUT_OF_FORM: Option<DirectAnswer> = Some(DirectAnswer::Error(ErrorCode::InvalidRequest));
 
 // A method and a target, and what is said to them where nobody signed.
-const UNSIGNED: [(&str, &str, Option<DirectAnswer>); 15] = [
+const UNSIGNED: [(&str, &str, Option<DirectAnswer>); 22] = [
     ("GET", "/x", Some(DirectAnswer::NotFound)),
     ("GET", "/", Some(DirectAnswer::NotFound)),
     ("GET", "", Some(DirectAnswer::NotFound)),
     ("POST", "/gnap/", Some(DirectAnswer::NotFound)),
-    ("POST", "/continue", Some(DirectAnswer::NotFound)),
+    ("POST", "/tokens", Some(DirectAnswer::NotFound)),
     (
         "POST",
         "https://as.example/gnap",
@@ -64,6 +64,16 @@ const UNSIGNED: [(&str, &str, Option<DirectAnswer>); 15] = [
         "/.well-known/gnap-as-rs",
         Some(DirectAnswer::NotAllowed(Route::RsDiscovery)),
     ),
+    (
+        "GET",
+        "/continue",
+        Some(DirectAnswer::NotAllowed(Route::Continuation)),
+    ),
+    (
+        "PATCH",
+        "/token",
+        Some(DirectAnswer::NotAllowed(Route::TokenManagement)),
+    ),
     ("OPTIONS", "/gnap", Some(DirectAnswer::Discovery)),
     ("OPTIONS", "/gnap?a=b", Some(DirectAnswer::Discovery)),
     (
@@ -72,6 +82,11 @@ const UNSIGNED: [(&str, &str, Option<DirectAnswer>); 15] = [
         Some(DirectAnswer::RsDiscovery),
     ),
     ("POST", "/gnap", NOBODY),
+    ("POST", "/continue", NOBODY),
+    ("PATCH", "/continue", NOBODY),
+    ("DELETE", "/continue", NOBODY),
+    ("POST", "/token", NOBODY),
+    ("DELETE", "/token", NOBODY),
     ("POST", "/introspect", NO_SERVER),
 ];
 
@@ -249,7 +264,7 @@ const PRESENTED: [(&[&str], &str); 11] = [
     (&["GNAP v", "Bearer w"], ""),
 ];
 
-fn message(
+pub fn message(
     alloc: Global,
     method: &str,
     target: &str,
@@ -265,7 +280,7 @@ fn message(
     })
 }
 
-fn field(alloc: Global, name: &str, value: &str) -> Result<Field, Mem> {
+pub fn field(alloc: Global, name: &str, value: &str) -> Result<Field, Mem> {
     Ok(Field {
         name: Bytes::from_slice(alloc, name.as_bytes())?,
         value: Bytes::from_slice(alloc, value.as_bytes())?,
@@ -289,7 +304,7 @@ fn signed(alloc: Global, key: &str, digest: &str, signature: &str) -> Result<Fie
     Ok(fields)
 }
 
-fn edge(alloc: Global) -> Option<Edge> {
+pub fn edge(alloc: Global) -> Option<Edge> {
     let setup = read_setup(alloc, SETUP).ok()?;
     Edge::new(alloc, setup).ok()
 }
@@ -390,6 +405,18 @@ fn routes_have_methods(rt: HostRuntime) -> Result<(), Fail> {
             "POST, OPTIONS",
             "POST",
             Purpose::Calls(CallKind::Begin),
+        ),
+        (
+            "/continue",
+            "POST, PATCH, DELETE",
+            "PATCH",
+            Purpose::Calls(CallKind::Modify),
+        ),
+        (
+            "/token",
+            "POST, DELETE",
+            "DELETE",
+            Purpose::Calls(CallKind::Revoke),
         ),
         (
             "/introspect",

@@ -10,6 +10,7 @@ use Rattle.gnap_model.specs.declared.objects.Role.{Role}
 use Rattle.gnap_model.specs.declared.objects.Role.TheVariants as role
 use Rattle.gnap_model.specs.declared.objects.KeyRow.{KeyRow}
 use Rattle.gnap_model.specs.declared.objects.Setup.{Setup}
+use Rattle.gnap_model.specs.declared.objects.ContinueRequest.{ContinueRequest}
 use Rattle.gnap_model.specs.declared.objects.IntrospectRequest.{IntrospectRequest}
 use Rattle.gnap_model.specs.declared.objects.ErrorCode.TheVariants.{InvalidRequest, InvalidClient, InvalidFlag, InvalidResourceServer}
 use Rattle.gnap_model.specs.declared.calls.Call.{Call}
@@ -19,19 +20,34 @@ use Rattle.gnap_objects.specs.declared.grants.GrantBody.{GrantBody}
 use Rattle.gnap_objects.specs.declared.call_reading.BodyForm.{BodyForm}
 use Rattle.gnap_objects.specs.declared.call_reading.BodyForm.TheVariants as forms
 use Rattle.gnap_objects.specs.declared.call_reading.CallKind.{CallKind}
-use Rattle.gnap_objects.specs.declared.call_reading.CallKind.TheVariants.{Begin, Introspect}
+use Rattle.gnap_objects.specs.declared.call_reading.CallKind.TheVariants.{Begin, Continue, Modify, Cancel, Rotate, Revoke, Introspect}
 use Rattle.gnap_objects.specs.declared.call_reading.CallOrRefusal.{CallOrRefusal}
 use Rattle.gnap_objects.specs.declared.call_reading.CallOrRefusal.TheVariants.{Accepted, Refused}
 use Rattle.gnap_objects.specs.Grants.{grant_body_of}
+use Rattle.gnap_objects.specs.Continuations.{continuation_of, rotation_of}
 use Rattle.gnap_objects.specs.Introspections.{introspection_of}
 use Rattle.gnap_objects.specs.CallsFit.{TextsFit}
 
 -- ---- whose key makes the call
 
+abbrev pub is_client : Role → Bool
+is_client role.Client = true
+is_client role.Server = false
+is_client role.Front = false
+
+abbrev pub is_server : Role → Bool
+is_server role.Client = false
+is_server role.Server = true
+is_server role.Front = false
+
 abbrev pub may_call : CallKind → Role → Bool
-may_call Begin role.Client = true
-may_call Introspect role.Server = true
-may_call _ _ = false
+may_call Begin r = is_client r
+may_call Continue r = is_client r
+may_call Modify r = is_client r
+may_call Cancel r = is_client r
+may_call Rotate r = is_client r
+may_call Revoke r = is_client r
+may_call Introspect r = is_server r
 
 abbrev pub is_caller : CallKind → Option KeyRow → Bool
 is_caller kind None = false
@@ -39,8 +55,13 @@ is_caller kind (Some key) = may_call kind key.role
 
 -- the refusal of one who isn't who the call names, or whose key it can't come from (RFC 9635, section 3.6; RFC 9767, section 3.3)
 abbrev pub stranger : CallKind → CallOrRefusal
-stranger Introspect = Refused InvalidResourceServer
 stranger Begin = Refused InvalidClient
+stranger Continue = Refused InvalidClient
+stranger Modify = Refused InvalidClient
+stranger Cancel = Refused InvalidClient
+stranger Rotate = Refused InvalidClient
+stranger Revoke = Refused InvalidClient
+stranger Introspect = Refused InvalidResourceServer
 
 -- ---- the body
 
@@ -55,11 +76,17 @@ body_in forms.Absent = NoBody
 body_in (forms.Object value) = ObjectBody (view value.now)
 body_in forms.NotOfForm = NoObject
 
--- the object that the body is, where it is one
-abbrev pub object_in : Body → Option Data
-object_in (ObjectBody d) = Some d
-object_in NoBody = None
-object_in NoObject = None
+-- the call of a body that has to be an object
+abbrev pub with_object : (Data → CallOrRefusal) → Body → CallOrRefusal
+with_object call NoBody = Refused InvalidRequest
+with_object call (ObjectBody d) = call d
+with_object call NoObject = Refused InvalidRequest
+
+-- the call of a body that is an object or absent
+abbrev pub with_or_without : (Option Data → CallOrRefusal) → Body → CallOrRefusal
+with_or_without call NoBody = call None
+with_or_without call (ObjectBody d) = call (Some d)
+with_or_without call NoObject = Refused InvalidRequest
 
 -- the object can be read
 abbrev pub IsReadable : BodyForm → Type 0
@@ -76,20 +103,41 @@ begin_by key (Err fault) = Refused InvalidRequest
 begin_by key (Ok body) = if is_some body.request.modes then Refused InvalidRequest else (if is_text key body.request.client
     then (if body.repeats_flag then Refused InvalidFlag else Accepted (calls.Begin key body.request None)) else stranger Begin)
 
+-- A modification doesn't name its client: the continuation value names the grant (RFC 9635, section 5.3).
+abbrev pub modify_by : Text → Text → Result GrantBody ObjectFault → CallOrRefusal
+modify_by key value (Err fault) = Refused InvalidRequest
+modify_by key value (Ok body) = if is_some body.request.modes then Refused InvalidRequest
+    else (if body.repeats_flag then Refused InvalidFlag else Accepted (calls.Modify key value body.request))
+
+-- a poll, or the end of an interaction (RFC 9635, sections 5.1 and 5.2)
+abbrev pub continue_by : Text → Text → Result ContinueRequest ObjectFault → CallOrRefusal
+continue_by key value (Err fault) = Refused InvalidRequest
+continue_by key value (Ok request) = Accepted (calls.Continue key value request.reference)
+
+-- a rotation, to another key where one is named (RFC 9635, section 6.1)
+abbrev pub rotate_by : Text → Text → Result (Option Text) ObjectFault → CallOrRefusal
+rotate_by key value (Err fault) = Refused InvalidRequest
+rotate_by key value (Ok new_key) = Accepted (calls.Rotate key value new_key)
+
 -- an introspection is for the resource server that makes it (RFC 9767, section 3.3)
 abbrev pub introspect_by : Text → Result IntrospectRequest ObjectFault → CallOrRefusal
 introspect_by key (Err fault) = Refused InvalidRequest
 introspect_by key (Ok request) = if same_text request.server key
     then Accepted (calls.Introspect key request.value request.binding request.wanted) else stranger Introspect
 
-abbrev pub object_call : CallKind → Text → Option Data → CallOrRefusal
-object_call kind key None = Refused InvalidRequest
-object_call Begin key (Some d) = begin_by key (grant_body_of false d)
-object_call Introspect key (Some d) = introspect_by key (introspection_of d)
+-- The call of one who may make it. The body of a cancellation and of a revocation isn't looked at (RFC 9635, sections 5.4 and 6.2).
+abbrev pub caller_call : CallKind → Text → Text → Body → CallOrRefusal
+caller_call Begin key value body = with_object (λ d. begin_by key (grant_body_of false d)) body
+caller_call Continue key value body = with_or_without (λ o. continue_by key value (continuation_of o)) body
+caller_call Modify key value body = with_object (λ d. modify_by key value (grant_body_of true d)) body
+caller_call Cancel key value body = Accepted (calls.Cancel key value)
+caller_call Rotate key value body = with_or_without (λ o. rotate_by key value (rotation_of o)) body
+caller_call Revoke key value body = Accepted (calls.Revoke key value)
+caller_call Introspect key value body = with_object (λ d. introspect_by key (introspection_of d)) body
 
--- The call by the key of that id, with that presented value and that body. No call that is built looks at the value.
+-- The call by the key of that id, with that presented value and that body. A grant request and an introspection don't look at the value.
 unfoldable pub call_of : Setup → CallKind → Text → Text → Body → CallOrRefusal
-call_of setup kind key value body = if is_caller kind (key_of setup key) then object_call kind key (object_in body) else stranger kind
+call_of setup kind key value body = if is_caller kind (key_of setup key) then caller_call kind key value body else stranger kind
 
 -- The calls of clients and of resource servers are built, where a request names no way to interact, and so is the lapse.
 abbrev pub IsBuilt : Call → Type 0

@@ -1,12 +1,14 @@
 //! The calls that keys make, read from JSON.
-ghost use Rattle.std.specs.Prelude.{◌≡◌, IfOk, IsUtf8, option_map, false};
+ghost use Rattle.std.specs.Prelude.{◌≡◌, IfOk, IsUtf8, option_map, true, false};
 ghost use Rattle.serde_json.specs.View.{view};
 ghost use Rattle.json_objects.specs.Bodies.{IsBody};
 ghost use Rattle.gnap_model.specs.Keys.{key_of};
 ghost use Rattle.gnap_objects.specs.Grants.{grant_body_of};
+ghost use Rattle.gnap_objects.specs.Continuations.{continuation_of, rotation_of};
 ghost use Rattle.gnap_objects.specs.Introspections.{introspection_of};
-ghost use Rattle.gnap_objects.specs.CallReading.{is_caller, stranger, IsReadable, body_in, begin_by, introspect_by, call_of, IsTaken};
+ghost use Rattle.gnap_objects.specs.CallReading.{is_caller, stranger, IsReadable, body_in, begin_by, modify_by, continue_by, rotate_by, introspect_by, caller_call, call_of, IsTaken};
 
+use crate::continuations::{read_continue, read_rotate};
 use crate::fault::ObjectFault;
 use crate::grants::grant_body_of;
 use crate::introspections::read_introspect;
@@ -22,6 +24,16 @@ use std::alloc::Global;
 pub enum CallKind {
     /// A grant request of a client (RFC 9635, section 2).
     Begin,
+    /// A poll, or the end of an interaction (RFC 9635, sections 5.1 and 5.2).
+    Continue,
+    /// A modification of a grant (RFC 9635, section 5.3).
+    Modify,
+    /// The cancellation of a grant (RFC 9635, section 5.4).
+    Cancel,
+    /// The rotation of a token (RFC 9635, section 6.1).
+    Rotate,
+    /// The revocation of a token (RFC 9635, section 6.2).
+    Revoke,
     /// An introspection of a resource server (RFC 9767, section 3.3).
     Introspect,
 }
@@ -52,18 +64,30 @@ fn is_caller(kind: CallKind, key: Option<&KeyRow>) -> bool
     let Some(key) = key else {
         return false;
     };
-    match (kind, key.role) {
-        (CallKind::Begin, Role::Client) | (CallKind::Introspect, Role::Server) => true,
-        _ => false,
+    match kind {
+        CallKind::Begin
+        | CallKind::Continue
+        | CallKind::Modify
+        | CallKind::Cancel
+        | CallKind::Rotate
+        | CallKind::Revoke => matches!(key.role, Role::Client),
+        CallKind::Introspect => matches!(key.role, Role::Server),
     }
 }
 
-fn stranger(kind: CallKind) -> CallOrRefusal
+/// The refusal of one who isn't who a call of this kind has to come from: `InvalidClient` (RFC 9635, section 3.6), for an introspection
+/// `InvalidResourceServer` (RFC 9767, section 3.5).
+pub fn stranger(kind: CallKind) -> CallOrRefusal
     ensures stranger { result ≡ stranger kind }
     ensures taken { IsTaken result }
 {
     match kind {
-        CallKind::Begin => CallOrRefusal::Refused(ErrorCode::InvalidClient),
+        CallKind::Begin
+        | CallKind::Continue
+        | CallKind::Modify
+        | CallKind::Cancel
+        | CallKind::Rotate
+        | CallKind::Revoke => CallOrRefusal::Refused(ErrorCode::InvalidClient),
         CallKind::Introspect => CallOrRefusal::Refused(ErrorCode::InvalidResourceServer),
     }
 }
@@ -100,6 +124,80 @@ fn begin_by(alloc: Global, key: &[u8], body: &Value) -> Result<CallOrRefusal, Me
     }))
 }
 
+fn modify_by(alloc: Global, key: &[u8], value: &[u8], body: &Value) -> Result<CallOrRefusal, Mem>
+    requires key { IsUtf8 key.now }
+    requires body { IsBody (view body.now) }
+    ensures call { IfOk result (λ c. c ≡ modify_by key.now value.now (grant_body_of true (view body.now))) }
+    ensures taken { IfOk result IsTaken }
+{
+    let wanted = match grant_body_of(alloc, body, true) {
+        Ok(wanted) => wanted,
+        Err(ObjectFault::OutOfMemory) => return Err(Mem),
+        Err(_) => return Ok(CallOrRefusal::Refused(ErrorCode::InvalidRequest)),
+    };
+    if wanted.request.modes.is_some() {
+        return Ok(CallOrRefusal::Refused(ErrorCode::InvalidRequest));
+    }
+    if wanted.repeats_flag {
+        return Ok(CallOrRefusal::Refused(ErrorCode::InvalidFlag));
+    }
+    let key = Bytes::from_slice(alloc, key)?;
+    let value = Bytes::from_slice(alloc, value)?;
+    Ok(CallOrRefusal::Accepted(Call::Modify {
+        key,
+        value,
+        request: wanted.request,
+    }))
+}
+
+fn continue_by(
+    alloc: Global,
+    key: &[u8],
+    value: &[u8],
+    body: Option<&Value>,
+) -> Result<CallOrRefusal, Mem>
+    requires { IsUtf8 key.now }
+    ensures call { IfOk result (λ c. c ≡ continue_by key.now value.now (continuation_of (option_map (λ v. view v.now) body.entry))) }
+    ensures taken { IfOk result IsTaken }
+{
+    let request = match read_continue(alloc, body) {
+        Ok(request) => request,
+        Err(ObjectFault::OutOfMemory) => return Err(Mem),
+        Err(_) => return Ok(CallOrRefusal::Refused(ErrorCode::InvalidRequest)),
+    };
+    let key = Bytes::from_slice(alloc, key)?;
+    let value = Bytes::from_slice(alloc, value)?;
+    Ok(CallOrRefusal::Accepted(Call::Continue {
+        key,
+        value,
+        reference: request.reference,
+    }))
+}
+
+fn rotate_by(
+    alloc: Global,
+    key: &[u8],
+    value: &[u8],
+    body: Option<&Value>,
+) -> Result<CallOrRefusal, Mem>
+    requires { IsUtf8 key.now }
+    ensures call { IfOk result (λ c. c ≡ rotate_by key.now value.now (rotation_of (option_map (λ v. view v.now) body.entry))) }
+    ensures taken { IfOk result IsTaken }
+{
+    let new_key = match read_rotate(alloc, body) {
+        Ok(new_key) => new_key,
+        Err(ObjectFault::OutOfMemory) => return Err(Mem),
+        Err(_) => return Ok(CallOrRefusal::Refused(ErrorCode::InvalidRequest)),
+    };
+    let key = Bytes::from_slice(alloc, key)?;
+    let value = Bytes::from_slice(alloc, value)?;
+    Ok(CallOrRefusal::Accepted(Call::Rotate {
+        key,
+        value,
+        new_key,
+    }))
+}
+
 fn introspect_by(alloc: Global, key: &[u8], body: &Value) -> Result<CallOrRefusal, Mem>
     requires key { IsUtf8 key.now }
     requires body { IsBody (view body.now) }
@@ -123,10 +221,49 @@ fn introspect_by(alloc: Global, key: &[u8], body: &Value) -> Result<CallOrRefusa
     }))
 }
 
+// The call of one who may make it.
+fn caller_call(
+    alloc: Global,
+    kind: CallKind,
+    key: &[u8],
+    value: &[u8],
+    body: BodyForm<'_>,
+) -> Result<CallOrRefusal, Mem>
+    requires key { IsUtf8 key.now }
+    requires body { IsReadable body }
+    ensures call { IfOk result (λ c. c ≡ caller_call kind key.now value.now (body_in body.entry)) }
+    ensures taken { IfOk result IsTaken }
+{
+    match (kind, body) {
+        (CallKind::Begin, BodyForm::Object(body)) => begin_by(alloc, key, body),
+        (CallKind::Continue, BodyForm::Absent) => continue_by(alloc, key, value, None),
+        (CallKind::Continue, BodyForm::Object(body)) => continue_by(alloc, key, value, Some(body)),
+        (CallKind::Modify, BodyForm::Object(body)) => modify_by(alloc, key, value, body),
+        (CallKind::Cancel, _) => Ok(CallOrRefusal::Accepted(Call::Cancel {
+            key: Bytes::from_slice(alloc, key)?,
+            value: Bytes::from_slice(alloc, value)?,
+        })),
+        (CallKind::Rotate, BodyForm::Absent) => rotate_by(alloc, key, value, None),
+        (CallKind::Rotate, BodyForm::Object(body)) => rotate_by(alloc, key, value, Some(body)),
+        (CallKind::Revoke, _) => Ok(CallOrRefusal::Accepted(Call::Revoke {
+            key: Bytes::from_slice(alloc, key)?,
+            value: Bytes::from_slice(alloc, value)?,
+        })),
+        (CallKind::Introspect, BodyForm::Object(body)) => introspect_by(alloc, key, body),
+        (_, BodyForm::Absent | BodyForm::NotOfForm) => {
+            Ok(CallOrRefusal::Refused(ErrorCode::InvalidRequest))
+        }
+    }
+}
+
 /// The call of this kind by the key with this id, with the value that it presents and its body; or the error that is the answer, the first that applies:
 /// `InvalidClient`, for an introspection `InvalidResourceServer`, where the setup has no such key, or one of another role than the call's;
-/// `InvalidRequest` where the body isn't of the call's form, or offers a way to interact, since none is built; `InvalidClient` or `InvalidResourceServer` where the body names another than the key as the
-/// one who calls; `InvalidFlag` where a flag stands twice in a token request; else the call.
+/// `InvalidRequest` where the body isn't of the call's form, or offers a way to interact, since none is built; `InvalidClient` or `InvalidResourceServer`
+/// where the body of a grant request or of an introspection names another than the key as the one who calls; `InvalidFlag` where a flag stands twice in a
+/// token request; else the call.
+///
+/// A continuation and a rotation may come without a body. The body of a cancellation and of a revocation isn't looked at. The value goes into the call as
+/// it is; a grant request and an introspection have none.
 #[tactic(auto, unfolding(crate::specs::CallReading::call_of))]
 pub fn read_call(
     alloc: Global,
@@ -141,14 +278,9 @@ pub fn read_call(
     ensures call { IfOk result (λ c. c ≡ call_of setup.now kind key.now value.now (body_in body.entry)) }
     ensures taken { IfOk result IsTaken }
 {
-    if !is_caller(kind, setup.key(key)) {
-        return Ok(stranger(kind));
-    }
-    let BodyForm::Object(body) = body else {
-        return Ok(CallOrRefusal::Refused(ErrorCode::InvalidRequest));
-    };
-    match kind {
-        CallKind::Begin => begin_by(alloc, key, body),
-        CallKind::Introspect => introspect_by(alloc, key, body),
+    if is_caller(kind, setup.key(key)) {
+        caller_call(alloc, kind, key, value, body)
+    } else {
+        Ok(stranger(kind))
     }
 }

@@ -18,7 +18,7 @@ mod token_requests;
 pub mod user_codes;
 mod users;
 
-pub use call_reading::{BodyForm, CallKind, CallOrRefusal, read_call};
+pub use call_reading::{BodyForm, CallKind, CallOrRefusal, read_call, stranger};
 pub use continuations::{read_continue, read_rotate};
 pub use decisions::{read_decide, read_handle};
 pub use fault::ObjectFault;

@@ -15,13 +15,13 @@ pub const SETUP: &str =
 
 pub const NOT_A_REQUEST: &str = "400 {\"error\":{\"code\":\"invalid_request\"}}\n";
 
-const NOT_A_CLIENT: &str = "401 {\"error\":{\"code\":\"invalid_client\"}}\n";
+pub const NOT_A_CLIENT: &str = "401 {\"error\":{\"code\":\"invalid_client\"}}\n";
 
 const NOT_A_SERVER: &str = "401 {\"error\":{\"code\":\"invalid_resource_server\"}}\n";
 
 const TOO_LONG: &str = "413\n";
 
-const NOT_BUILT: &str = "404\n";
+pub const NOT_BUILT: &str = "404\n";
 
 const BEGIN: &str =
     r#"{"at":1000,"body":{"access_token":{"access":["photos"]},"client":"c1"},"call":"begin","key":"c1"}"#;
@@ -94,7 +94,7 @@ pub fn replayed<R: Threads + Wait + Sync>(
 }
 
 // The lines after the setup are answered so.
-fn answers<R: Threads + Wait + Sync>(
+pub fn answers<R: Threads + Wait + Sync>(
     rt: &R,
     alloc: Global,
     lines: &[u8],
@@ -132,7 +132,7 @@ fn lines_are_refused_in_order(rt: HostRuntime) {
         ),
         (r#"{"at":1,"call":"dance","key":"c9"}"#, NOT_BUILT),
         (
-            r#"{"at":1,"call":"cancel","key":"c1","value":"x"}"#,
+            r#"{"at":1,"call":"decide","key":"c1","value":"x"}"#,
             NOT_BUILT,
         ),
         (
