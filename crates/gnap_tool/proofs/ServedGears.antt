@@ -24,7 +24,7 @@ failed_gear : (gear : GearState) → has_failed gear ≡ true → gear.faults �
 failed_gear gear is zero = let none : nat_lt 0 0 ≡ true = subst (λ n. nat_lt 0 n ≡ true) zero is in absurd cc
 
 failed_gears : (gears : List GearState) → Any (λ gear. has_failed gear ≡ true) gears → Any (λ (gear : GearState). gear.faults ≢ 0) gears
-failed_gears gears any = (any.0, any.1, any.2, any.3, failed_gear any.3 any.4)
+failed_gears gears any = (any.0, any.1, any.2, any.3, failed_gear any.1 any.4)
 
 unused_unfailed : (gears : List GearState) → All IsUnused gears → All (λ (gear : GearState). gear.faults ≡ 0) gears
 unused_unfailed gears unused k d lt = ap (λ (gear : GearState). gear.faults) (unused k d lt)

@@ -42,8 +42,8 @@ returns-in-Err-clause-carries g c = λ command found. record { ended = Memory; s
 pub returns-in-Err-clause-given_back : goal.returns-in-Err-clause-given_back
 returns-in-Err-clause-given_back g c = λ command found. back-none (openings_of command) _ _ refl
 
-pub carry_out-ended-requires : goal.carry_out-ended-requires
-carry_out-ended-requires g c =
+pub carry_out-ended-requires-clause-ranges : goal.carry_out-ended-requires-clause-ranges
+carry_out-ended-requires-clause-ranges g c κs within =
     let M : Option Command → Type 0 = λ o. IfSome o IsWithinRanges in
     subst M c.in-Ok-Some.field-0-is c.in-Ok-Some.ensures.ranges
 
