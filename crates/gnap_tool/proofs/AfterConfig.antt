@@ -1,5 +1,5 @@
 -- A command whose first file is its setup.
-use Rattle.std.proofs.Common.{◌≡◌, ◌≢◌, ◌∙◌, ℕ, ◌+◌, ◌≤◌, List, [], ◌∷◌, ◌++◌, length, refl, ap, sym, subst, arith, append_assoc, length-append, ◌⊎◌, inl, inr}
+use Rattle.std.proofs.Common.{◌≡◌, ◌≢◌, ◌∙◌, ℕ, ◌+◌, List, [], ◌∷◌, ◌++◌, length, refl, ap, sym, subst, arith, append_assoc, length-append, ◌⊎◌, inl, inr}
 use Rattle.std.specs.Prelude.{Option, Some, None, IsSome, IfSome, IsOk, All, Any, drop, Result, Ok, Err}
 use Rattle.std.proofs.Math.Seq.{drop-append_seam}
 use Rattle.std.proofs.lemmas.List.{get_or-append-add}
@@ -8,15 +8,15 @@ use Rattle.gnap_io.specs.declared.world.Opening.{Opening}
 use Rattle.gnap_io.specs.declared.world.Opening.TheVariants.{File}
 use Rattle.gnap_io.specs.Outside.{Told, Served, IsAtEnd, IsRest, Rose}
 use Rattle.gnap_io.specs.Worlds.{WorldState}
-use Rattle.gnap_io.specs.Openings.{Gives, GivesBack, gears_in, new_files}
+use Rattle.gnap_io.specs.Openings.{Gives, gears_in, new_files}
 use Rattle.gnap_io.proofs.OpeningLemmas.{gives-then, back-then, back-more}
 use Rattle.gnap_model.specs.declared.objects.Setup.{Setup}
 use Rattle.gnap_tool.specs.declared.ended.Ended.{Ended}
 use Rattle.gnap_tool.specs.declared.ended.Ended.TheVariants.{Done, NoSetup, Failed, WriteFault, Memory, Refused, TooLong}
 use Rattle.gnap_tool.specs.Ends.{CountsWrites}
-use Rattle.gnap_tool.specs.Replays.{setup_limit, setup_in}
+use Rattle.gnap_tool.specs.Replays.{setup_in}
 use Rattle.gnap_tool.specs.Setups.{GivesConfig, ended_by}
-use Rattle.gnap_tool.specs.Runs.{Over, Unopened, HasNoConfig, EndsWithoutConfig, Follows, BySetup, HasFailed, NothingFailed, IsCarriedOut, UsesWorld, new_openings}
+use Rattle.gnap_tool.specs.Runs.{Over, HasNoConfig, EndsWithoutConfig, Follows, BySetup, HasFailed, NothingFailed, IsCarriedOut, UsesWorld, new_openings}
 
 -- ---- how the reading of a setup ends
 

@@ -1,6 +1,6 @@
 -- A replay that goes on, and how it ends.
 use Rattle.std.proofs.Common.{◌≡◌, ◌∙◌, ℕ, ◌+◌, ◌<◌, ◌≤◌, ◌^◌, List, [], ◌∷◌, ◌++◌, length, refl, ap, sym, subst, arith, append_assoc, length-append, inl, inr}
-use Rattle.std.specs.Prelude.{true, false, Option, Some, IfSome}
+use Rattle.std.specs.Prelude.{true, false, Option, IfSome}
 use Rattle.std.proofs.lemmas.List.{append-nil}
 use Rattle.gnap_io.specs.Outside.{Told, IsAtEnd, IsRest, Writes, IsPrefix}
 use Rattle.gnap_io.proofs.Devices.{writes_none, writes_then}

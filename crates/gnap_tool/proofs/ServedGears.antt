@@ -1,11 +1,11 @@
 -- What serving at an address does to the world.
-use Rattle.std.proofs.Common.{◌≡◌, ◌≢◌, ◌∙◌, ℕ, ◌<◌, nat_lt, List, [], ◌∷◌, ◌++◌, length, refl, ap, sym, subst, arith, ◌⊎◌, inl, inr}
-use Rattle.std.specs.Prelude.{true, Option, Some, None, IsSome, All, Any, drop, Result, Ok, Err}
+use Rattle.std.proofs.Common.{◌≡◌, ◌≢◌, ◌∙◌, ℕ, nat_lt, List, [], ◌∷◌, length, refl, ap, sym, subst, ◌⊎◌, inl, inr}
+use Rattle.std.specs.Prelude.{true, None, IsSome, All, Any, drop, Result, Ok, Err}
 use Rattle.std.proofs.Math.Seq.{drop-length, drop-append_seam}
 use Rattle.std.proofs.lemmas.List.Elements.{All-nil}
 use Rattle.std.proofs.lemmas.List.Folds.{Any-from_list_any}
 use Rattle.gnap_io.specs.declared.world.Opening.{Opening}
-use Rattle.gnap_io.specs.declared.world.Opening.TheVariants.{File, Gears}
+use Rattle.gnap_io.specs.declared.world.Opening.TheVariants.{Gears}
 use Rattle.gnap_io.specs.declared.world.WorldFault.{WorldFault}
 use Rattle.gnap_io.specs.declared.world.WorldFault.TheVariants as faults
 use Rattle.gnap_io.specs.Outside.{Served, IsAtEnd}
@@ -14,7 +14,7 @@ use Rattle.gnap_io.specs.Worlds.{WorldState, with_opening, with_gears}
 use Rattle.gnap_io.specs.Openings.{Gives, gears_in, new_files}
 use Rattle.gnap_io.proofs.OpeningLemmas.{gives-gears, back-all}
 use Rattle.gnap_model.specs.declared.objects.Setup.{Setup}
-use Rattle.as_service.specs.Services.{has_failed, IsUsedUp, AreServed, IsEndOfService, IsService, not_started, served}
+use Rattle.as_service.specs.Services.{has_failed, IsUsedUp, IsService, not_started, served}
 use Rattle.gnap_tool.specs.declared.ended.Ended.{Ended}
 use Rattle.gnap_tool.specs.declared.ended.Ended.TheVariants.{Done, Failed, Memory}
 use Rattle.gnap_tool.specs.Runs.{ended_service, NothingFailed, UsesWorld, new_openings}

@@ -1,6 +1,6 @@
 -- What a command does to the world with one file, and what that says of its status.
-use Rattle.std.proofs.Common.{◌≡◌, ◌≢◌, ◌∙◌, ℕ, ◌+◌, ◌≤◌, ◌^◌, List, [], ◌∷◌, ◌++◌, length, refl, ap, sym, subst, arith, ◌⊎◌, inl, inr}
-use Rattle.std.specs.Prelude.{true, false, is_some, Option, Some, None, IsSome, All, Any, drop, min, slice_get}
+use Rattle.std.proofs.Common.{◌≡◌, ◌≢◌, ◌∙◌, ℕ, List, [], ◌∷◌, ◌++◌, length, refl, ap, sym, subst, arith, ◌⊎◌, inl, inr}
+use Rattle.std.specs.Prelude.{true, false, is_some, Option, Some, None, IsSome, All, Any, drop, slice_get}
 use Rattle.std.proofs.Math.Seq.{drop-length, drop-append_seam}
 use Rattle.std.proofs.lemmas.List.Elements.{All-nil, All-push}
 use Rattle.std.proofs.lemmas.List.Quantifiers.{Any-push}
@@ -17,7 +17,7 @@ use Rattle.gnap_tool.specs.declared.purpose.Purpose.TheVariants as purposes
 use Rattle.gnap_tool.specs.declared.ended.Ended.{Ended}
 use Rattle.gnap_tool.specs.declared.ended.Ended.TheVariants.{Done, NoSetup, Failed, WriteFault, Memory, Refused, TooLong}
 use Rattle.gnap_tool.specs.Ends.{CountsReads, Took, status_of}
-use Rattle.gnap_tool.specs.Runs.{CarriesOut, HasFailed, NothingFailed, InputTook, IsCarriedOut, AreReadToEnd, UsesWorld, new_openings, input_of}
+use Rattle.gnap_tool.specs.Runs.{CarriesOut, HasFailed, NothingFailed, InputTook, AreReadToEnd, UsesWorld, new_openings, input_of}
 
 -- ---- nothing was opened
 

@@ -1,5 +1,5 @@
 -- What the words of a command line mean, and what each command opens.
-use Rattle.std.specs.Prelude.{◌≡◌, ◌≤◌, ℕ, List, [], ◌∷◌, Bool, false, not, ◌&&◌, ◌==◌, codes, Option, Some, None, IsSome, option_map, option_and_then, Result, MatchResult, if◌then◌else◌}
+use Rattle.std.specs.Prelude.{◌≡◌, ◌≤◌, ℕ, List, [], ◌∷◌, Bool, false, not, ◌==◌, codes, Option, Some, None, IsSome, option_map, option_and_then, Result, MatchResult, if◌then◌else◌}
 use Rattle.std.specs.List.{list_all}
 use Rattle.std.specs.Str.{bytes_eq}
 use Rattle.gnap_io.specs.Gears.{last_moment}

@@ -1,4 +1,4 @@
-use Rattle.std.proofs.Common.{◌∙◌, ℕ, List, ◌∷◌, [], ◌++◌, Option, ap, sym, subst, inr, refl}
+use Rattle.std.proofs.Common.{◌∙◌, ℕ, ◌∷◌, [], ◌++◌, ap, subst, inr}
 use Rattle.gnap_io.specs.Outside.{Told, Leaves, served_of}
 use Rattle.gnap_io.specs.Worlds.{HasWorldCause}
 use Rattle.gnap_io.specs.declared.world.WorldFault.{WorldFault}

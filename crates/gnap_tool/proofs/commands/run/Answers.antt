@@ -1,6 +1,5 @@
 use Rattle.std.proofs.Common.{◌≡◌, ◌∙◌, ap, sym, subst, refl, inl, inr}
 use Rattle.std.specs.Prelude.{Option, Some, IsSome, IfSome}
-use Rattle.gnap_io.specs.Openings.{GivesBack}
 use Rattle.gnap_tool.specs.declared.command.Command.{Command}
 use Rattle.gnap_tool.specs.declared.ended.Ended.TheVariants.{Done, Memory, TooLong}
 use Rattle.gnap_tool.specs.Commands.{IsWithinRanges, openings_of, input_place}

@@ -1,4 +1,4 @@
-use Rattle.std.proofs.Common.{◌≡◌, ℕ, List, ◌∷◌, [], sym, subst, inl, inr, refl}
+use Rattle.std.proofs.Common.{◌≡◌, ◌∷◌, [], sym, subst, inl, inr, refl}
 use Rattle.std.specs.Prelude.{None}
 use Rattle.gnap_io.specs.Worlds.{WorldState}
 use Rattle.gnap_io.specs.declared.world.Opening.TheVariants.{File, Gears}

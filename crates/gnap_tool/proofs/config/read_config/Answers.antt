@@ -1,8 +1,6 @@
-use Rattle.std.proofs.Common.{◌∙◌, ℕ, List, ◌++◌, sym, subst, arith, refl}
-use Rattle.gnap_tool.specs.Reading.{held_by, Came}
+use Rattle.std.proofs.Common.{◌∙◌, ℕ, List, sym, subst}
+use Rattle.gnap_tool.specs.Reading.{Came}
 use Rattle.gnap_tool.proofs.Reading.{came-more}
-use Rattle.gnap_tool.proofs.Files.{leaves_taken}
-use Rattle.gnap_tool.proofs.Configs.{config_whole, config_long, config_failed, setup_reads}
 use Rattle.gnap_tool.proofs.config.read_config.Goals as goal
 
 pub loop-alloc-preserved : goal.loop-alloc-preserved

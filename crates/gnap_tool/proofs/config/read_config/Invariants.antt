@@ -1,4 +1,4 @@
-use Rattle.std.proofs.Common.{◌≡◌, ◌≤◌, ◌-◌, [], length}
+use Rattle.std.proofs.Common.{◌≡◌, ◌-◌, []}
 use Rattle.gnap_tool.specs.Reading.{held_by, Came}
 use Rattle.gnap_tool.proofs.config.read_config.Given as goal
 
