@@ -1,10 +1,10 @@
 use crate::tests::{fault_text, repeated};
 use crate::{
-    ObjectFault, Verdict, read_code, read_continue, read_decide, read_handle, read_rotate,
+    DecideRequest, ObjectFault, Verdict, read_code, read_continue, read_decide, read_handle,
+    read_rotate,
 };
 use gnap_io::bytes::Bytes;
 use json_objects::read_body;
-use serde_json::Value;
 use std::alloc::{AllocError, Global};
 use std::test::Fail;
 
@@ -15,23 +15,28 @@ fn shown(text: Option<&[u8]>) -> &str {
     }
 }
 
-fn decided(alloc: Global, value: &Value) -> Result<String, AllocError> {
-    match read_decide(alloc, value) {
-        Ok(decision) => {
-            let handle = shown(Some(decision.handle.as_slice()));
-            let verdict = match decision.verdict {
-                Verdict::Grant => "grant",
-                Verdict::Deny => "deny",
-                Verdict::Unknown => "unknown",
-            };
-            let rights = match &decision.rights {
-                Some(rights) => rights.len(),
-                None => 99,
-            };
-            let subject = shown(decision.subject.as_ref().map(|s| s.as_slice()));
-            format!(in alloc; "{handle} {verdict} {rights} {subject}")
-        }
-        Err(fault) => fault_text(alloc, fault),
+fn shown_decision(alloc: Global, decision: &DecideRequest) -> Result<String, AllocError> {
+    let handle = shown(Some(decision.handle.as_slice()));
+    let verdict = match decision.verdict {
+        Verdict::Grant => "grant",
+        Verdict::Deny => "deny",
+        Verdict::Unknown => "unknown",
+    };
+    let rights = match &decision.rights {
+        Some(rights) => rights.len(),
+        None => 99,
+    };
+    let subject = shown(decision.subject.as_ref().map(|s| s.as_slice()));
+    format!(in alloc; "{handle} {verdict} {rights} {subject}")
+}
+
+fn decided(alloc: Global, body: &str) -> Result<String, AllocError> {
+    match read_body(alloc, body.as_bytes()) {
+        Ok(value) => match read_decide(alloc, &value) {
+            Ok(decision) => shown_decision(alloc, &decision),
+            Err(fault) => fault_text(alloc, fault),
+        },
+        Err(_) => String::from_str(alloc, "no body"),
     }
 }
 
@@ -47,6 +52,9 @@ fn optional_answer(
 
 // What is read of the body of such a call; the empty text is no body.
 fn answer(alloc: Global, call: &str, body: &str) -> Result<String, AllocError> {
+    if call == "decide" {
+        return decided(alloc, body);
+    }
     let value = read_body(alloc, body.as_bytes()).ok();
     match (call, &value) {
         ("continue", body) => optional_answer(
@@ -59,7 +67,6 @@ fn answer(alloc: Global, call: &str, body: &str) -> Result<String, AllocError> {
             Ok(code) => String::from_str(alloc, shown(Some(code.as_slice()))),
             Err(fault) => fault_text(alloc, fault),
         },
-        ("decide", Some(body)) => decided(alloc, body),
         _ => String::from_str(alloc, "no body"),
     }
 }

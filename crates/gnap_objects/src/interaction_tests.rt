@@ -44,6 +44,74 @@ fn answer(alloc: Global, body: &str, modify: bool) -> Result<String, AllocError>
     }
 }
 
+// What is read of a modification with this member `interact`.
+fn offered(alloc: Global, interact: &str) -> Result<String, AllocError> {
+    let body = format!(in alloc;
+        "{{\"access_token\":{{\"access\":[\"p\"]}},\"client\":1,\"interact\":{interact}}}"
+    )?;
+    answer(alloc, body.as_str(), true)
+}
+
+fn is_read_as(alloc: Global, interact: &str, wanted: &str) -> Result<bool, AllocError> {
+    let found = offered(alloc, interact)?;
+    let whole = format!(in alloc; "false; none; {wanted}")?;
+    Ok(found.as_str() == wanted || found.as_str() == whole.as_str())
+}
+
+// Members `interact`, and what is read of each, or its first fault.
+const OFFERS: [(&str, &str); 17] = [
+    (r#"{"start":[]}"#, "false false false"),
+    (
+        r#"{"hints":1,"start":["app","redirect"]}"#,
+        "true false false",
+    ),
+    (
+        r#"{"start":["user_code_uri","user_code"]}"#,
+        "false true true",
+    ),
+    (
+        r#"{"finish":{"hash_method":"sha-512","method":"push","nonce":"VJLO","uri":"http://c.example"},"start":["user_code_uri"]}"#,
+        "false false true, true http://c.example VJLO true",
+    ),
+    ("[]", "wrong interact"),
+    (r#"{"finish":1}"#, "missing start"),
+    (r#"{"finish":1,"start":{}}"#, "wrong start"),
+    (
+        r#"{"finish":1,"start":["redirect",{"mode":"x"}]}"#,
+        "wrong start",
+    ),
+    (r#"{"finish":1,"start":[]}"#, "wrong finish"),
+    (r#"{"finish":{"uri":1},"start":[]}"#, "missing method"),
+    (
+        r#"{"finish":{"method":"post","uri":1},"start":[]}"#,
+        "wrong method",
+    ),
+    (
+        r#"{"finish":{"method":"push","nonce":1},"start":[]}"#,
+        "missing uri",
+    ),
+    (
+        r#"{"finish":{"method":"push","nonce":1,"uri":""},"start":[]}"#,
+        "wrong uri",
+    ),
+    (
+        r#"{"finish":{"method":"push","nonce":1,"uri":"ftp://c.example"},"start":[]}"#,
+        "wrong uri",
+    ),
+    (
+        r#"{"finish":{"method":"push","nonce":1,"uri":"https://c.example/#f"},"start":[]}"#,
+        "wrong uri",
+    ),
+    (
+        r#"{"finish":{"hash_method":1,"method":"push","uri":"https://c.example"},"start":[]}"#,
+        "missing nonce",
+    ),
+    (
+        r#"{"finish":{"hash_method":"sha-384","method":"push","nonce":"n","uri":"https://c.example"},"start":[]}"#,
+        "wrong hash_method",
+    ),
+];
+
 const FINISH: &str = r#""method":"redirect","nonce":"n","uri":"https://c.example/back?a=1""#;
 
 #[test]
@@ -107,67 +175,9 @@ fn a_grant_request_may_ask_for_the_user(rt: HostRuntime) -> Result<(), Fail> {
 
 #[test]
 fn a_grant_request_may_offer_an_interaction(rt: HostRuntime) -> Result<(), Fail> {
-    for (interact, wanted) in [
-        (r#"{"start":[]}"#, "false false false"),
-        (
-            r#"{"hints":1,"start":["app","redirect"]}"#,
-            "true false false",
-        ),
-        (
-            r#"{"start":["user_code_uri","user_code"]}"#,
-            "false true true",
-        ),
-        (
-            r#"{"finish":{"hash_method":"sha-512","method":"push","nonce":"VJLO","uri":"http://c.example"},"start":["user_code_uri"]}"#,
-            "false false true, true http://c.example VJLO true",
-        ),
-        ("[]", "wrong interact"),
-        (r#"{"finish":1}"#, "missing start"),
-        (r#"{"finish":1,"start":{}}"#, "wrong start"),
-        (
-            r#"{"finish":1,"start":["redirect",{"mode":"x"}]}"#,
-            "wrong start",
-        ),
-        (r#"{"finish":1,"start":[]}"#, "wrong finish"),
-        (r#"{"finish":{"uri":1},"start":[]}"#, "missing method"),
-        (
-            r#"{"finish":{"method":"post","uri":1},"start":[]}"#,
-            "wrong method",
-        ),
-        (
-            r#"{"finish":{"method":"push","nonce":1},"start":[]}"#,
-            "missing uri",
-        ),
-        (
-            r#"{"finish":{"method":"push","nonce":1,"uri":""},"start":[]}"#,
-            "wrong uri",
-        ),
-        (
-            r#"{"finish":{"method":"push","nonce":1,"uri":"ftp://c.example"},"start":[]}"#,
-            "wrong uri",
-        ),
-        (
-            r#"{"finish":{"method":"push","nonce":1,"uri":"https://c.example/#f"},"start":[]}"#,
-            "wrong uri",
-        ),
-        (
-            r#"{"finish":{"hash_method":1,"method":"push","uri":"https://c.example"},"start":[]}"#,
-            "missing nonce",
-        ),
-        (
-            r#"{"finish":{"hash_method":"sha-384","method":"push","nonce":"n","uri":"https://c.example"},"start":[]}"#,
-            "wrong hash_method",
-        ),
-    ] {
-        let body = format!(in rt.alloc();
-            "{{\"access_token\":{{\"access\":[\"p\"]}},\"client\":1,\"interact\":{interact}}}"
-        )?;
-        let found = answer(rt.alloc(), body.as_str(), true)?;
-        let whole = format!(in rt.alloc(); "false; none; {wanted}")?;
-        assert!(rt;
-            found.as_str() == wanted || found.as_str() == whole.as_str(),
-            "{interact}: {found}"
-        );
+    for (interact, wanted) in OFFERS {
+        let as_wanted = is_read_as(rt.alloc(), interact, wanted)?;
+        assert!(rt; as_wanted);
     }
     let body = format!(in rt.alloc();
         "{{\"access_token\":{{\"access\":[\"p\"]}},\"client\":\"c\",\"interact\":{{\"finish\":{{{FINISH}}},\"start\":[\"redirect\"]}}}}"
