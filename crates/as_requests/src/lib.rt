@@ -17,6 +17,4 @@ pub use edge::Edge;
 pub use routes::{Purpose, Route};
 
 #[cfg(test)]
-mod later_calls_tests;
-#[cfg(test)]
 mod tests;

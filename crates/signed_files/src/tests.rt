@@ -1,6 +1,10 @@
 //! Files that are signed, verified and refused. The signatures are those of Python's hmac and hashlib.
+ghost use Rattle.std.specs.Prelude.{◌≡◌, [], IfOk};
+ghost use Rattle.gnap_objects.specs.Setups.{IsSetup};
+
 use crate::{FileFault, sign_file, verify_file};
 use gnap_io::bytes::Bytes;
+use gnap_io::device::Device;
 use gnap_io::memory::Mem;
 use gnap_io::memory_devices::MemSource;
 use gnap_objects::{Setup, read_setup};
@@ -39,26 +43,33 @@ const WITH_VALUE: &[u8] =
 const VALUE_SIGNED: &[u8] =
     b"POST /continue HTTP/1.1\r\nhost: as.example\r\nauthorization: GNAP V1\r\nsignature-input: sig1=(\"@method\" \"@target-uri\" \"authorization\");created=7;keyid=\"c1\";tag=\"gnap\"\r\nsignature: sig1=:xbkJIGmCnGVCjSlyDlv/B1cjoVMayCl1vYg3+tPeXT4=:\r\n\r\n";
 
-// The setup, and a source with this text.
-fn given(alloc: Global, text: &[u8], bad_read: u64) -> Result<(Setup, MemSource), Mem> {
-    let Ok(setup) = read_setup(alloc, SETUP) else {
-        return Err(Mem);
-    };
+fn setup(alloc: Global) -> Result<Setup, Mem>
+    ensures { IfOk result IsSetup }
+{
+    match read_setup(alloc, SETUP) {
+        Ok(setup) => Ok(setup),
+        Err(_) => Err(Mem),
+    }
+}
+
+// A source with this text, whose read of this number, counted from 1, fails.
+fn source(alloc: Global, text: &[u8], bad_read: u64) -> Result<MemSource, Mem>
+    ensures { IfOk result (λ source. (⟦<MemSource as Device>⟧.told source).taken ≡ []) }
+{
     let text = Bytes::from_slice(alloc, text)?;
-    Ok((
-        setup,
-        MemSource::new(text, Vec::from_slice(alloc, &[bad_read])?),
-    ))
+    Ok(MemSource::new(text, Vec::from_slice(alloc, &[bad_read])?))
 }
 
 fn signed(alloc: Global, id: &[u8], created: u64, text: &[u8]) -> Result<Bytes, FileFault> {
-    let (setup, mut source) = given(alloc, text, 0)?;
+    let setup = setup(alloc)?;
+    let mut source = source(alloc, text, 0)?;
     let id = Bytes::from_slice(alloc, id)?;
     sign_file(alloc, &setup, &id, created.min(9_999), &mut source)
 }
 
 fn verified(alloc: Global, now: u64, text: &[u8], bad_read: u64) -> Result<Bytes, FileFault> {
-    let (setup, mut source) = given(alloc, text, bad_read)?;
+    let setup = setup(alloc)?;
+    let mut source = source(alloc, text, bad_read)?;
     verify_file(alloc, &setup, now, &mut source)
 }
 
