@@ -44,20 +44,24 @@ line_of m base item others = do
   value ← if is_named name others then None else component m base name
   Some (base_line name value ++ 10 ∷ [])
 
--- the lines of the covered components
-unfoldable pub base_lines : Message → List ℕ → List Item → Option (List ℕ)
-base_lines m base [] = Some []
-base_lines m base (item ∷ items) = do
-  line ← line_of m base item items
-  lines ← base_lines m base items
-  Some (line ++ lines)
-
 -- the line of the signature's parameters: the canonical text of the whole inner list
 abbrev pub params_line : InnerList → List ℕ
 params_line list = base_line (codes "@signature-params") (inner_text list)
 
--- The signature base of a message to the server with this base, under this list of covered components. None where it isn't supported.
+-- the base whose lines `line` makes, each of a component and of those behind it
+module _ (line : Item → List Item → Option (List ℕ)) where
+  unfoldable pub base_lines : List Item → Option (List ℕ)
+  base_lines [] = Some []
+  base_lines (item ∷ items) = do
+    first ← line item items
+    others ← base_lines items
+    Some (first ++ others)
+
+  unfoldable pub base_by : InnerList → Option (List ℕ)
+  base_by list = do
+    lines ← base_lines list.items
+    Some (lines ++ params_line list)
+
+-- The signature base of a message to the server with this base. None where the line of a covered component isn't there.
 unfoldable pub signature_base : Message → List ℕ → InnerList → Option (List ℕ)
-signature_base m base list = do
-  lines ← base_lines m base list.items
-  Some (lines ++ params_line list)
+signature_base m base list = base_by (line_of m base) list

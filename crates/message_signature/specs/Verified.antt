@@ -165,10 +165,9 @@ tagged m tag = do
   both ← signature_fields m
   tagged_in tag both.0 both.1
 
--- the id of the key that signed the message to the server with this base, under this list and at this time
-unfoldable pub judged : Message → List ℕ → List (List ℕ × List ℕ) → ℕ → InnerList × List ℕ → Result (List ℕ) SigFault
-judged m base ring now one = do
-  text ← need Unsupported (signature_base m base one.0)
+-- the id of the key that signed this base, the one of the message under the list, at this time
+unfoldable pub judged_over : Message → List (List ℕ × List ℕ) → ℕ → InnerList × List ℕ → List ℕ → Result (List ℕ) SigFault
+judged_over m ring now one text = do
   _ ← must Uncovered (covers_enough m one.0)
   _ ← must Created (is_in_window now (value_at one.0.params (codes "created")))
   _ ← must Expired (is_not_expired now (value_at one.0.params (codes "expires")))
@@ -177,6 +176,12 @@ judged m base ring now one = do
   _ ← must Differs (bytes_eq one.1 (hmac_sha256 key.1 text))
   _ ← must Digest (has_right_digest m)
   Ok key.0
+
+-- the same of the message to the server with this base
+unfoldable pub judged : Message → List ℕ → List (List ℕ × List ℕ) → ℕ → InnerList × List ℕ → Result (List ℕ) SigFault
+judged m base ring now one = do
+  text ← need Unsupported (signature_base m base one.0)
+  judged_over m ring now one text
 
 -- The id of the key, or the first fault.
 unfoldable pub verified : Message → List ℕ → List (List ℕ × List ℕ) → ℕ → List ℕ → Result (List ℕ) SigFault
