@@ -350,20 +350,33 @@ fn answer_in(reply: &Reply) -> Came {
     }
 }
 
-fn modification(alloc: Global) -> Result<GrantRequest, Mem>
-    ensures { IfOk result (λ request. (length request.asks ≤ 8) × AllByRecursion AskFits request.asks × (request.modes ≡ None)) }
+fn photos_alone(alloc: Global) -> Result<Asks, Mem>
+    ensures { IfOk result (λ asks. (length asks ≤ 8) × AllByRecursion AskFits asks) }
 {
     let mut asks = Seq::new(alloc);
     asks.push(ask(alloc, "photos", None, false)?)?;
-    Ok(GrantRequest {
-        asks,
-        single: true,
-        subject: false,
-        client: None,
-        by_object: false,
-        user: None,
-        modes: None,
-    })
+    Ok(asks)
+}
+
+fn modification(key: Bytes, value: Bytes, asks: Asks) -> Call
+    requires key { IsUtf8 key }
+    requires few { length asks ≤ 8 }
+    requires fit { AllByRecursion AskFits asks }
+    ensures { GnapFits result × (result ≢ Lapse) }
+{
+    Call::Modify {
+        key,
+        value,
+        request: GrantRequest {
+            asks,
+            single: true,
+            subject: false,
+            client: None,
+            by_object: false,
+            user: None,
+            modes: None,
+        },
+    }
 }
 
 fn presenting(alloc: Global, wish: Wish, value: &[u8; 32]) -> Result<Call, Mem>
@@ -372,35 +385,40 @@ fn presenting(alloc: Global, wish: Wish, value: &[u8; 32]) -> Result<Call, Mem>
 {
     let key = text(alloc, "c1")?;
     let value = Bytes::from_slice(alloc, value)?;
-    Ok(match wish {
-        Wish::Poll => Call::Continue {
+    match wish {
+        Wish::Poll => Ok(Call::Continue {
             key,
             value,
             reference: None,
-        },
-        Wish::Refer => Call::Continue {
-            key,
-            value,
-            reference: Some(text(alloc, "r")?),
-        },
-        Wish::Modify => Call::Modify {
-            key,
-            value,
-            request: modification(alloc)?,
-        },
-        Wish::Cancel => Call::Cancel { key, value },
-        Wish::Rotate => Call::Rotate {
+        }),
+        Wish::Refer => {
+            let reference = Some(text(alloc, "r")?);
+            Ok(Call::Continue {
+                key,
+                value,
+                reference,
+            })
+        }
+        Wish::Modify => {
+            let asks = photos_alone(alloc)?;
+            Ok(modification(key, value, asks))
+        }
+        Wish::Cancel => Ok(Call::Cancel { key, value }),
+        Wish::Rotate => Ok(Call::Rotate {
             key,
             value,
             new_key: None,
-        },
-        Wish::RotateKey => Call::Rotate {
-            key,
-            value,
-            new_key: Some(text(alloc, "c2")?),
-        },
-        Wish::Revoke => Call::Revoke { key, value },
-    })
+        }),
+        Wish::RotateKey => {
+            let new_key = Some(text(alloc, "c2")?);
+            Ok(Call::Rotate {
+                key,
+                value,
+                new_key,
+            })
+        }
+        Wish::Revoke => Ok(Call::Revoke { key, value }),
+    }
 }
 
 fn present(
