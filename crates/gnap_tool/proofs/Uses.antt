@@ -1,4 +1,4 @@
--- What a command that has one file does to the world.
+-- What a command does to the world with one file, and what that says of its status.
 use Rattle.std.proofs.Common.{◌≡◌, ◌≢◌, ◌∙◌, ℕ, ◌+◌, ◌≤◌, ◌^◌, List, [], ◌∷◌, ◌++◌, length, refl, ap, sym, subst, arith, ◌⊎◌, inl, inr}
 use Rattle.std.specs.Prelude.{true, false, is_some, Option, Some, None, IsSome, All, Any, drop, min, slice_get}
 use Rattle.std.proofs.Math.Seq.{drop-length, drop-append_seam}
@@ -6,16 +6,18 @@ use Rattle.std.proofs.lemmas.List.Elements.{All-nil, All-push}
 use Rattle.std.proofs.lemmas.List.Quantifiers.{Any-push}
 use Rattle.gnap_io.specs.declared.world.Opening.{Opening}
 use Rattle.gnap_io.specs.declared.world.Opening.TheVariants.{File}
-use Rattle.gnap_io.specs.Outside.{Told, Served, Rose}
+use Rattle.gnap_io.specs.Outside.{Told, Served, IsAtEnd, Rose}
 use Rattle.gnap_io.specs.Worlds.{WorldState, with_opened, with_returned}
 use Rattle.gnap_io.specs.Openings.{Gives, GivesBack, gears_in, new_files}
 use Rattle.gnap_io.proofs.OpeningLemmas.{gives-none, gives-file, back-all}
 use Rattle.gnap_tool.specs.declared.command.Command.{Command}
-use Rattle.gnap_tool.specs.declared.command.Command.TheVariants.{Replay, Field}
+use Rattle.gnap_tool.specs.declared.command.Command.TheVariants.{Replay, Field, Sign, Verify}
+use Rattle.gnap_tool.specs.declared.purpose.Purpose.{Purpose}
+use Rattle.gnap_tool.specs.declared.purpose.Purpose.TheVariants as purposes
 use Rattle.gnap_tool.specs.declared.ended.Ended.{Ended}
-use Rattle.gnap_tool.specs.declared.ended.Ended.TheVariants.{Done, NoSetup, Failed, WriteFault, Memory, NotInGrammar, TooLong}
+use Rattle.gnap_tool.specs.declared.ended.Ended.TheVariants.{Done, NoSetup, Failed, WriteFault, Memory, Refused, TooLong}
 use Rattle.gnap_tool.specs.Ends.{CountsReads, Took, status_of}
-use Rattle.gnap_tool.specs.Runs.{CarriesOut, HasFailed, NothingFailed, InputTook, IsCarriedOut, UsesWorld, new_openings}
+use Rattle.gnap_tool.specs.Runs.{CarriesOut, HasFailed, NothingFailed, InputTook, IsCarriedOut, AreReadToEnd, UsesWorld, new_openings, input_of}
 
 -- ---- nothing was opened
 
@@ -46,6 +48,8 @@ unopened_failed openings input before after same rose = record {
   failed = λ is. inl rose;
   sound = λ isnt. absurd (isnt refl);
   took = λ place is file found. tt;
+  limited = λ is. absurd cc;
+  to_end = λ is. absurd cc;
 }
 
 pub unopened_starved : (openings : List Opening) (input : Option ℕ) (before after : WorldState) → after ≡ record before { faults = after.faults }
@@ -56,6 +60,8 @@ unopened_starved openings input before after same count = record {
   failed = λ is. absurd cc;
   sound = λ isnt. unopened_sound before after same count;
   took = λ place is file found. tt;
+  limited = λ is. absurd cc;
+  to_end = λ is. absurd cc;
 }
 
 -- ---- a file was opened and given back
@@ -69,11 +75,13 @@ counts_zero (NoSetup why) faults isnt counts = counts
 counts_zero Failed faults isnt counts = absurd (isnt refl)
 counts_zero WriteFault faults isnt counts = counts
 counts_zero Memory faults isnt counts = counts
-counts_zero NotInGrammar faults isnt counts = counts
+counts_zero Refused faults isnt counts = counts
 counts_zero TooLong faults isnt counts = counts
 
 module _ (name : List ℕ) (file : Served) (before open_now after : WorldState) (ended : Ended) (open_is : open_now ≡ with_opened (File name) before)
-    (back : after ≡ with_returned file open_now) (counts : CountsReads ended 0 file.faults) (took : Took ended file.told) where
+    (back : after ≡ with_returned file open_now) (counts : CountsReads ended 0 file.faults) (input : Option ℕ)
+    (first : (place : ℕ) → input ≡ Some place → place ≡ 0) (took : IsSome input → Took ended file.told)
+    (limited : ended ≡ TooLong → IsSome input) (end : ended ≡ Done → IsAtEnd file.told) where
   files_are : after.files ≡ before.files ++ file ∷ []
   files_are = ap (λ (s : WorldState). s.files) back ∙ ap (λ (s : WorldState). s.files ++ file ∷ []) open_is
 
@@ -92,15 +100,18 @@ module _ (name : List ℕ) (file : Served) (before open_now after : WorldState) 
   gives : Gives (File name ∷ []) before after
   gives = gives-file name file before open_now after open_is back
 
-  took_at : (files : List Served) (place : ℕ) → files ≡ file ∷ [] → Some 0 ≡ Some place → (other : Served) → slice_get files place ≡ Some other → Took ended other.told
-  took_at files place are is other found =
-      let at : place ≡ 0 = cc in
-      let first : slice_get files place ≡ Some file = ap (λ n. slice_get files n) at ∙ ap (λ fs. slice_get fs 0) are in
-      let both : Some file ≡ Some other = sym first ∙ found in
-      let same : file ≡ other = cc in
-      subst (λ (f : Served). Took ended f.told) same took
+  is_input : (place : ℕ) → input ≡ Some place → IsSome input
+  is_input place is = subst (λ (o : Option ℕ). IsSome o) (sym is) refl
 
-  pub opened_used : UsesWorld (File name ∷ []) (Some 0) before after ended
+  took_at : (files : List Served) (place : ℕ) → files ≡ file ∷ [] → input ≡ Some place → (other : Served) → slice_get files place ≡ Some other → Took ended other.told
+  took_at files place are is other found =
+      let at : place ≡ 0 = first place is in
+      let first_is : slice_get files place ≡ Some file = ap (λ n. slice_get files n) at ∙ ap (λ fs. slice_get fs 0) are in
+      let both : Some file ≡ Some other = sym first_is ∙ found in
+      let same : file ≡ other = cc in
+      subst (λ (f : Served). Took ended f.told) same (took (is_input place is))
+
+  pub opened_used : UsesWorld (File name ∷ []) input before after ended
   opened_used = record {
     given_back = back-all (File name ∷ []) before after gives;
     all = λ done. gives;
@@ -113,7 +124,17 @@ module _ (name : List ℕ) (file : Served) (before open_now after : WorldState) 
       doors = λ some. absurd (no_gears (new_openings before after) (ap gears_in new_opening) some);
     };
     took = λ place is other found. took_at (new_files before after) place new_file is other found;
+    limited = limited;
+    to_end = λ is. subst (All (λ (f : Served). IsAtEnd f.told)) (sym new_file)
+        (All-push (λ (f : Served). IsAtEnd f.told) [] file (All-nil (λ (f : Served). IsAtEnd f.told)) (end is));
   }
+
+-- the place of a purpose's input is the first
+pub first_input : (purpose : Purpose) (place : ℕ) → input_of purpose ≡ Some place → place ≡ 0
+first_input purposes.Replay place is = cc
+first_input (purposes.Field kind) place is = cc
+first_input (purposes.Sign setup key created) place is = absurd cc
+first_input (purposes.Verify setup now) place is = absurd cc
 
 -- ---- what statuses say
 
@@ -124,30 +145,42 @@ failed_at_4 openings input before after Done uses is = absurd cc
 failed_at_4 openings input before after (NoSetup why) uses is = absurd cc
 failed_at_4 openings input before after WriteFault uses is = absurd cc
 failed_at_4 openings input before after Memory uses is = absurd cc
-failed_at_4 openings input before after NotInGrammar uses is = absurd cc
+failed_at_4 openings input before after Refused uses is = absurd cc
 failed_at_4 openings input before after TooLong uses is = absurd cc
 
 pub full_at_8 : (openings : List Opening) (input : Option ℕ) (before after : WorldState) (ended : Ended) → UsesWorld openings input before after ended
-    → status_of ended ≡ 8 → InputTook TooLong input before after
-full_at_8 openings input before after TooLong uses is = uses.took
+    → status_of ended ≡ 8 → IsSome input × InputTook TooLong input before after
+full_at_8 openings input before after TooLong uses is = (uses.limited refl, uses.took)
 full_at_8 openings input before after Done uses is = absurd cc
 full_at_8 openings input before after (NoSetup why) uses is = absurd cc
 full_at_8 openings input before after WriteFault uses is = absurd cc
 full_at_8 openings input before after Memory uses is = absurd cc
-full_at_8 openings input before after NotInGrammar uses is = absurd cc
+full_at_8 openings input before after Refused uses is = absurd cc
 full_at_8 openings input before after Failed uses is = absurd cc
 
 pub whole_at_0 : (openings : List Opening) (input : Option ℕ) (before after : WorldState) (ended : Ended) → UsesWorld openings input before after ended
     → (status_of ended ≡ 0) ⊎ (status_of ended ≡ 7) → InputTook Done input before after
 whole_at_0 openings input before after Done uses is = uses.took
-whole_at_0 openings input before after NotInGrammar uses is = uses.took
+whole_at_0 openings input before after Refused uses is = uses.took
 whole_at_0 openings input before after (NoSetup why) uses is = elim is [ inl bad ↦ absurd cc | inr bad ↦ absurd cc ]
 whole_at_0 openings input before after WriteFault uses is = elim is [ inl bad ↦ absurd cc | inr bad ↦ absurd cc ]
 whole_at_0 openings input before after Memory uses is = elim is [ inl bad ↦ absurd cc | inr bad ↦ absurd cc ]
 whole_at_0 openings input before after Failed uses is = elim is [ inl bad ↦ absurd cc | inr bad ↦ absurd cc ]
 whole_at_0 openings input before after TooLong uses is = elim is [ inl bad ↦ absurd cc | inr bad ↦ absurd cc ]
 
+pub to_end_at_0 : (openings : List Opening) (input : Option ℕ) (before after : WorldState) (ended : Ended) → UsesWorld openings input before after ended
+    → status_of ended ≡ 0 → AreReadToEnd before after
+to_end_at_0 openings input before after Done uses is = uses.to_end refl
+to_end_at_0 openings input before after (NoSetup why) uses is = absurd cc
+to_end_at_0 openings input before after Failed uses is = absurd cc
+to_end_at_0 openings input before after WriteFault uses is = absurd cc
+to_end_at_0 openings input before after Memory uses is = absurd cc
+to_end_at_0 openings input before after Refused uses is = absurd cc
+to_end_at_0 openings input before after TooLong uses is = absurd cc
+
 -- where memory ran out before anything was opened
 pub starved_carries : (command : Command) (text : List ℕ → Option (List ℕ)) (world : WorldState) (out : Told) → CarriesOut command text world world out out Memory
 starved_carries (Replay file) text world out = inl (refl, (refl, inr refl))
 starved_carries (Field kind file) text world out = inl (refl, (refl, inr refl))
+starved_carries (Sign config key created file) text world out = inl (refl, (refl, inr refl))
+starved_carries (Verify config now file) text world out = inl (refl, (refl, inr refl))

@@ -13,7 +13,7 @@ use Rattle.gnap_history.specs.Gnap.{GnapEntry, gnap}
 use Rattle.gnap_history.specs.Laws.{WhatHolds}
 use Rattle.gnap_tool.specs.declared.call_lines.LineStep.TheVariants.{Say, Ask}
 use Rattle.gnap_tool.specs.declared.ended.Ended.{Ended}
-use Rattle.gnap_tool.specs.declared.ended.Ended.TheVariants.{Done, NoSetup, Failed, WriteFault, Memory, NotInGrammar, TooLong}
+use Rattle.gnap_tool.specs.declared.ended.Ended.TheVariants.{Done, NoSetup, Failed, WriteFault, Memory, Refused, TooLong}
 use Rattle.gnap_tool.specs.CallLines.{line_step}
 use Rattle.gnap_tool.specs.Lines.{IsLine, lines_of, whole_lines}
 use Rattle.gnap_tool.specs.ReplyLines.{reply_line}
@@ -41,7 +41,7 @@ IsLineTurn setup = IsTurn gnap line_face setup false
 abbrev pub EndsAs : Ended → List LineTurn → List (List ℕ) → List (List ℕ) → List ℕ → Type 0
 EndsAs Done turns whole later sent = AllOn turns × (later ≡ []) × (sent ≡ bytes_in turns)
 EndsAs (NoSetup why) turns whole later sent = ⊥
-EndsAs NotInGrammar turns whole later sent = ⊥
+EndsAs Refused turns whole later sent = ⊥
 EndsAs WriteFault turns whole later sent = (front : List LineTurn) × (last : LineTurn) × OneMore AllOn turns front last × Cut sent (bytes_in front) last.bytes
 EndsAs Memory turns whole later sent = (sent ≡ bytes_in turns) × (AllOn turns ⊎ ((front : List LineTurn) × (last : LineTurn) × OneMore AllOn turns front last))
 EndsAs Failed turns whole later sent = AllOn turns × (sent ≡ bytes_in turns) × (whole ≡ messages_in turns)
@@ -95,7 +95,7 @@ EndsWithoutSetup Memory taken = Unit {0}
 EndsWithoutSetup Failed taken = IsLine taken × (length taken ≤ setup_limit)
 EndsWithoutSetup Done taken = ⊥
 EndsWithoutSetup WriteFault taken = ⊥
-EndsWithoutSetup NotInGrammar taken = ⊥
+EndsWithoutSetup Refused taken = ⊥
 EndsWithoutSetup TooLong taken = ⊥
 
 -- A file was replayed of which these bytes were taken, and which has this rest. By the setup that its first line is the lines after it were

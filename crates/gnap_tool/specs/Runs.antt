@@ -1,17 +1,24 @@
 -- How a run of a command ends, and what it did.
-use Rattle.std.specs.Prelude.{◌≡◌, ◌≢◌, ◌⊎◌, ℕ, List, [], ◌∷◌, ◌++◌, Any, All, length, drop, slice_get, Option, Some, None, IsSome}
+use Rattle.std.specs.Prelude.{◌≡◌, ◌≢◌, ◌<◌, ◌≤◌, ◌^◌, ◌⊎◌, ℕ, List, [], ◌∷◌, ◌++◌, Any, All, length, drop, slice_get, Option, Some, None, IsSome, Result, Err}
 use Rattle.std.specs.Io.BufRead.{strip_last}
-use Rattle.gnap_io.specs.Outside.{Told, Served, Leaves, IsRest, Rose}
+use Rattle.gnap_io.specs.Outside.{Told, Served, Leaves, IsAtEnd, IsRest, Rose}
 use Rattle.gnap_io.specs.declared.world.Opening.{Opening}
 use Rattle.gnap_io.specs.Worlds.{WorldState}
 use Rattle.gnap_io.specs.Openings.{Gives, GivesBack, gears_in, new_files}
 use Rattle.gnap_tool.specs.declared.command.Command.{Command}
-use Rattle.gnap_tool.specs.declared.command.Command.TheVariants.{Replay, Field}
+use Rattle.gnap_tool.specs.declared.command.Command.TheVariants.{Replay, Field, Sign, Verify}
+use Rattle.gnap_tool.specs.declared.purpose.Purpose.{Purpose}
+use Rattle.gnap_tool.specs.declared.purpose.Purpose.TheVariants as purposes
 use Rattle.gnap_tool.specs.declared.ended.Ended.{Ended}
-use Rattle.gnap_tool.specs.declared.ended.Ended.TheVariants.{Done, Failed, Memory, NotInGrammar}
+use Rattle.gnap_tool.specs.declared.ended.Ended.TheVariants.{Done, NoSetup, Failed, WriteFault, Memory, Refused, TooLong}
 use Rattle.gnap_tool.specs.Ends.{status_of, Took}
 use Rattle.gnap_tool.specs.Fields.{PrintsField}
-use Rattle.gnap_tool.specs.Replays.{ReplaysFile}
+use Rattle.gnap_tool.specs.Printing.{PrintsFor}
+use Rattle.gnap_tool.specs.Replays.{ReplaysFile, setup_limit, setup_in}
+use Rattle.signed_files.specs.SignedText.{SignsFile}
+use Rattle.signed_files.specs.Verdicts.{VerifiesFile}
+use Rattle.gnap_model.specs.declared.objects.Setup.{Setup}
+use Rattle.gnap_objects.specs.Setups.{IsSetup}
 
 -- A file was to be opened. It wasn't, and that is all; or the world has it back. Then its text, where that was known, is what was taken of it and
 -- what is left, and P holds of what was taken and of each rest that may be left.
@@ -25,17 +32,69 @@ Over text before after Unopened P =
 abbrev pub Unopened : Told → Told → Ended → Type 0
 Unopened before after ended = (after ≡ before) × ((ended ≡ Failed) ⊎ (ended ≡ Memory))
 
--- What a command says to the text of its file, of which these bytes were taken, and which has this rest.
-abbrev pub Answers : Command → List ℕ → List ℕ → Told → Told → Ended → Type 0
-Answers (Replay file) taken rest out out_now ended = ReplaysFile taken rest out out_now ended
-Answers (Field kind file) taken rest out out_now ended = PrintsField kind (strip_last 10 (taken ++ rest)) out out_now ended
+-- What a file is used for, of which these bytes were taken, and which has this rest.
+abbrev pub Answers : Purpose → List ℕ → List ℕ → Told → Told → Ended → Type 0
+Answers purposes.Replay taken rest out out_now ended = ReplaysFile taken rest out out_now ended
+Answers (purposes.Field kind) taken rest out out_now ended = PrintsField kind (strip_last 10 (taken ++ rest)) out out_now ended
+Answers (purposes.Sign setup key created) taken rest out out_now ended = PrintsFor (SignsFile setup.now key.now created (taken ++ rest)) out out_now ended
+Answers (purposes.Verify setup now) taken rest out out_now ended = PrintsFor (VerifiesFile setup.now now (taken ++ rest)) out out_now ended
+
+-- The setup of a purpose is one that was read, and what is signed is created at a moment.
+abbrev pub IsValid : Purpose → Type 0
+IsValid purposes.Replay = Unit {0}
+IsValid (purposes.Field kind) = Unit {0}
+IsValid (purposes.Sign setup key created) = IsSetup setup.now × (created < 10 ^ 15)
+IsValid (purposes.Verify setup now) = Unit {0}
+
+-- where the file of a purpose stands among the inputs that may be too long
+abbrev pub input_of : Purpose → Option ℕ
+input_of purposes.Replay = Some 0
+input_of (purposes.Field kind) = Some 0
+input_of (purposes.Sign setup key created) = None
+input_of (purposes.Verify setup now) = None
+
+-- ---- a setup in a file of its own, before what follows
+
+-- without a file there is no setup, for a fault or for want of memory
+abbrev pub HasNoConfig : Result Setup Ended → Type 0
+HasNoConfig result = (result ≡ Err Failed) ⊎ (result ≡ Err Memory)
+
+-- Without a setup nothing more is done: its text was read and is none, or the reading failed within the limit, or memory ran out.
+abbrev pub EndsWithoutConfig : Ended → List ℕ → Type 0
+EndsWithoutConfig (NoSetup why) taken = Unit {0}
+EndsWithoutConfig Memory taken = Unit {0}
+EndsWithoutConfig Failed taken = length taken ≤ setup_limit
+EndsWithoutConfig Done taken = ⊥
+EndsWithoutConfig WriteFault taken = ⊥
+EndsWithoutConfig Refused taken = ⊥
+EndsWithoutConfig TooLong taken = ⊥
+
+-- What follows a file of which these bytes were taken, by the setup that its text is.
+abbrev pub Follows : Option Setup → List ℕ → WorldState → WorldState → Told → Told → Ended → (Setup → Type 0) → Type 0
+Follows (Some setup) taken between after out out_now ended Then = Then setup
+Follows None taken between after out out_now ended Then = (after ≡ between) × (out_now ≡ out) × EndsWithoutConfig ended taken
+
+-- The setup is a file's whole text. The file wasn't opened, and that is all; or the world has it back, and what follows is by the setup. Where a
+-- read of it failed or memory ran out, what follows is that nothing more was opened.
+abbrev pub BySetup : Option (List ℕ) → WorldState → WorldState → Told → Told → Ended → (WorldState → Setup → Type 0) → Type 0
+BySetup text before after out out_now ended Then =
+    ((after.files ≡ before.files) × Unopened out out_now ended)
+    ⊎ ((config : Served) × (between : WorldState) × (between.files ≡ before.files ++ config ∷ []) × Leaves config.told.taken text config.told.left
+    × ((rest : List ℕ) → IsRest config.told rest
+    → Follows (setup_in (config.told.taken ++ rest)) config.told.taken between after out out_now ended (Then between)))
 
 -- What a command carries out.
 abbrev pub CarriesOut : Command → (List ℕ → Option (List ℕ)) → WorldState → WorldState → Told → Told → Ended → Type 0
 CarriesOut (Replay file) text before after out out_now ended =
-    Over (text file) before after (Unopened out out_now ended) (λ taken rest. Answers (Replay file) taken rest out out_now ended)
+    Over (text file) before after (Unopened out out_now ended) (λ taken rest. ReplaysFile taken rest out out_now ended)
 CarriesOut (Field kind file) text before after out out_now ended =
-    Over (text file) before after (Unopened out out_now ended) (λ taken rest. Answers (Field kind file) taken rest out out_now ended)
+    Over (text file) before after (Unopened out out_now ended) (λ taken rest. PrintsField kind (strip_last 10 (taken ++ rest)) out out_now ended)
+CarriesOut (Sign config key created file) text before after out out_now ended =
+    BySetup (text config) before after out out_now ended (λ between setup.
+    Over (text file) between after (Unopened out out_now ended) (λ taken rest. PrintsFor (SignsFile setup key created (taken ++ rest)) out out_now ended))
+CarriesOut (Verify config now file) text before after out out_now ended =
+    BySetup (text config) before after out out_now ended (λ between setup.
+    Over (text file) between after (Unopened out out_now ended) (λ taken rest. PrintsFor (VerifiesFile setup now (taken ++ rest)) out out_now ended))
 
 -- the same, of the status that says how it ended
 pub record Carries (command : Command) (text : List ℕ → Option (List ℕ)) (before after : WorldState) (out out_now : Told) (status : ℕ) : Type 0 where
@@ -66,7 +125,11 @@ InputTook ended input before after = (place : ℕ) → input ≡ Some place
 
 -- the command was carried out, and its input read to the end
 abbrev pub IsCarriedOut : Ended → Type 0
-IsCarriedOut ended = (ended ≡ Done) ⊎ (ended ≡ NotInGrammar)
+IsCarriedOut ended = (ended ≡ Done) ⊎ (ended ≡ Refused)
+
+-- each file that was opened was read to its end
+abbrev pub AreReadToEnd : WorldState → WorldState → Type 0
+AreReadToEnd before after = All (λ file. IsAtEnd file.told) (new_files before after)
 
 -- What a command that ended so did to the world.
 pub record UsesWorld (openings : List Opening) (input : Option ℕ) (before after : WorldState) (ended : Ended) : Type 0 where
@@ -75,3 +138,5 @@ pub record UsesWorld (openings : List Opening) (input : Option ℕ) (before afte
   pub failed : ended ≡ Failed → HasFailed before after
   pub sound : ended ≢ Failed → NothingFailed before after
   pub took : InputTook ended input before after
+  pub limited : ended ≡ TooLong → IsSome input
+  pub to_end : ended ≡ Done → AreReadToEnd before after

@@ -1,8 +1,10 @@
 //! The commands, and which of them words are.
-ghost use Rattle.std.specs.Prelude.{◌≡◌, IfOk, IsSome, MatchResult, map, string_bytes};
-ghost use Rattle.gnap_tool.specs.Commands.{is_argument, kind_of, command_of};
+ghost use Rattle.std.specs.Prelude.{◌≡◌, ◌≤◌, IfOk, IfSome, map, string_bytes};
+ghost use Rattle.gnap_io.specs.Gears.{last_moment};
+ghost use Rattle.gnap_tool.specs.Commands.{IsReadAs, HasMoments, is_argument, kind_of, moment_of, replay_of, field_of, sign_of, verify_of, command_of};
 
 use crate::fields::Kind;
+use crate::numbers::number_within;
 use gnap_io::bytes::Bytes;
 use gnap_io::memory::Mem;
 use std::alloc::Global;
@@ -10,11 +12,18 @@ use std::alloc::Global;
 /// What is to be done, with the words that say to what.
 #[derive(Drop)]
 pub enum Command {
-    /// The lines of the file are a setup and calls, and the calls are answered.
+    /// `replay FILE`: the lines of the file are a setup and calls, and the calls are answered.
     Replay(Bytes),
-    /// The text of the file is a structured field, whose canonical text is printed.
+    /// `field KIND FILE`: the text of the file is a structured field, whose canonical text is printed.
     Field(Kind, Bytes),
+    /// `sign CONFIG KEY CREATED FILE`: the message of the file is printed with a signature by a key of the setup.
+    Sign(Bytes, Bytes, u64, Bytes),
+    /// `verify CONFIG NOW FILE`: the key of the setup is printed that signed the message of the file.
+    Verify(Bytes, u64, Bytes),
 }
+
+/// The last second of the year 9999, in seconds since 1970.
+const LAST_MOMENT: u64 = 253_402_300_799;
 
 fn is_argument(word: &str) -> bool
     ensures { result ≡ is_argument word.now }
@@ -36,30 +45,97 @@ fn kind_of(word: &str) -> Option<Kind>
     }
 }
 
+fn moment_of(word: &str) -> Option<u64>
+    ensures value { result ≡ moment_of word.now }
+    ensures within { IfSome result (λ moment. moment ≤ last_moment) }
+{
+    number_within(word, 0, LAST_MOMENT)
+}
+
 fn owned(alloc: Global, word: &str) -> Result<Bytes, Mem>
     ensures { IfOk result (λ bytes. bytes ≡ word.now) }
 {
     Bytes::from_slice(alloc, word.as_bytes())
 }
 
-/// The command that the words are, where they are one.
-pub fn command_of(alloc: Global, words: &[String]) -> Result<Option<Command>, Mem>
-    ensures { MatchResult result (λ command. command ≡ command_of (map string_bytes words.now)) (λ _. IsSome (command_of (map string_bytes words.now))) }
+fn replay_of(alloc: Global, arguments: &[String]) -> Result<Option<Command>, Mem>
+    ensures read { IsReadAs result (replay_of (map string_bytes arguments.now)) }
+    ensures moments { IfOk result (λ command. IfSome command HasMoments) }
 {
-    match words {
-        [name, file] => if name.as_str() == "replay" && is_argument(file.as_str()) {
+    match arguments {
+        [file] if is_argument(file.as_str()) => {
             Ok(Some(Command::Replay(owned(alloc, file.as_str())?)))
-        } else {
-            Ok(None)
+        }
+        _ => Ok(None),
+    }
+}
+
+fn field_of(alloc: Global, arguments: &[String]) -> Result<Option<Command>, Mem>
+    ensures read { IsReadAs result (field_of (map string_bytes arguments.now)) }
+    ensures moments { IfOk result (λ command. IfSome command HasMoments) }
+{
+    match arguments {
+        [kind, file] if is_argument(file.as_str()) => match kind_of(kind.as_str()) {
+            Some(kind) => Ok(Some(Command::Field(kind, owned(alloc, file.as_str())?))),
+            None => Ok(None),
         },
-        [name, kind, file] => if name.as_str() == "field" && is_argument(file.as_str()) {
-            match kind_of(kind.as_str()) {
-                Some(kind) => Ok(Some(Command::Field(kind, owned(alloc, file.as_str())?))),
+        _ => Ok(None),
+    }
+}
+
+fn sign_of(alloc: Global, arguments: &[String]) -> Result<Option<Command>, Mem>
+    ensures read { IsReadAs result (sign_of (map string_bytes arguments.now)) }
+    ensures moments { IfOk result (λ command. IfSome command HasMoments) }
+{
+    match arguments {
+        [config, key, created, file]
+            if is_argument(config.as_str())
+                && is_argument(key.as_str())
+                && is_argument(file.as_str()) => match moment_of(created.as_str()) {
+            Some(created) => {
+                let config = owned(alloc, config.as_str())?;
+                let key = owned(alloc, key.as_str())?;
+                let file = owned(alloc, file.as_str())?;
+                Ok(Some(Command::Sign(config, key, created, file)))
+            }
+            None => Ok(None),
+        },
+        _ => Ok(None),
+    }
+}
+
+fn verify_of(alloc: Global, arguments: &[String]) -> Result<Option<Command>, Mem>
+    ensures read { IsReadAs result (verify_of (map string_bytes arguments.now)) }
+    ensures moments { IfOk result (λ command. IfSome command HasMoments) }
+{
+    match arguments {
+        [config, now, file] if is_argument(config.as_str()) && is_argument(file.as_str()) => {
+            match moment_of(now.as_str()) {
+                Some(now) => {
+                    let config = owned(alloc, config.as_str())?;
+                    let file = owned(alloc, file.as_str())?;
+                    Ok(Some(Command::Verify(config, now, file)))
+                }
                 None => Ok(None),
             }
-        } else {
-            Ok(None)
-        },
+        }
+        _ => Ok(None),
+    }
+}
+
+/// The command that the words are, where they are one.
+pub fn command_of(alloc: Global, words: &[String]) -> Result<Option<Command>, Mem>
+    ensures read { IsReadAs result (command_of (map string_bytes words.now)) }
+    ensures moments { IfOk result (λ command. IfSome command HasMoments) }
+{
+    let Some((name, arguments)) = words.split_first() else {
+        return Ok(None);
+    };
+    match name.as_str() {
+        "replay" => replay_of(alloc, arguments),
+        "field" => field_of(alloc, arguments),
+        "sign" => sign_of(alloc, arguments),
+        "verify" => verify_of(alloc, arguments),
         _ => Ok(None),
     }
 }

@@ -38,8 +38,20 @@ fn tell_member<E: Sink>(err: &mut E, fault: &ObjectFault) {
     tell(err, &[b"member `", name.as_slice(), is]);
 }
 
-fn tell_setup<E: Sink>(err: &mut E, file: &[u8], why: &WrongSetup) {
-    tell(err, &[b"gnap: the first line of ", file, b" is no setup: "]);
+fn tell_setup<E: Sink>(err: &mut E, command: &Command, why: &WrongSetup) {
+    match command {
+        Command::Replay(file) | Command::Field(_, file) => tell(
+            err,
+            &[
+                b"gnap: the first line of ",
+                file.as_slice(),
+                b" is no setup: ",
+            ],
+        ),
+        Command::Sign(config, _, _, _) | Command::Verify(config, _, _) => {
+            tell(err, &[b"gnap: ", config.as_slice(), b" is no setup: "])
+        }
+    }
     match why {
         WrongSetup::TooLong => tell(err, &[b"it has more than 1,048,576 bytes"]),
         WrongSetup::Faulty(SetupFault::NotJson) => {
@@ -57,26 +69,47 @@ fn tell_setup<E: Sink>(err: &mut E, file: &[u8], why: &WrongSetup) {
     tell(err, &[b"\n"]);
 }
 
-/// Tells what happened, where a command wasn't carried out.
-pub fn explain<E: Sink>(err: &mut E, command: &Command, ended: &Ended) {
-    let file = match command {
-        Command::Replay(file) => file.as_slice(),
-        Command::Field(_, file) => file.as_slice(),
-    };
-    match ended {
-        Ended::Done => {}
-        Ended::NoSetup(why) => tell_setup(err, file, why),
-        Ended::Failed => tell(err, &[b"gnap: ", file, b" can't be opened or read\n"]),
-        Ended::WriteFault => tell(err, &[b"gnap: standard output can't be written\n"]),
-        Ended::Memory => tell(err, &[b"gnap: memory ran out at ", file, b"\n"]),
-        Ended::NotInGrammar => tell(err, &[b"gnap: ", file, b" isn't a valid field\n"]),
-        Ended::TooLong => tell(
+// The files of a command.
+fn tell_files<E: Sink>(err: &mut E, command: &Command) {
+    match command {
+        Command::Replay(file) | Command::Field(_, file) => tell(err, &[file.as_slice()]),
+        Command::Sign(config, _, _, file) | Command::Verify(config, _, file) => {
+            tell(err, &[config.as_slice(), b" or ", file.as_slice()])
+        }
+    }
+}
+
+fn tell_refusal<E: Sink>(err: &mut E, command: &Command) {
+    match command {
+        Command::Replay(file) | Command::Field(_, file) => {
+            tell(
+                err,
+                &[b"gnap: ", file.as_slice(), b" isn't a valid field\n"],
+            )
+        }
+        Command::Sign(_, _, _, file) | Command::Verify(_, _, file) => tell(
             err,
             &[
-                b"gnap: 1,073,741,824 bytes of ",
-                file,
-                b" were read without its end\n",
+                b"gnap: the message in ",
+                file.as_slice(),
+                b" is refused for what was printed\n",
             ],
         ),
     }
+}
+
+/// Tells what happened, where a command wasn't carried out.
+pub fn explain<E: Sink>(err: &mut E, command: &Command, ended: &Ended) {
+    let (front, back): (&[u8], &[u8]) = match ended {
+        Ended::Done => return,
+        Ended::NoSetup(why) => return tell_setup(err, command, why),
+        Ended::Refused => return tell_refusal(err, command),
+        Ended::Failed => (b"", b" can't be opened or read\n"),
+        Ended::WriteFault => return tell(err, &[b"gnap: standard output can't be written\n"]),
+        Ended::Memory => (b"memory ran out at ", b"\n"),
+        Ended::TooLong => (b"1,073,741,824 bytes of ", b" were read without its end\n"),
+    };
+    tell(err, &[b"gnap: ", front]);
+    tell_files(err, command);
+    tell(err, &[back]);
 }

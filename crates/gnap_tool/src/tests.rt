@@ -28,12 +28,16 @@ const NO_FIELD: &str = "not in the grammar\n";
 
 const DENIED: &str = "400 {\"error\":{\"code\":\"request_denied\"}}\n";
 
-// A world with one file, named f.
+// A world with a file named f, and one named s, which is a setup.
 fn world(alloc: Global, text: Bytes, bad_reads: &[u64]) -> Result<MemWorld, Mem> {
     let mut files = Vec::new(alloc);
     files.push((
         Bytes::from_slice(alloc, b"f")?,
         MemSource::new(text, Vec::from_slice(alloc, bad_reads)?),
+    ))?;
+    files.push((
+        Bytes::from_slice(alloc, b"s")?,
+        MemSource::new(Bytes::from_slice(alloc, SETUP.as_bytes())?, Vec::new(alloc)),
     ))?;
     Ok(MemWorld::new(files, Vec::new(alloc), Vec::new(alloc), Vec::new(alloc)))
 }
@@ -479,7 +483,21 @@ fn words_are_commands_or_not(rt: HostRuntime) {
     let alloc = rt.alloc();
     assert!(rt; status(alloc, &["replay", "g"]) == Ok(Some(4)));
     assert!(rt; status(alloc, &["field", "item", "g"]) == Ok(Some(4)));
-    let others: [&[&str]; 14] = [
+    assert!(rt; status(alloc, &["sign", "g", "c1", "253402300799", "f"]) == Ok(Some(4)));
+    assert!(rt; status(alloc, &["verify", "g", "0", "f"]) == Ok(Some(4)));
+    let others: [&[&str]; 26] = [
+        &["sign", "s", "c1", "1000"],
+        &["sign", "s", "c1", "f", "1000"],
+        &["sign", "s", "c1", "01", "f"],
+        &["sign", "s", "c1", "+1", "f"],
+        &["sign", "s", "c1", "", "f"],
+        &["sign", "s", "c1", "253402300800", "f"],
+        &["sign", "s", "c1", "18446744073709551616", "f"],
+        &["sign", "s", "-c1", "1000", "f"],
+        &["verify", "s", "1000"],
+        &["verify", "s", "1000", "f", "f"],
+        &["verify", "s", "253402300800", "f"],
+        &["verify", "", "1000", "f"],
         &[],
         &["replay"],
         &["replay", "-f"],
@@ -497,6 +515,114 @@ fn words_are_commands_or_not(rt: HostRuntime) {
     ];
     for words in others {
         assert!(rt; status(alloc, words) == Ok(Some(2)));
+    }
+}
+
+const PLAIN: &str = "POST /gnap HTTP/1.1\r\nContent-Length: 18\r\n\r\n{\"hello\": \"world\"}";
+
+// The signature is that of Python's hmac and hashlib.
+const SIGNED: &str =
+    "POST /gnap HTTP/1.1\r\ncontent-length: 18\r\ncontent-digest: sha-256=:X48E9qOokqqrvdts8nOJRJN3OWDUoyWxBf7kbu9DBPE=:\r\nsignature-input: sig1=(\"@method\" \"@target-uri\" \"content-digest\");created=1000;keyid=\"c1\";tag=\"gnap\"\r\nsignature: sig1=:/AST8V8kV8dVOnUSRIniNoVVk+H6Wg0mJM3/XN6+lgY=:\r\n\r\n{\"hello\": \"world\"}";
+
+// The status of a command over a message, where this is printed.
+fn over_message(
+    alloc: Global,
+    parts: &[&str],
+    message: &str,
+    printed: &str,
+) -> Result<Option<u8>, Mem> {
+    let text = Bytes::from_slice(alloc, message.as_bytes())?;
+    ran(alloc, parts, text, &[], &[], printed.as_bytes())
+}
+
+#[test]
+fn messages_are_signed_and_verified(rt: HostRuntime) {
+    let cases: [(&[&str], &str, u8, &str); 12] = [
+        (&["sign", "s", "c1", "1000", "f"], PLAIN, 0, SIGNED),
+        (
+            &["sign", "s", "c1", "1000", "f"],
+            SIGNED,
+            7,
+            "refused HasSignature\n",
+        ),
+        (
+            &["sign", "s", "c9", "1000", "f"],
+            PLAIN,
+            7,
+            "refused UnknownKey\n",
+        ),
+        (
+            &["sign", "s", "c9", "1000", "f"],
+            "",
+            7,
+            "refused Truncated\n",
+        ),
+        (&["sign", "f", "c1", "1000", "s"], PLAIN, 3, ""),
+        (&["sign", "s", "c1", "1000", "g"], PLAIN, 4, ""),
+        (&["verify", "s", "1300", "f"], SIGNED, 0, "key c1\n"),
+        (
+            &["verify", "s", "1301", "f"],
+            SIGNED,
+            7,
+            "refused Created\n",
+        ),
+        (&["verify", "s", "1000", "f"], PLAIN, 7, "refused NoField\n"),
+        (&["verify", "s", "1000", "f"], "x", 7, "refused Truncated\n"),
+        (&["verify", "f", "1000", "f"], SIGNED, 3, ""),
+        (&["verify", "g", "1000", "f"], SIGNED, 4, ""),
+    ];
+    for (parts, message, status, printed) in cases {
+        assert!(rt; over_message(rt.alloc(), parts, message, printed) == Ok(Some(status)));
+    }
+}
+
+// The status of a verification whose setup has so many bytes of blanks behind it, and whose reads and writes fail so.
+fn with_blanks(
+    alloc: Global,
+    blanks: usize,
+    bad_reads: &[u64],
+    printed: &str,
+) -> Result<Option<u8>, Mem> {
+    let mut text = Bytes::from_slice(alloc, SETUP.as_bytes())?;
+    for _ in 0..blanks {
+        text.push(b' ')?;
+    }
+    ran(
+        alloc,
+        &["verify", "f", "0", "s"],
+        text,
+        bad_reads,
+        &[],
+        printed.as_bytes(),
+    )
+}
+
+#[test]
+fn setups_have_1048576_bytes(rt: HostRuntime) {
+    let alloc = rt.alloc();
+    let room = 1_048_576 - SETUP.len().min(1_000);
+    let refused = "refused BadHead\n";
+    assert!(rt; with_blanks(alloc, room, &[], refused) == Ok(Some(7)));
+    assert!(rt; with_blanks(alloc, room + 1, &[], "") == Ok(Some(3)));
+    assert!(rt; with_blanks(alloc, 0, &[1], "") == Ok(Some(4)));
+    assert!(rt; with_blanks(alloc, 0, &[2], "") == Ok(Some(4)));
+}
+
+#[test]
+fn answers_to_messages_may_be_cut(rt: HostRuntime) {
+    let alloc = rt.alloc();
+    let cases: [(&[&str], &str, u8, &str); 4] = [
+        (&["sign", "s", "c1", "1000", "f"], PLAIN, 5, ""),
+        (&["sign", "s", "c9", "1000", "f"], PLAIN, 5, ""),
+        (&["verify", "s", "1000", "f"], SIGNED, 5, ""),
+        (&["verify", "s", "9999", "f"], SIGNED, 5, ""),
+    ];
+    for (parts, message, status, printed) in cases {
+        let text = Bytes::from_slice(alloc, message.as_bytes());
+        let Ok(text) = text else {
+            panic!(rt; "out of memory");
+        };
+        assert!(rt; ran(alloc, parts, text, &[], &[1], printed.as_bytes()) == Ok(Some(status)));
     }
 }
 
@@ -539,6 +665,27 @@ fn causes_are_told(rt: HostRuntime) {
             Ok(true),
             "{text}"
         );
+    }
+    let hints: [(&[&str], &str); 4] = [
+        (
+            &["verify", "f", "0", "s"],
+            "gnap: f is no setup: it isn't one JSON object with whole numbers\n",
+        ),
+        (
+            &["verify", "s", "253402300799", "f"],
+            "gnap: the message in f is refused for what was printed\n",
+        ),
+        (
+            &["sign", "g", "k", "0", "f"],
+            "gnap: g or f can't be opened or read\n",
+        ),
+        (
+            &["sign", "s", "k", "0", "g"],
+            "gnap: s or g can't be opened or read\n",
+        ),
+    ];
+    for (words, hint) in hints {
+        assert_eq!(rt; told(rt.alloc(), words, "x", hint), Ok(true), "{hint}");
     }
     let hint = "gnap: f isn't a valid field\n";
     assert_eq!(rt;

@@ -3,7 +3,7 @@ use Rattle.gnap_io.specs.Outside.{Told, Leaves, served_of}
 use Rattle.gnap_io.specs.Worlds.{HasWorldCause}
 use Rattle.gnap_io.specs.declared.world.WorldFault.{WorldFault}
 use Rattle.gnap_tool.specs.Ends.{CountsReads}
-use Rattle.gnap_tool.proofs.Uses.{unopened_failed, unopened_starved, opened_used}
+use Rattle.gnap_tool.proofs.Uses.{unopened_failed, unopened_starved, opened_used, first_input}
 use Rattle.gnap_tool.proofs.commands.carry_out_over.Goals as goal
 
 pub returns-in-Err-Failed-clause-world : goal.returns-in-Err-Failed-clause-world
@@ -31,4 +31,5 @@ returns-in-Ok-clause-world g c =
     let file = served_of (g.W.File.Device.told source) (g.W.File.Device.faults source) in
     let R : ℕ → Type 0 = λ n. CountsReads c.answer_text-ended.result n (g.W.File.Device.faults source) in
     opened_used _ file _ _ _ c.answer_text-ended.result c.in-Ok.ensures.state c.close_file.ensures.state
-    (subst R c.in-Ok.ensures.file.0 c.answer_text-ended.ensures.reads) c.answer_text-ended.ensures.took
+    (subst R c.in-Ok.ensures.file.0 c.answer_text-ended.ensures.reads) _ (first_input c.args.purpose) c.answer_text-ended.ensures.took
+    c.answer_text-ended.ensures.limited c.answer_text-ended.ensures.end

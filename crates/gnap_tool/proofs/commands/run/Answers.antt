@@ -1,12 +1,12 @@
 use Rattle.std.proofs.Common.{◌≡◌, ◌∙◌, ap, sym, subst, refl, inl, inr}
-use Rattle.std.specs.Prelude.{Some}
+use Rattle.std.specs.Prelude.{Option, Some, IsSome, IfSome}
 use Rattle.gnap_io.specs.Openings.{GivesBack}
 use Rattle.gnap_tool.specs.declared.command.Command.{Command}
 use Rattle.gnap_tool.specs.declared.ended.Ended.TheVariants.{Done, Memory, TooLong}
-use Rattle.gnap_tool.specs.Commands.{openings_of, input_place}
+use Rattle.gnap_tool.specs.Commands.{HasMoments, openings_of, input_place}
 use Rattle.gnap_tool.specs.Ends.{status_of}
 use Rattle.gnap_tool.specs.Runs.{InputTook}
-use Rattle.gnap_tool.proofs.Uses.{back-none, unopened_sound, failed_at_4, full_at_8, whole_at_0, starved_carries}
+use Rattle.gnap_tool.proofs.Uses.{back-none, unopened_sound, failed_at_4, full_at_8, whole_at_0, to_end_at_0, starved_carries}
 use Rattle.gnap_tool.proofs.commands.run.Goals as goal
 
 pub returns-in-Ok-Some-clause-reads : goal.returns-in-Ok-Some-clause-reads
@@ -23,14 +23,14 @@ returns-in-Err-clause-no_reads g c = λ isnt. unopened_sound _ _ refl refl
 
 pub returns-in-Ok-Some-clause-full : goal.returns-in-Ok-Some-clause-full
 returns-in-Ok-Some-clause-full g c = λ is command found.
-    let both : Some c.in-Ok-Some.command ≡ Some command = sym c.in-Ok-Some.field-0-is ∙ c.in-Ok-Some.ensures ∙ found in
+    let both : Some c.in-Ok-Some.command ≡ Some command = sym c.in-Ok-Some.field-0-is ∙ c.in-Ok-Some.ensures.read ∙ found in
     let same : c.in-Ok-Some.command ≡ command = cc in
-    let P : Command → Type 0 = λ k. InputTook TooLong (input_place k) (g.W.World.state c.args.world.now) (g.W.World.state c.carry_out-ended.new.world) in
+    let P : Command → Type 0 = λ k. IsSome (input_place k) × InputTook TooLong (input_place k) (g.W.World.state c.args.world.now) (g.W.World.state c.carry_out-ended.new.world) in
     subst P same (full_at_8 _ _ _ _ c.carry_out-ended.result c.carry_out-ended.ensures.world (sym c.status_of.ensures ∙ is))
 
 pub returns-in-Ok-Some-clause-whole : goal.returns-in-Ok-Some-clause-whole
 returns-in-Ok-Some-clause-whole g c = λ is command found.
-    let both : Some c.in-Ok-Some.command ≡ Some command = sym c.in-Ok-Some.field-0-is ∙ c.in-Ok-Some.ensures ∙ found in
+    let both : Some c.in-Ok-Some.command ≡ Some command = sym c.in-Ok-Some.field-0-is ∙ c.in-Ok-Some.ensures.read ∙ found in
     let same : c.in-Ok-Some.command ≡ command = cc in
     let P : Command → Type 0 = λ k. InputTook Done (input_place k) (g.W.World.state c.args.world.now) (g.W.World.state c.carry_out-ended.new.world) in
     subst P same (whole_at_0 _ _ _ _ c.carry_out-ended.result c.carry_out-ended.ensures.world
@@ -41,3 +41,11 @@ returns-in-Err-clause-carries g c = λ command found. record { ended = Memory; s
 
 pub returns-in-Err-clause-given_back : goal.returns-in-Err-clause-given_back
 returns-in-Err-clause-given_back g c = λ command found. back-none (openings_of command) _ _ refl
+
+pub carry_out-ended-requires : goal.carry_out-ended-requires
+carry_out-ended-requires g c =
+    let M : Option Command → Type 0 = λ o. IfSome o HasMoments in
+    subst M c.in-Ok-Some.field-0-is c.in-Ok-Some.ensures.moments
+
+pub returns-in-Ok-Some-clause-to_end : goal.returns-in-Ok-Some-clause-to_end
+returns-in-Ok-Some-clause-to_end g c = λ is. to_end_at_0 _ _ _ _ c.carry_out-ended.result c.carry_out-ended.ensures.world (sym c.status_of.ensures ∙ is)

@@ -1,0 +1,17 @@
+//! What a file is opened for.
+use crate::fields::Kind;
+use gnap_io::bytes::Bytes;
+use gnap_model::objects::Setup;
+
+/// What a file is opened for.
+#[derive(Clone, Copy)]
+pub enum Purpose<'a> {
+    /// Its lines are a setup and calls, and the calls are answered.
+    Replay,
+    /// Its text is a structured field, whose canonical text is printed.
+    Field(Kind),
+    /// Its message is printed with the signature of this setup's key with this id, created at this moment.
+    Sign(&'a Setup, &'a Bytes, u64),
+    /// The key of this setup is printed that signed its message, as it stands at this moment.
+    Verify(&'a Setup, u64),
+}
