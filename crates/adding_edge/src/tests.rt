@@ -57,8 +57,10 @@ fn served_gears<R: Threads + Wait + Sync>(rt: &R, alloc: Global) -> Result<Vec<M
         &front,
         two_gears(alloc)?,
     );
-    served?;
-    Ok(gears)
+    match served {
+        Ok(_) => Ok(gears),
+        Err(Mem) => Err(Mem),
+    }
 }
 
 // What was written to a connection.

@@ -11,7 +11,7 @@ use Rattle.gnap_io.specs.Worlds.{WorldState, with_opened, with_returned}
 use Rattle.gnap_io.specs.Openings.{Gives, GivesBack, gears_in, new_files}
 use Rattle.gnap_io.proofs.OpeningLemmas.{gives-none, gives-file, back-all}
 use Rattle.gnap_tool.specs.declared.command.Command.{Command}
-use Rattle.gnap_tool.specs.declared.command.Command.TheVariants.{Replay, Field, Sign, Verify}
+use Rattle.gnap_tool.specs.declared.command.Command.TheVariants.{Replay, Field, Sign, Verify, Serve}
 use Rattle.gnap_tool.specs.declared.purpose.Purpose.{Purpose}
 use Rattle.gnap_tool.specs.declared.purpose.Purpose.TheVariants as purposes
 use Rattle.gnap_tool.specs.declared.ended.Ended.{Ended}
@@ -184,3 +184,4 @@ starved_carries (Replay file) text world out = inl (refl, (refl, inr refl))
 starved_carries (Field kind file) text world out = inl (refl, (refl, inr refl))
 starved_carries (Sign config key created file) text world out = inl (refl, (refl, inr refl))
 starved_carries (Verify config now file) text world out = inl (refl, (refl, inr refl))
+starved_carries (Serve config listen workers quota) text world out = inl (refl, (refl, inr refl))

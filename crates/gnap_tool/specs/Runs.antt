@@ -6,12 +6,15 @@ use Rattle.gnap_io.specs.declared.world.Opening.{Opening}
 use Rattle.gnap_io.specs.Worlds.{WorldState}
 use Rattle.gnap_io.specs.Openings.{Gives, GivesBack, gears_in, new_files}
 use Rattle.gnap_tool.specs.declared.command.Command.{Command}
-use Rattle.gnap_tool.specs.declared.command.Command.TheVariants.{Replay, Field, Sign, Verify}
+use Rattle.gnap_tool.specs.declared.command.Command.TheVariants.{Replay, Field, Sign, Verify, Serve}
 use Rattle.gnap_tool.specs.declared.purpose.Purpose.{Purpose}
 use Rattle.gnap_tool.specs.declared.purpose.Purpose.TheVariants as purposes
 use Rattle.gnap_tool.specs.declared.ended.Ended.{Ended}
 use Rattle.gnap_tool.specs.declared.ended.Ended.TheVariants.{Done, NoSetup, Failed, WriteFault, Memory, Refused, TooLong}
 use Rattle.gnap_tool.specs.Ends.{status_of, Took}
+use Rattle.as_edge.specs.EdgeSessions.{IsEdgeSession}
+use Rattle.gnap_io.specs.declared.world.Opening.TheVariants.{Gears}
+use Rattle.gnap_tool.specs.Doors.{ServesDoors}
 use Rattle.gnap_tool.specs.Fields.{PrintsField}
 use Rattle.gnap_tool.specs.Printing.{PrintsFor}
 use Rattle.gnap_tool.specs.Replays.{ReplaysFile, setup_limit, setup_in}
@@ -95,6 +98,10 @@ CarriesOut (Sign config key created file) text before after out out_now ended =
 CarriesOut (Verify config now file) text before after out out_now ended =
     BySetup (text config) before after out out_now ended (λ between setup.
     Over (text file) between after (Unopened out out_now ended) (λ taken rest. PrintsFor (VerifiesFile setup now (taken ++ rest)) out out_now ended))
+
+CarriesOut (Serve config listen workers quota) text before after out out_now ended =
+    BySetup (text config) before after out out_now ended (λ between setup.
+    (out_now ≡ out) × ServesDoors (IsEdgeSession setup) setup (Gears listen workers quota) between after ended)
 
 -- the same, of the status that says how it ended
 pub record Carries (command : Command) (text : List ℕ → Option (List ℕ)) (before after : WorldState) (out out_now : Told) (status : ℕ) : Type 0 where

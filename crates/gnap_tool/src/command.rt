@@ -20,10 +20,18 @@ pub enum Command {
     Sign(Bytes, Bytes, u64, Bytes),
     /// `verify CONFIG NOW FILE`: the key of the setup is printed that signed the message of the file.
     Verify(Bytes, u64, Bytes),
+    /// `as CONFIG LISTEN WORKERS QUOTA`: the authorization server of the setup, with so many workers at the address, each for so many connections.
+    Serve(Bytes, Bytes, usize, u32),
 }
 
 /// The last second of the year 9999, in seconds since 1970.
 const LAST_MOMENT: u64 = 253_402_300_799;
+
+/// How many workers there may be. A server for more than one isn't built yet.
+const MOST_WORKERS: u64 = 1;
+
+/// How many connections a worker may be given.
+const MOST_CONNECTIONS: u64 = 1_000_000;
 
 fn is_argument(word: &str) -> bool
     ensures { result ≡ is_argument word.now }
@@ -50,6 +58,19 @@ fn moment_of(word: &str) -> Option<u64>
     ensures within { IfSome result (λ moment. moment ≤ last_moment) }
 {
     number_within(word, 0, LAST_MOMENT)
+}
+
+fn workers_of(word: &str) -> Option<usize>
+    ensures value { result ≡ workers_of word.now }
+    ensures within { IfSome result (λ workers. (0 < workers) × (workers ≤ 64)) }
+{
+    number_within(word, 1, MOST_WORKERS).map(|number| number as usize)
+}
+
+fn quota_of(word: &str) -> Option<u32>
+    ensures { result ≡ quota_of word.now }
+{
+    number_within(word, 0, MOST_CONNECTIONS).map(|number| number as u32)
 }
 
 fn owned(alloc: Global, word: &str) -> Result<Bytes, Mem>
@@ -123,6 +144,27 @@ fn verify_of(alloc: Global, arguments: &[String]) -> Result<Option<Command>, Mem
     }
 }
 
+fn serve_of(alloc: Global, arguments: &[String]) -> Result<Option<Command>, Mem>
+    ensures read { IsReadAs result (serve_of (map string_bytes arguments.now)) }
+    ensures moments { IfOk result (λ command. IfSome command HasMoments) }
+{
+    match arguments {
+        [config, listen, workers, quota] if is_argument(config.as_str())
+            && is_argument(listen.as_str()) => match (
+            workers_of(workers.as_str()),
+            quota_of(quota.as_str()),
+        ) {
+            (Some(workers), Some(quota)) => {
+                let config = owned(alloc, config.as_str())?;
+                let listen = owned(alloc, listen.as_str())?;
+                Ok(Some(Command::Serve(config, listen, workers, quota)))
+            }
+            _ => Ok(None),
+        },
+        _ => Ok(None),
+    }
+}
+
 /// The command that the words are, where they are one.
 pub fn command_of(alloc: Global, words: &[String]) -> Result<Option<Command>, Mem>
     ensures read { IsReadAs result (command_of (map string_bytes words.now)) }
@@ -136,6 +178,7 @@ pub fn command_of(alloc: Global, words: &[String]) -> Result<Option<Command>, Me
         "field" => field_of(alloc, arguments),
         "sign" => sign_of(alloc, arguments),
         "verify" => verify_of(alloc, arguments),
+        "as" => serve_of(alloc, arguments),
         _ => Ok(None),
     }
 }

@@ -48,7 +48,9 @@ fn tell_setup<E: Sink>(err: &mut E, command: &Command, why: &WrongSetup) {
                 b" is no setup: ",
             ],
         ),
-        Command::Sign(config, _, _, _) | Command::Verify(config, _, _) => {
+        Command::Sign(config, _, _, _)
+        | Command::Verify(config, _, _)
+        | Command::Serve(config, _, _, _) => {
             tell(err, &[b"gnap: ", config.as_slice(), b" is no setup: "])
         }
     }
@@ -73,7 +75,9 @@ fn tell_setup<E: Sink>(err: &mut E, command: &Command, why: &WrongSetup) {
 fn tell_files<E: Sink>(err: &mut E, command: &Command) {
     match command {
         Command::Replay(file) | Command::Field(_, file) => tell(err, &[file.as_slice()]),
-        Command::Sign(config, _, _, file) | Command::Verify(config, _, file) => {
+        Command::Sign(config, _, _, file)
+        | Command::Verify(config, _, file)
+        | Command::Serve(config, file, _, _) => {
             tell(err, &[config.as_slice(), b" or ", file.as_slice()])
         }
     }

@@ -1,5 +1,5 @@
 -- What a worker is, what it keeps, and what its work may change.
-use Rattle.std.specs.Prelude.{◌≡◌, ◌⊎◌, ℕ, ◌+◌, ◌*◌, ◌<◌, ◌≤◌, List, [], ◌∷◌, length}
+use Rattle.std.specs.Prelude.{◌≡◌, ◌≢◌, ◌⊎◌, Bool, true, false, All, Any, ℕ, ◌+◌, ◌*◌, ◌<◌, ◌≤◌, List, [], ◌∷◌, length}
 use mathlib.Core.Option.{some}
 use lib.ListN.{get_elem?}
 use Rattle.gnap_io.specs.Outside.{Served, Rose}
@@ -42,6 +42,16 @@ pub record HasServedOne (before after : GearState) : Type 0 where
 pub record HasServedAll (before after : GearState) : Type 0 where
   pub served : length after.log.served + after.left ≡ length before.log.served + before.left
   pub done : ((after.left ≡ 0) × (after.faults ≡ before.faults)) ⊎ Rose before.faults after.faults
+
+-- whether a door failed
+abbrev pub SaysFailed : Bool → GearState → Type 0
+SaysFailed true gear = gear.faults ≢ 0
+SaysFailed false gear = gear.faults ≡ 0
+
+-- whether one of several doors failed
+abbrev pub SayFailed : Bool → List GearState → Type 0
+SayFailed true gears = Any (λ gear. gear.faults ≢ 0) gears
+SayFailed false gears = All (λ gear. gear.faults ≡ 0) gears
 
 -- the worker served all that its door gave
 pub record Drained {Rules E : Type 0} (before after : WorkerState Rules E) : Type 0 where

@@ -1,10 +1,10 @@
 //! Workers on threads, all at one shared core.
-ghost use Rattle.std.specs.Prelude.{◌≡◌, ℕ, ◌+◌, ◌*◌, ◌<◌, ◌≤◌, [], All, map, length, slice_index_or, vec_len, vec_capacity, IsOk, IsErr};
+ghost use Rattle.std.specs.Prelude.{◌≡◌, ℕ, ◌+◌, ◌*◌, ◌<◌, ◌≤◌, [], All, map, length, slice_index_or, vec_len, vec_capacity, IsOk, IsErr, IfOk};
 ghost use Rattle.gnap_io.specs.Gears.{IsUnused};
 ghost use Rattle.histories.specs.History.{Legal};
 ghost use Rattle.histories.specs.Whole.{OneHistory, AllKeep, Joined};
 ghost use Rattle.shared_server.specs.Passes.{AreAll, AreNew};
-ghost use Rattle.serving.specs.Workers.{AreWorkers, HaveServedAll, Drained, accounts_of};
+ghost use Rattle.serving.specs.Workers.{AreWorkers, HaveServedAll, Drained, SayFailed, accounts_of};
 
 use crate::front::Front;
 use crate::worker::Worker;
@@ -68,27 +68,30 @@ fn start_workers<'a, C: Core, F: Front<M = C::M>, G: Gear, R: Wait>(
     workers
 }
 
-// The passes and the gears of workers, in order.
+// The passes and the gears of workers, in order, and whether one of the doors failed.
 fn end_workers<'a, C: Core, F: Front<M = C::M>, G: Gear, R: Wait>(
     shared: &Shared<C>,
     workers: Vec<Worker<'a, C, F, G, R>>,
     mut passes: Vec<Pass<C>>,
     mut gears: Vec<G>,
-) -> (Vec<Pass<C>>, Vec<G>)
+) -> (Vec<Pass<C>>, Vec<G>, bool)
     requires workers { AreWorkers shared.now workers.items }
     requires room { (vec_len passes ≡ 0) × (vec_len gears ≡ 0) × (length workers.items ≤ vec_capacity passes) × (length workers.items ≤ vec_capacity gears) }
     ensures passes { AreAll shared.now result.0.items }
     ensures gears { map G.state result.1.items ≡ map (λ worker. worker.gear) workers.entry.items }
     ensures out { All (λ gear. (G.state gear).out ≡ 0) result.1.items }
     ensures accounts { AllKeep 0 (accounts_of (F.session shared.now.rules) (map G.state result.1.items)) (map (λ pass. pass.seen) result.0.items) }
+    ensures failed { SayFailed result.2 (map G.state result.1.items) }
 {
     let _shared = shared;
+    let mut any_failed = false;
     for worker in workers {
-        let (pass, gear) = worker.leave();
+        let (pass, gear, failed) = worker.leave();
         passes.push_reserved(pass);
         gears.push_reserved(gear);
+        any_failed |= failed;
     }
-    (passes, gears)
+    (passes, gears, any_failed)
 }
 
 // Takes all passes back. What was seen with them is joined by one legal history.
@@ -103,13 +106,13 @@ fn close_all<C: Core + Drop>(shared: Shared<C>, passes: Vec<Pass<C>>)
 ///
 /// There is one legal history by the front's rules, in which the entries of each number account for what the gear of that place tells, and
 /// which has no others; and no connection is out. At `Ok` each gear took back all connections that its door gave, which gives no more, or
-/// failed. At `Err` memory ran out before the first connection, and the gears are as before.
+/// failed; and the answer is whether one of the doors failed. At `Err` memory ran out before the first connection, and the gears are as before.
 pub fn serve_gears<
     C: Core + Send + Drop,
     F: Front<M = C::M> + Sync,
     G: Gear + Send,
     R: Threads + Wait + Sync,
->(rt: &R, alloc: Global, core: C, front: &F, gears: Vec<G>) -> (Vec<G>, Result<(), Mem>)
+>(rt: &R, alloc: Global, core: C, front: &F, gears: Vec<G>) -> (Vec<G>, Result<bool, Mem>)
 where
     C::M: Send,
     <C::M as Machine>::Call: Send,
@@ -124,6 +127,7 @@ where
     ensures many { length result.0.items ≡ length gears.items }
     ensures out { All (λ gear. (G.state gear).out ≡ 0) result.0.items }
     ensures done { IsOk result.1 → HaveServedAll (map G.state gears.items) (map G.state result.0.items) }
+    ensures failed { IfOk result.1 (λ failed. SayFailed failed (map G.state result.0.items)) }
     ensures unserved { IsErr result.1 → result.0.items ≡ gears.items }
 {
     let n = gears.len();
@@ -139,7 +143,7 @@ where
     };
     let mut workers = start_workers(rt, alloc, &shared, front, passes, gears, room);
     serve_workers(rt, workers.as_mut_slice());
-    let (passes, gears) = end_workers(&shared, workers, passes_back, gears_back);
+    let (passes, gears, failed) = end_workers(&shared, workers, passes_back, gears_back);
     close_all(shared, passes);
-    (gears, Ok(()))
+    (gears, Ok(failed))
 }

@@ -4,9 +4,10 @@ ghost use Rattle.gnap_io.specs.Gears.{IsUnused};
 ghost use Rattle.histories.specs.Logs.{IsAccount};
 ghost use Rattle.histories.specs.Whole.{own_of};
 ghost use Rattle.shared_server.specs.Passes.{IsPassOf};
-ghost use Rattle.serving.specs.Workers.{IsSameWorker, HasServedOne, HasServedAll, Drained};
+ghost use Rattle.serving.specs.Workers.{IsSameWorker, HasServedOne, HasServedAll, Drained, SaysFailed};
 
 use crate::front::Front;
+use gnap_io::device::Failed;
 use gnap_io::gear::{Door, Gear};
 use histories::machine::{Core, Machine};
 use shared_server::shared::{Pass, Shared};
@@ -23,17 +24,20 @@ pub struct Worker<'a, C: Core, F: Front<M = C::M>, G: Gear, R> {
     station: Station<'a, C, R>,
     gear: G,
     front: &'a F,
+    // The door failed.
+    failed: bool,
 }
 
 impl<'a, C: Core, F: Front<M = C::M>, G: Gear, R> Model for Worker<'a, C, F, G, R> {
     ghost use Rattle.histories.specs.declared.entry.Entry.{Entry};
-    ghost use Rattle.serving.specs.Workers.{WorkerState, IsSoundWorker};
+    ghost use Rattle.serving.specs.Workers.{WorkerState, IsSoundWorker, SaysFailed};
 
     ghost Value = { WorkerState C.M.Rules (Entry C.M.Call C.M.Reply C.M.Note) };
 
     ghost view = { λ w. record { station = w.station; gear = G.state w.gear } };
 
-    ghost invariant = { λ w. IsSoundWorker C.M.law F.session (F.rules w.front.now) (record { station = w.station; gear = G.state w.gear }) };
+    ghost invariant = { λ w. IsSoundWorker C.M.law F.session (F.rules w.front.now) (record { station = w.station; gear = G.state w.gear })
+        × SaysFailed w.failed (G.state w.gear) };
 }
 
 impl<'a, C: Core, F: Front<M = C::M>, G: Gear, R: Wait> Worker<'a, C, F, G, R> {
@@ -58,6 +62,7 @@ impl<'a, C: Core, F: Front<M = C::M>, G: Gear, R: Wait> Worker<'a, C, F, G, R> {
             station: Station::new(rt, shared, pass),
             gear,
             front,
+            failed: false,
         }
     }
 
@@ -67,14 +72,20 @@ impl<'a, C: Core, F: Front<M = C::M>, G: Gear, R: Wait> Worker<'a, C, F, G, R> {
         ensures more { result ≡ true → HasServedOne self.old.gear self.new.gear }
         ensures done { result ≡ false → HasServedAll self.old.gear self.new.gear }
     {
-        let Ok(Some(conn)) = self.gear.accept() else {
-            return false;
-        };
-        let mut conn = conn;
-        self.front
-            .serve(self.alloc, &mut self.station, &mut conn, &mut self.gear);
-        self.gear.leave(conn);
-        true
+        match self.gear.accept() {
+            Ok(Some(conn)) => {
+                let mut conn = conn;
+                self.front
+                    .serve(self.alloc, &mut self.station, &mut conn, &mut self.gear);
+                self.gear.leave(conn);
+                true
+            }
+            Ok(None) => false,
+            Err(Failed) => {
+                self.failed = true;
+                false
+            }
+        }
     }
 
     /// Serves all that the door gives.
@@ -84,20 +95,22 @@ impl<'a, C: Core, F: Front<M = C::M>, G: Gear, R: Wait> Worker<'a, C, F, G, R> {
         while self.turn() {}
     }
 
-    /// The pass and the gear, with the account of what the gear tells.
-    pub fn leave(self) -> (Pass<C>, G)
+    /// The pass and the gear, with the account of what the gear tells, and whether its door failed.
+    pub fn leave(self) -> (Pass<C>, G, bool)
         ensures of { IsPassOf self.entry.station.home result.0 }
         ensures number { result.0.number ≡ self.entry.station.number }
         ensures gear { G.state result.1 ≡ self.entry.gear }
         ensures out { self.entry.gear.out ≡ 0 }
         ensures account { IsAccount (F.session self.entry.station.home.rules) self.entry.gear.log (own_of self.entry.station.number result.0.seen) }
+        ensures failed { SaysFailed result.2 self.entry.gear }
     {
         let Worker {
             alloc: _,
             station,
             gear,
             front: _,
+            failed,
         } = self;
-        (station.leave(), gear)
+        (station.leave(), gear, failed)
     }
 }
