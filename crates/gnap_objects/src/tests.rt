@@ -116,7 +116,7 @@ fn a_grant_request_names_its_first_fault(rt: HostRuntime) -> Result<(), Fail> {
 }
 
 // So many strings of this text, between commas.
-pub fn listed(alloc: Global, text: &str, times: usize) -> Result<String, AllocError> {
+pub(crate) fn listed(alloc: Global, text: &str, times: usize) -> Result<String, AllocError> {
     let mut list = String::new(alloc);
     for place in 0..times {
         list.push_str(if place == 0 { "\"" } else { ",\"" })?;

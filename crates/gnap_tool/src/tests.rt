@@ -74,7 +74,7 @@ fn ran<R: Threads + Wait + Sync>(
     })
 }
 
-pub fn replayed<R: Threads + Wait + Sync>(
+pub(crate) fn replayed<R: Threads + Wait + Sync>(
     rt: &R,
     alloc: Global,
     text: Bytes,
@@ -94,7 +94,7 @@ pub fn replayed<R: Threads + Wait + Sync>(
 }
 
 // The lines after the setup are answered so.
-pub fn answers<R: Threads + Wait + Sync>(
+pub(crate) fn answers<R: Threads + Wait + Sync>(
     rt: &R,
     alloc: Global,
     lines: &[u8],
