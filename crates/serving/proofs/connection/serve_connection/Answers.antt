@@ -2,7 +2,6 @@ use Rattle.std.proofs.Common.{◌∙◌, [], refl, sym, subst, arith, ◌<◌, l
 use Rattle.histories.specs.History.{places}
 use Rattle.histories.specs.Turns.{IsTurn}
 use Rattle.serving.specs.declared.ends.AfterTurn.TheVariants.{MoreMayCome, OutOfMemory, WriteFailed}
-use Rattle.serving.specs.MessageTurns.{TakesTurn}
 use Rattle.serving.proofs.ConnectionLemmas.{next_ok, not_full, under_number, served-start, room, closes-end, closes-stop, served-next, ends-last, ends-quota, ends-want, ends-cut}
 use Rattle.serving.proofs.connection.serve_connection.Goals as goal
 
