@@ -1,6 +1,7 @@
 -- Choices of values that share a bit are granted.
 use Rattle.std.proofs.Common.{◌≡◌, ◌∙◌, ℕ, ◌+◌, ◌*◌, ◌^◌, ◌/◌, ◌%◌, ◌==◌, ◌&&◌, ◌||◌, bit_and, not, cond, Bool, true, false, List, [], ◌∷◌, map, Option, refl, sym, ap, ap₂, arith}
 use Rattle.std.specs.List.{list_any, list_all}
+use Rattle.std.proofs.Math.Bool.{or-false, or_assoc}
 use Rattle.std.proofs.lemmas.Bool.Decides.{nat_tests}
 use Rattle.std.proofs.lemmas.List.Folds.{list_all-map}
 use Rattle.std.proofs.lemmas.Nat.{and_shr, and_mod}
@@ -57,20 +58,12 @@ some_bit : (x : ℕ) (b : Bool) → not (with_bit x b == 0) ≡ (not (x == 0) ||
 some_bit x true = grind (arith, nat_tests)
 some_bit x false = grind (arith, nat_tests)
 
-or-assoc : (a b c : Bool) → ((a || b) || c) ≡ (a || (b || c))
-or-assoc true b c = refl
-or-assoc false b c = refl
-
 next_some : (alike : Bool) (x : ℕ) (b c : Bool) → (not (cond alike (with_bit x b) x == 0) || c) ≡ (not (x == 0) || ((alike && b) || c))
-next_some true x b c = ap (λ a. a || c) (some_bit x b) ∙ or-assoc (not (x == 0)) b c
+next_some true x b c = ap (λ a. a || c) (some_bit x b) ∙ or_assoc (not (x == 0)) b c
 next_some false x b c = refl
 
 bits_from-some : (alike has : Right → Bool) (rights : List Right) (x : ℕ) → not (bits_from alike has x rights == 0) ≡ (not (x == 0) || list_any (λ r. alike r && has r) rights)
-bits_from-some alike has [] x = or-false (not (x == 0))
-  where
-    or-false : (a : Bool) → a ≡ (a || false)
-    or-false true = refl
-    or-false false = refl
+bits_from-some alike has [] x = sym (or-false (not (x == 0)))
 bits_from-some alike has (r ∷ rights) x = bits_from-some alike has rights _ ∙ next_some (alike r) x (has r) (list_any (λ r. alike r && has r) rights)
 
 -- ---- a choice of values

@@ -6,14 +6,13 @@ use Rattle.std.specs.Set.{is_member}
 use Rattle.std.specs.Str.{bytes_eq}
 use Rattle.std.proofs.Math.Nat.{pow-suc}
 use Rattle.std.proofs.Math.Seq.{take-append_seam}
-use Rattle.std.proofs.lemmas.Bool.{agree_below_at, eqb-true, or_cases, cases_Bool}
+use Rattle.std.proofs.lemmas.Bool.{agree_below_at, eqb-true, false_from_ne_true, or_cases, cases_Bool}
 use Rattle.std.proofs.lemmas.Cmp.{nat_list_eq_equiv}
 use Rattle.std.proofs.lemmas.List.{append_cancel_left}
 use Rattle.std.proofs.lemmas.Slice.Eq.{bytes_eq-Decides}
 use Rattle.std.proofs.lemmas.Map.Made.{length-le_from_is_member}
 use Rattle.gnap_model.specs.Common.{Text, same_text}
 use Rattle.gnap_model.specs.Values.{code_digits, code_text, code_count, free_code}
-use Rattle.gnap_model.proofs.AliveTokens.{false_from}
 
 -- ---- different numbers have different codes
 
@@ -74,10 +73,10 @@ length-candidates zero number = refl
 length-candidates (suc tries) number = let rest = length-candidates tries (number + 1) in omega arith
 
 differ : (a b : ℕ) → a < b → b < a + code_count → bytes_eq (candidate a) (candidate b) ≡ false
-differ a b below near = false_from (bytes_eq (candidate a) (candidate b)) false
+differ a b below near = false_from_ne_true (bytes_eq (candidate a) (candidate b))
     (λ e.
     let same : a % code_count ≡ b % code_count = code_injective (a % code_count) (b % code_count) (omega arith) (omega arith) ((bytes_eq-Decides (candidate a) (candidate b)).0 e) in
-    absurd (omega arith)) refl
+    omega arith)
 
 apart : (tries a b : ℕ) → a < b → b + tries < a + code_count → AllByRecursion (λ code. bytes_eq (candidate a) code ≡ false) (candidates tries b)
 apart zero a b below near = (differ a b below (omega arith), tt)

@@ -5,7 +5,7 @@ use Rattle.std.specs.Prelude.{◌*◌, ◌==◌, ◌&&◌, ◌||◌, not, nat_le
 use Rattle.std.specs.List.{count_by, list_any, filter_map}
 use Rattle.std.proofs.lemmas.List.{reverse-append}
 use Rattle.std.proofs.lemmas.List.Folds.{list_any-append}
-use Rattle.std.proofs.lemmas.Bool.{and_from, and_parts, eqb-true, eq-eqb, lt-ltb, ltb-true, not-true, not_from_false, or_left, or_parts, or_right, cases_Bool}
+use Rattle.std.proofs.lemmas.Bool.{and_from, and_parts, eqb-true, eq-eqb, false_from_ne_true, lt-ltb, ltb-true, not-true, not_from_false, or_left, or_parts, or_right, cases_Bool}
 use Rattle.std.proofs.Math.Bool.{or-false}
 use Rattle.gnap_model.specs.Common.{Text, first_of, some_if}
 use Rattle.gnap_model.specs.Limits.{live_limit}
@@ -21,7 +21,7 @@ use Rattle.gnap_model.specs.Standing.StateChange.{ToPending, ToApproved}
 use Rattle.gnap_model.specs.Change.{tokens_of}
 use Rattle.gnap_model.specs.Actions.{Action, Supply, outcome_of, grant_outcome, pending_outcome, token_for, tokens_for, door_note, terms_for, instance_of, retire, round_for}
 use Rattle.gnap_model.specs.Actions.Action.{Refuse, ShowToken, ShowInactive, LapseAction, OpenAtOnce, OpenAsking, ShowRound, ShowHandle, TakeDecision, RenewDoor, CollectDecision, WrongReference, LastWrongReference, RefuseAndFinalize, ModifyAtOnce, ModifyAsking, CancelGrant, RotateToken, RevokeToken}
-use Rattle.gnap_model.proofs.AliveTokens.{HasNote, any-reverse, false_from, grant_retires, pend_retires, managed_issued, named_unfinalized, not_replaced, retire_any, tokens_has}
+use Rattle.gnap_model.proofs.AliveTokens.{HasNote, any-reverse, grant_retires, pend_retires, managed_issued, named_unfinalized, not_replaced, retire_any, tokens_has}
 use Rattle.gnap_model.proofs.Causes.{Cause}
 use Rattle.gnap_model.proofs.Doors.{first_of-append}
 use Rattle.gnap_model.proofs.Opened.{EachNote, each-append, each-reverse, each_of}
@@ -426,14 +426,14 @@ within supply trail call action sound pending cause room h = at action cause roo
         (issues_more (is_live whole supply.now) others trail (λ t issued e.
         and_from (is_live trail supply.now t) (not (t.grant == o.grant))
         (live_was trail (reverse (outcome_of supply (ModifyAtOnce o consent retired request)).notes) supply.now t (fate supply trail call (ModifyAtOnce o consent retired request) t sound pending a issued) e)
-        (not_from_false (t.grant == o.grant) (false_from (t.grant == o.grant) false (λ same.
+        (not_from_false (t.grant == o.grant) (false_from_ne_true (t.grant == o.grant) (λ same.
         let retires = at_once_retires supply trail o consent retired request a.0.0 t issued a.0.2 a.2 (sym (eqb-true t.grant o.grant same)) in
-        let no = sym (live_parts whole supply.now t e).kept ∙ retires in cc no) refl)))) in omega arith
+        let no = sym (live_parts whole supply.now t e).kept ∙ retires in cc no))))) in omega arith
     at (RotateToken o t) a r =
         let whole : List Note = reverse (outcome_of supply (RotateToken o t)).notes ++ trail in
         let issued : HasNote trail (Issued t) = (managed_issued trail supply.now a.1.0 t a.1.2).0 in
         let retires : list_any (is_retirement t.serial) whole ≡ true = or_left (t.serial == t.serial) (list_any (is_retirement t.serial) trail) (eq-eqb t.serial t.serial refl) in
-        let dead : is_live whole supply.now t ≡ false = false_from (is_live whole supply.now t) false (λ e. let no = sym (live_parts whole supply.now t e).kept ∙ retires in cc no) refl in
+        let dead : is_live whole supply.now t ≡ false = false_from_ne_true (is_live whole supply.now t) (λ e. let no = sym (live_parts whole supply.now t e).kept ∙ retires in cc no) in
         let less = count_less (issues (is_live whole supply.now)) (issues (is_live trail supply.now)) trail (Issued t) issued
         (some_if_test (is_live whole supply.now t) t ∙ dead) (some_if_test (is_live trail supply.now t) t ∙ a.2)
         (issues_more (is_live whole supply.now) (is_live trail supply.now) trail

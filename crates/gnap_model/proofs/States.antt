@@ -3,7 +3,7 @@ use Rattle.std.proofs.Common.{ℕ, ◌≡◌, ◌≤◌, ◌<◌, ◌⊎◌, inl
 use Rattle.std.specs.Option.{option_or}
 use Rattle.std.specs.Prelude.{◌*◌, ◌==◌, ◌||◌, nat_le, if◌then◌else◌}
 use Rattle.std.specs.List.{list_any}
-use Rattle.std.proofs.lemmas.Bool.{eqb-true, leb-true, le-leb, not-true, or_cases, or_left, or_right}
+use Rattle.std.proofs.lemmas.Bool.{eqb-true, false_from_ne_true, leb-true, le-leb, not-true, or_cases, or_left, or_right}
 use Rattle.std.proofs.lemmas.List.Folds.{list_any-append}
 use Rattle.gnap_model.specs.Common.{Text, first_of, some_if}
 use Rattle.gnap_model.specs.Asked.{Ask, Modes}
@@ -17,7 +17,7 @@ use Rattle.gnap_model.specs.Actions.{Action, Supply, outcome_of, grant_outcome, 
 use Rattle.gnap_model.specs.Actions.Action.{Refuse, ShowToken, ShowInactive, LapseAction, OpenAtOnce, OpenAsking, ShowRound, ShowHandle, TakeDecision, RenewDoor, CollectDecision, WrongReference, LastWrongReference, RefuseAndFinalize, ModifyAtOnce, ModifyAsking, CancelGrant, RotateToken, RevokeToken}
 use Rattle.gnap_model.proofs.Causes.{Names, Cause}
 use Rattle.gnap_model.proofs.Doors.{first_of-append}
-use Rattle.gnap_model.proofs.AliveTokens.{false_from, named_unfinalized}
+use Rattle.gnap_model.proofs.AliveTokens.{named_unfinalized}
 use Rattle.gnap_model.proofs.Opened.{EachNote, each-append, each-reverse}
 
 -- ---- notes that say nothing of a grant's state
@@ -156,7 +156,7 @@ silent_others supply (CancelGrant o) other e = silent_on o.grant other (Finalize
 
 -- a grant that is opened is another than those that were opened before
 pub opened_is_another : (trail : List Note) (o : OpeningNote) (grant : ℕ) → o.grant ≡ next_grant trail → grant < next_grant trail → (o.grant == grant) ≡ false
-opened_is_another trail o grant e low = false_from (o.grant == grant) false (λ h. let same : o.grant ≡ grant = eqb-true o.grant grant h in absurd (omega arith)) refl
+opened_is_another trail o grant e low = false_from_ne_true (o.grant == grant) (λ h. let same : o.grant ≡ grant = eqb-true o.grant grant h in omega arith)
 
 -- An entry says nothing of the state of a grant that was opened before, or the grant goes on before the entry.
 pub silent_or_goes_on : (supply : Supply) (trail : List Note) (call : Call) (action : Action) (grant : ℕ) → Cause trail supply.now call action → grant < next_grant trail

@@ -1,5 +1,5 @@
 -- What each note does to the rows of grants.
-use Rattle.std.proofs.Common.{ℕ, ◌≡◌, ◌+◌, Bool, true, false, cond, List, [], ◌∷◌, ◌++◌, reverse, refl, sym, ◌∙◌, ap, subst, inl, inr, arith, Option, Some, None}
+use Rattle.std.proofs.Common.{ℕ, ◌≡◌, ◌+◌, Bool, true, false, cond, List, [], ◌∷◌, ◌++◌, reverse, refl, sym, ◌∙◌, ap, subst, arith, Option, Some, None}
 use Rattle.std.specs.Prelude.{◌||◌, not, ◌==◌, if◌then◌else◌, nat_le}
 use Rattle.std.specs.Option.{option_or, option_and_then, unwrap_or}
 use Rattle.std.specs.List.{list_any, filter_map, cons_option, count_by}
@@ -23,7 +23,7 @@ use Rattle.gnap_model.proofs.Opened.{opened_found}
 use Rattle.gnap_tables.specs.Rows.{Round, GrantRow, asks_of, single_of, subject_of, round_row, round_in, grant_row_in, grant_rows}
 use Rattle.gnap_tables.specs.Tables.{new_grant, with_terms, with_approval, with_round, with_decision, with_wrong, with_door, grants_after}
 use Rattle.gnap_tables.specs.AddableNotes.{IsNew, GoesOn, CanFollow}
-use Rattle.gnap_tables.proofs.Lists.{filter_map-filter_map, filter_map-reverse, map_is, filter_is, reverse-cons}
+use Rattle.gnap_tables.proofs.Lists.{filter_map-reverse, map_is, filter_is, reverse-cons, HasItem, all_kept, item_noted, parts_changed}
 
 -- ---- what a note does to one row
 
@@ -314,27 +314,6 @@ next_row (Retired s w) trail now o can other =
 
 -- ---- all grants
 
-rows_by : (f : GrantRow → Option GrantRow) (trail after : List Note) (now later : ℕ) (ns : List Note)
-    → ((o : OpeningNote) → HasNote ns (Opened o) → grant_row_in after later (Opened o) ≡ option_and_then f (grant_row_in trail now (Opened o)))
-    → filter_map (grant_row_in after later) ns ≡ filter_map f (filter_map (grant_row_in trail now) ns)
-rows_by f trail after now later ns h = by ns h ∙ sym (filter_map-filter_map (grant_row_in trail now) f ns)
-  where
-    by : (ms : List Note) → ((o : OpeningNote) → HasNote ms (Opened o) → grant_row_in after later (Opened o) ≡ option_and_then f (grant_row_in trail now (Opened o)))
-        → filter_map (grant_row_in after later) ms ≡ filter_map (λ n. option_and_then f (grant_row_in trail now n)) ms
-    by [] k = refl
-    by (Opened o ∷ ms) k =
-        ap (λ (x : Option GrantRow). cons_option x (filter_map (grant_row_in after later) ms)) (k o (inl refl))
-        ∙ ap (cons_option (option_and_then f (grant_row_in trail now (Opened o)))) (by ms (λ p i. k p (inr i)))
-    by (Terms w ∷ ms) k = by ms (λ p i. k p (inr i))
-    by (Approved g c ∷ ms) k = by ms (λ p i. k p (inr i))
-    by (Issued t ∷ ms) k = by ms (λ p i. k p (inr i))
-    by (Door g v e ∷ ms) k = by ms (λ p i. k p (inr i))
-    by (Pended r ∷ ms) k = by ms (λ p i. k p (inr i))
-    by (DecidedAs d ∷ ms) k = by ms (λ p i. k p (inr i))
-    by (Finalized g ∷ ms) k = by ms (λ p i. k p (inr i))
-    by (Wrong g ∷ ms) k = by ms (λ p i. k p (inr i))
-    by (Retired s w ∷ ms) k = by ms (λ p i. k p (inr i))
-
 abbrev pub IsNoOpening : Note → Type 0
 IsNoOpening (Opened o) = ⊥
 IsNoOpening _ = Unit {0}
@@ -344,11 +323,19 @@ pub grants_changed : (f : GrantRow → Option GrantRow) (trail after : List Note
     → ((o : OpeningNote) → HasNote trail (Opened o) → grant_row_in after later (Opened o) ≡ option_and_then f (grant_row_in trail now (Opened o)))
     → reverse (filter_map (grant_row_in after later) trail) ≡ filter_map f (grant_rows trail now)
 grants_changed f trail after now later h =
-    ap reverse (rows_by f trail after now later trail h) ∙ sym (filter_map-reverse f (filter_map (grant_row_in trail now) trail))
-
-all_kept : (rows : List GrantRow) → filter_map (λ (row : GrantRow). Some row) rows ≡ rows
-all_kept [] = refl
-all_kept (row ∷ rows) = ap (λ (xs : List GrantRow). row ∷ xs) (all_kept rows)
+    ap reverse (parts_changed f (grant_row_in trail now) (grant_row_in after later) trail each) ∙ sym (filter_map-reverse f (filter_map (grant_row_in trail now) trail))
+  where
+    each : (n : Note) → HasItem trail n → grant_row_in after later n ≡ option_and_then f (grant_row_in trail now n)
+    each (Opened o) i = h o (item_noted trail (Opened o) i)
+    each (Terms w) i = refl
+    each (Approved g c) i = refl
+    each (Issued t) i = refl
+    each (Door g v e) i = refl
+    each (Pended r) i = refl
+    each (DecidedAs d) i = refl
+    each (Finalized g) i = refl
+    each (Wrong g) i = refl
+    each (Retired s w) i = refl
 
 -- each change is one of the list
 change_is : (n : Note) (rows : List GrantRow) → IsNoOpening n → filter_map (note_change n) rows ≡ grants_after n rows

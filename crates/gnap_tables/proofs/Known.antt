@@ -2,6 +2,7 @@
 use Rattle.std.proofs.Common.{ℕ, ◌≡◌, ◌<◌, ◌≤◌, ◌+◌, ◌*◌, Bool, true, false, List, [], ◌∷◌, ◌++◌, length, map, reverse, refl, sym, ◌∙◌, subst, inl, arith, cond, Option, Some, None}
 use Rattle.std.specs.Prelude.{◌==◌, if◌then◌else◌, option_map}
 use Rattle.std.specs.List.{list_any}
+use Rattle.std.proofs.lemmas.Bool.{or_from}
 use Rattle.std.proofs.lemmas.Bool.Decides.{nat_tests}
 use Rattle.std.proofs.lemmas.List.Sums.{sum_by-append}
 use Rattle.gnap_model.specs.Common.{Text, first_of, same_text}
@@ -161,101 +162,31 @@ not_found : {B : Type 0} (look : Note → Option B) (g : ℕ) (ns : List Note) �
 not_found look g [] f h = refl
 not_found look g (n ∷ ns) f h = rw (f n h.0) (not_found look g ns f h.1)
 
+-- A note of grants below the number says nothing of it.
+says_nothing : (g : ℕ) (n : Note) → KnownAt g n
+    → (opening_in g n ≡ None) × (is_end_of g n ≡ false) × (terms_in g n ≡ None) × (consent_in g n ≡ None) × (door_in g n ≡ None) × (earliest_in g n ≡ None) × (state_change_in g n ≡ None)
+says_nothing g (Opened o) low = let b : (o.grant == g) ≡ false = below_not o.grant g low in (rw b refl, refl, refl, refl, refl, refl, refl)
+says_nothing g (Terms w) low = let b : (w.grant == g) ≡ false = below_not w.grant g low in (refl, refl, rw b refl, refl, refl, refl, refl)
+says_nothing g (Approved k c) low = let b : (k == g) ≡ false = below_not k g low in (refl, refl, refl, rw b refl, refl, refl, rw b refl)
+says_nothing g (Issued t) low = (refl, refl, refl, refl, refl, refl, refl)
+says_nothing g (Door k v x) low = let b : (k == g) ≡ false = below_not k g low in (refl, refl, refl, refl, rw b refl, rw b refl, refl)
+says_nothing g (Pended r) low = let b : (r.grant == g) ≡ false = below_not r.grant g low in (refl, refl, refl, refl, refl, refl, rw b refl)
+says_nothing g (DecidedAs d) low = (refl, refl, refl, refl, refl, refl, refl)
+says_nothing g (Finalized k) low = let b : (k == g) ≡ false = below_not k g low in (refl, rw b refl, refl, refl, refl, refl, refl)
+says_nothing g (Wrong k) low = (refl, refl, refl, refl, refl, refl, refl)
+says_nothing g (Retired s w) low = (refl, refl, refl, refl, refl, refl, refl)
+
 not_ended : (g : ℕ) (ns : List Note) → AreKnown g ns → list_any (is_end_of g) ns ≡ false
 not_ended g [] h = refl
-not_ended g (n ∷ ns) h = at n h.0 (not_ended g ns h.1)
-  where
-    at : (m : Note) → KnownAt g m → list_any (is_end_of g) ns ≡ false → list_any (is_end_of g) (m ∷ ns) ≡ false
-    at (Finalized k) low e = let b : (k == g) ≡ false = below_not k g low in rw b e
-    at (Opened o) low e = e
-    at (Terms w) low e = e
-    at (Approved k c) low e = e
-    at (Issued t) low e = e
-    at (Door k v x) low e = e
-    at (Pended r) low e = e
-    at (DecidedAs d) low e = e
-    at (Wrong k) low e = e
-    at (Retired s w) low e = e
-
-no_opening : (g : ℕ) (n : Note) → KnownAt g n → opening_in g n ≡ None
-no_opening g (Opened o) low = let b : (o.grant == g) ≡ false = below_not o.grant g low in rw b refl
-no_opening g (Terms w) low = refl
-no_opening g (Approved k c) low = refl
-no_opening g (Issued t) low = refl
-no_opening g (Door k v x) low = refl
-no_opening g (Pended r) low = refl
-no_opening g (DecidedAs d) low = refl
-no_opening g (Finalized k) low = refl
-no_opening g (Wrong k) low = refl
-no_opening g (Retired s w) low = refl
-
-no_terms : (g : ℕ) (n : Note) → KnownAt g n → terms_in g n ≡ None
-no_terms g (Terms w) low = let b : (w.grant == g) ≡ false = below_not w.grant g low in rw b refl
-no_terms g (Opened o) low = refl
-no_terms g (Approved k c) low = refl
-no_terms g (Issued t) low = refl
-no_terms g (Door k v x) low = refl
-no_terms g (Pended r) low = refl
-no_terms g (DecidedAs d) low = refl
-no_terms g (Finalized k) low = refl
-no_terms g (Wrong k) low = refl
-no_terms g (Retired s w) low = refl
-
-no_consent : (g : ℕ) (n : Note) → KnownAt g n → consent_in g n ≡ None
-no_consent g (Approved k c) low = let b : (k == g) ≡ false = below_not k g low in rw b refl
-no_consent g (Terms w) low = refl
-no_consent g (Opened o) low = refl
-no_consent g (Issued t) low = refl
-no_consent g (Door k v x) low = refl
-no_consent g (Pended r) low = refl
-no_consent g (DecidedAs d) low = refl
-no_consent g (Finalized k) low = refl
-no_consent g (Wrong k) low = refl
-no_consent g (Retired s w) low = refl
-
-no_door : (g : ℕ) (n : Note) → KnownAt g n → door_in g n ≡ None
-no_door g (Door k v x) low = let b : (k == g) ≡ false = below_not k g low in rw b refl
-no_door g (Terms w) low = refl
-no_door g (Opened o) low = refl
-no_door g (Approved k c) low = refl
-no_door g (Issued t) low = refl
-no_door g (Pended r) low = refl
-no_door g (DecidedAs d) low = refl
-no_door g (Finalized k) low = refl
-no_door g (Wrong k) low = refl
-no_door g (Retired s w) low = refl
-
-no_earliest : (g : ℕ) (n : Note) → KnownAt g n → earliest_in g n ≡ None
-no_earliest g (Door k v x) low = let b : (k == g) ≡ false = below_not k g low in rw b refl
-no_earliest g (Terms w) low = refl
-no_earliest g (Opened o) low = refl
-no_earliest g (Approved k c) low = refl
-no_earliest g (Issued t) low = refl
-no_earliest g (Pended r) low = refl
-no_earliest g (DecidedAs d) low = refl
-no_earliest g (Finalized k) low = refl
-no_earliest g (Wrong k) low = refl
-no_earliest g (Retired s w) low = refl
-
-no_change : (g : ℕ) (n : Note) → KnownAt g n → state_change_in g n ≡ None
-no_change g (Approved k c) low = let b : (k == g) ≡ false = below_not k g low in rw b refl
-no_change g (Pended r) low = let b : (r.grant == g) ≡ false = below_not r.grant g low in rw b refl
-no_change g (Terms w) low = refl
-no_change g (Opened o) low = refl
-no_change g (Issued t) low = refl
-no_change g (Door k v x) low = refl
-no_change g (DecidedAs d) low = refl
-no_change g (Finalized k) low = refl
-no_change g (Wrong k) low = refl
-no_change g (Retired s w) low = refl
+not_ended g (n ∷ ns) h = or_from (is_end_of g n) (list_any (is_end_of g) ns) (says_nothing g n h.0).1 (not_ended g ns h.1)
 
 pub is_new : (g : ℕ) (ns : List Note) → AreKnown g ns → IsNew ns g
 is_new g ns h = record {
-  opening = not_found (opening_in g) g ns (no_opening g) h;
+  opening = not_found (opening_in g) g ns (λ n low. (says_nothing g n low).0) h;
   unended = not_ended g ns h;
-  terms = not_found (terms_in g) g ns (no_terms g) h;
-  consent = not_found (consent_in g) g ns (no_consent g) h;
-  door = not_found (door_in g) g ns (no_door g) h;
-  earliest = not_found (earliest_in g) g ns (no_earliest g) h;
-  change = not_found (state_change_in g) g ns (no_change g) h;
+  terms = not_found (terms_in g) g ns (λ n low. (says_nothing g n low).2) h;
+  consent = not_found (consent_in g) g ns (λ n low. (says_nothing g n low).3) h;
+  door = not_found (door_in g) g ns (λ n low. (says_nothing g n low).4) h;
+  earliest = not_found (earliest_in g) g ns (λ n low. (says_nothing g n low).5) h;
+  change = not_found (state_change_in g) g ns (λ n low. (says_nothing g n low).6) h;
 }

@@ -2,8 +2,8 @@ pub mod Lists
 pub mod GrantsAfter
 pub mod TokensAfter
 pub mod TablesAfter
-pub mod SweptTables
 pub mod Bridges
+pub mod SweptTables
 pub mod TokenBridges
 pub mod RoundBridges
 pub mod ActionsAgree

@@ -1,27 +1,26 @@
 -- What time does to the tables.
-use Rattle.std.proofs.Common.{ℕ, ◌≡◌, ◌≤◌, Bool, true, false, List, [], ◌∷◌, refl, sym, ◌∙◌, ap, subst, arith, Option, Some, None}
+use Rattle.std.proofs.Common.{ℕ, ◌≡◌, ◌≤◌, Bool, true, false, List, reverse, refl, sym, ◌∙◌, ap, arith, Option, Some, None}
 use Rattle.std.specs.Prelude.{◌&&◌, ◌||◌, not, ◌==◌, if◌then◌else◌, nat_le, is_some}
-use Rattle.std.specs.Option.{option_or, option_and_then, unwrap_or}
-use Rattle.std.specs.List.{list_any, filter_map, cons_option}
-use Rattle.std.proofs.lemmas.Bool.{eqb-true, and_right}
+use Rattle.std.specs.Option.{option_and_then}
+use Rattle.std.specs.List.{list_any}
 use Rattle.std.proofs.lemmas.Bool.Decides.{nat_tests}
 use Rattle.gnap_model.specs.Common.{first_of, some_if}
 use Rattle.gnap_model.specs.declared.notes.OpeningNote.{OpeningNote}
 use Rattle.gnap_model.specs.declared.notes.RoundNote.{RoundNote}
 use Rattle.gnap_model.specs.declared.notes.TokenNote.{TokenNote}
 use Rattle.gnap_model.specs.declared.notes.Note.{Note}
-use Rattle.gnap_model.specs.declared.notes.Note.TheVariants.{Opened, Terms, Approved, Issued, Door, Pended, DecidedAs, Finalized, Wrong, Retired}
-use Rattle.gnap_model.specs.Standing.{GrantState, StateChange, grant_state, state_after, is_finalized, is_approved, is_end_of, opening_in, state_change_in, is_replacement, terms_of, consent_of, door, earliest_in}
+use Rattle.gnap_model.specs.declared.notes.Note.TheVariants.{Opened, Issued}
+use Rattle.gnap_model.specs.Standing.{GrantState, StateChange, grant_state, state_after, is_finalized, is_end_of, opening_in, state_change_in, is_replacement, terms_of}
 use Rattle.gnap_model.specs.Standing.GrantState.{IsPending, IsApproved, IsFinalized}
 use Rattle.gnap_model.specs.Standing.StateChange.{ToPending, ToApproved}
-use Rattle.gnap_model.specs.Actions.{or_zeros}
 use Rattle.gnap_model.proofs.AliveTokens.{HasNote, any-reverse}
 use Rattle.gnap_model.proofs.States.{finalized_later}
-use Rattle.gnap_tables.specs.Rows.{GrantRow, TokenRow, asks_of, single_of, subject_of, round_in, grant_row, grant_row_in, grant_rows, token_row, token_row_in, token_rows}
+use Rattle.gnap_tables.specs.Rows.{GrantRow, TokenRow, row_at, grant_row, grant_row_in, grant_rows, token_row, token_row_in, token_rows}
 use Rattle.gnap_tables.specs.Tables.{tables_of, is_row_over, sweep_grants, has_grant, sweep_tokens, sweep}
-use Rattle.gnap_tables.proofs.Lists.{filter_is}
+use Rattle.gnap_tables.proofs.Lists.{any_found, filter_is}
 use Rattle.gnap_tables.proofs.GrantsAfter.{grants_changed}
 use Rattle.gnap_tables.proofs.TokensAfter.{tokens_changed}
+use Rattle.gnap_tables.proofs.Bridges.{number_is}
 
 -- Each grant was opened once.
 abbrev pub IsOpenedOnce : List Note → Type 0
@@ -39,21 +38,7 @@ abbrev state_when : Bool → ℕ → Option StateChange → ℕ → GrantState
 state_when ended end change now = if ended || nat_le end now then IsFinalized else state_after change now
 
 abbrev row_when : List Note → OpeningNote → GrantState → Option GrantRow
-row_when trail o s = some_if (not (is_finalized s)) (record {
-  number = o.grant;
-  key = o.key;
-  by_object = o.by_object;
-  user = o.user;
-  asks = asks_of (terms_of trail o.grant);
-  single = single_of (terms_of trail o.grant);
-  subject = subject_of (terms_of trail o.grant);
-  end = o.end;
-  consent = consent_of trail o.grant;
-  approved = is_approved s;
-  round = round_in trail o.grant s;
-  door = or_zeros 32 (door trail o.grant);
-  earliest = unwrap_or (first_of (earliest_in o.grant) trail) 0;
-})
+row_when trail o s = some_if (not (is_finalized s)) (row_at trail o (terms_of trail o.grant) s)
 
 abbrev stays : ℕ → GrantRow → Option GrantRow
 stays later row = some_if (not (is_row_over later row)) row
@@ -102,45 +87,16 @@ grants_swept trail now later once le =
 
 -- ---- tokens
 
--- Among some notes, the row of a grant is there where the grant was opened there and isn't finalized.
-any_row : (trail : List Note) (now g : ℕ) (ns : List Note)
-    → list_any (λ (row : GrantRow). row.number == g) (filter_map (grant_row_in trail now) ns) ≡ (is_some (first_of (opening_in g) ns) && not (is_finalized (grant_state trail g now)))
-any_row trail now g [] = refl
-any_row trail now g (Opened o ∷ ns) = at (o.grant == g) refl (is_finalized (grant_state trail o.grant now)) refl (any_row trail now g ns)
-  where
-    known : (x : Option OpeningNote) (b : Bool) → (is_some x && true) ≡ b → is_some x ≡ b
-    known None b e = e
-    known (Some y) b e = e
-
-    rest : Bool
-    rest = list_any (λ (row : GrantRow). row.number == g) (filter_map (grant_row_in trail now) ns)
-
-    at : (b : Bool) → (o.grant == g) ≡ b → (f : Bool) → is_finalized (grant_state trail o.grant now) ≡ f
-        → rest ≡ (is_some (first_of (opening_in g) ns) && not (is_finalized (grant_state trail g now)))
-        → list_any (λ (row : GrantRow). row.number == g) (cons_option (some_if (not f) (grant_row trail now o)) (filter_map (grant_row_in trail now) ns))
-        ≡ (is_some (option_or (some_if b o) (first_of (opening_in g) ns)) && not (is_finalized (grant_state trail g now)))
-    at true e true s ih =
-        let same : is_finalized (grant_state trail g now) ≡ true = subst (λ n. is_finalized (grant_state trail n now) ≡ true) (eqb-true o.grant g e) s in
-        ih ∙ rw same (and_right (is_some (first_of (opening_in g) ns)) false refl)
-    at true e false s ih =
-        let same : is_finalized (grant_state trail g now) ≡ false = subst (λ n. is_finalized (grant_state trail n now) ≡ false) (eqb-true o.grant g e) s in
-        rw (e, same) refl
-    at false e true s ih = ih
-    at false e false s ih = rw e ih
-any_row trail now g (Terms w ∷ ns) = any_row trail now g ns
-any_row trail now g (Approved k c ∷ ns) = any_row trail now g ns
-any_row trail now g (Issued t ∷ ns) = any_row trail now g ns
-any_row trail now g (Door k v x ∷ ns) = any_row trail now g ns
-any_row trail now g (Pended r ∷ ns) = any_row trail now g ns
-any_row trail now g (DecidedAs d ∷ ns) = any_row trail now g ns
-any_row trail now g (Finalized k ∷ ns) = any_row trail now g ns
-any_row trail now g (Wrong k ∷ ns) = any_row trail now g ns
-any_row trail now g (Retired s w ∷ ns) = any_row trail now g ns
-
 -- An opened grant has a row where it isn't finalized.
 pub has_row : (trail : List Note) (now g : ℕ) → is_some (first_of (opening_in g) trail) ≡ true → has_grant g (grant_rows trail now) ≡ not (is_finalized (grant_state trail g now))
 has_row trail now g h =
-    any-reverse (λ (row : GrantRow). row.number == g) (filter_map (grant_row_in trail now) trail) ∙ any_row trail now g trail ∙ rw h refl
+    sym (any-reverse (λ (row : GrantRow). row.number == g) (grant_rows trail now)) ∙ any_found (λ (row : GrantRow). row.number == g) (reverse (grant_rows trail now))
+    ∙ ap (λ (row : Option GrantRow). is_some row) (number_is trail now g) ∙ found (is_finalized (grant_state trail g now)) (first_of (opening_in g) trail) h
+  where
+    found : (f : Bool) (o : Option OpeningNote) → is_some o ≡ true → is_some (option_and_then (λ (p : OpeningNote). some_if (not f) (grant_row trail now p)) o) ≡ not f
+    found f None e = cc e
+    found true (Some p) e = refl
+    found false (Some p) e = refl
 
 -- And with them their tokens.
 pub tokens_swept : (trail : List Note) (now later : ℕ) → HaveGrants trail → now ≤ later → token_rows trail later ≡ sweep_tokens (grant_rows trail later) (token_rows trail now)

@@ -1,5 +1,5 @@
 -- What each note does to the rows of tokens.
-use Rattle.std.proofs.Common.{ℕ, ◌≡◌, Bool, true, false, List, [], ◌∷◌, ◌++◌, reverse, refl, sym, ◌∙◌, ap, subst, inl, inr, Option, Some, None}
+use Rattle.std.proofs.Common.{ℕ, ◌≡◌, Bool, true, false, List, [], ◌∷◌, ◌++◌, reverse, refl, sym, ◌∙◌, ap, subst, Option, Some, None}
 use Rattle.std.specs.Prelude.{◌&&◌, ◌||◌, not, ◌==◌, if◌then◌else◌, nat_le}
 use Rattle.std.specs.Option.{option_or, option_and_then}
 use Rattle.std.specs.List.{list_any, filter_map, cons_option}
@@ -15,11 +15,11 @@ use Rattle.gnap_model.specs.declared.notes.Note.TheVariants.{Opened, Terms, Appr
 use Rattle.gnap_model.specs.Standing.{GrantState, StateChange, grant_state, state_after, has_ended, is_finalized, is_end_of, opening_in, state_change_in, is_retirement, is_replacement}
 use Rattle.gnap_model.specs.Standing.GrantState.{IsPending, IsFinalized}
 use Rattle.gnap_model.specs.Standing.StateChange.{ToPending, ToApproved}
-use Rattle.gnap_model.proofs.AliveTokens.{HasNote}
+use Rattle.gnap_model.proofs.AliveTokens.{HasNote, not_replaced}
 use Rattle.gnap_tables.specs.Rows.{TokenRow, token_row_in, token_rows}
 use Rattle.gnap_tables.specs.Tables.{new_token, with_retirement, tokens_after}
 use Rattle.gnap_tables.specs.AddableNotes.{IsNew, GoesOn, CanFollow}
-use Rattle.gnap_tables.proofs.Lists.{filter_map-filter_map, filter_map-reverse, map_is, filter_is, reverse-cons}
+use Rattle.gnap_tables.proofs.Lists.{filter_map-reverse, map_is, filter_is, reverse-cons, HasItem, all_kept, item_noted, parts_changed}
 
 -- ---- which grants are finalized
 
@@ -171,67 +171,28 @@ next_token (Retired s ByModification) trail now t can = row_replaced t s (replac
 
 -- ---- all tokens
 
-rows_by : (f : TokenRow → Option TokenRow) (trail after : List Note) (now later : ℕ) (ns : List Note)
-    → ((t : TokenNote) → HasNote ns (Issued t) → token_row_in after later (Issued t) ≡ option_and_then f (token_row_in trail now (Issued t)))
-    → filter_map (token_row_in after later) ns ≡ filter_map f (filter_map (token_row_in trail now) ns)
-rows_by f trail after now later ns h = by ns h ∙ sym (filter_map-filter_map (token_row_in trail now) f ns)
-  where
-    by : (ms : List Note) → ((t : TokenNote) → HasNote ms (Issued t) → token_row_in after later (Issued t) ≡ option_and_then f (token_row_in trail now (Issued t)))
-        → filter_map (token_row_in after later) ms ≡ filter_map (λ n. option_and_then f (token_row_in trail now n)) ms
-    by [] k = refl
-    by (Issued t ∷ ms) k =
-        ap (λ (x : Option TokenRow). cons_option x (filter_map (token_row_in after later) ms)) (k t (inl refl))
-        ∙ ap (cons_option (option_and_then f (token_row_in trail now (Issued t)))) (by ms (λ p i. k p (inr i)))
-    by (Opened o ∷ ms) k = by ms (λ p i. k p (inr i))
-    by (Terms w ∷ ms) k = by ms (λ p i. k p (inr i))
-    by (Approved g c ∷ ms) k = by ms (λ p i. k p (inr i))
-    by (Door g v e ∷ ms) k = by ms (λ p i. k p (inr i))
-    by (Pended r ∷ ms) k = by ms (λ p i. k p (inr i))
-    by (DecidedAs d ∷ ms) k = by ms (λ p i. k p (inr i))
-    by (Finalized g ∷ ms) k = by ms (λ p i. k p (inr i))
-    by (Wrong g ∷ ms) k = by ms (λ p i. k p (inr i))
-    by (Retired s w ∷ ms) k = by ms (λ p i. k p (inr i))
-
 -- the rows later, or after more notes, are those of now with each row changed or taken out
 pub tokens_changed : (f : TokenRow → Option TokenRow) (trail after : List Note) (now later : ℕ)
     → ((t : TokenNote) → HasNote trail (Issued t) → token_row_in after later (Issued t) ≡ option_and_then f (token_row_in trail now (Issued t)))
     → reverse (filter_map (token_row_in after later) trail) ≡ filter_map f (token_rows trail now)
 tokens_changed f trail after now later h =
-    ap reverse (rows_by f trail after now later trail h) ∙ sym (filter_map-reverse f (filter_map (token_row_in trail now) trail))
-
-all_kept : (rows : List TokenRow) → filter_map (λ (row : TokenRow). Some row) rows ≡ rows
-all_kept [] = refl
-all_kept (row ∷ rows) = ap (λ (xs : List TokenRow). row ∷ xs) (all_kept rows)
-
-not_replaced : (trail : List Note) (s : ℕ) → list_any (is_retirement s) trail ≡ false → list_any (is_replacement s) trail ≡ false
-not_replaced [] s h = refl
-not_replaced (n ∷ ns) s h = at n (not_replaced ns s) h
+    ap reverse (parts_changed f (token_row_in trail now) (token_row_in after later) trail each) ∙ sym (filter_map-reverse f (filter_map (token_row_in trail now) trail))
   where
-    both : (a b c : Bool) → (a || b) ≡ false → (b ≡ false → c ≡ false) → (a || c) ≡ false
-    both true b c h k = cc h
-    both false b c h k = k h
-
-    right : (a b c : Bool) → (a || b) ≡ false → (b ≡ false → c ≡ false) → c ≡ false
-    right true b c h k = cc h
-    right false b c h k = k h
-
-    at : (m : Note) → (list_any (is_retirement s) ns ≡ false → list_any (is_replacement s) ns ≡ false) → list_any (is_retirement s) (m ∷ ns) ≡ false → list_any (is_replacement s) (m ∷ ns) ≡ false
-    at (Retired r ByRevocation) rest k = right (r == s) (list_any (is_retirement s) ns) (list_any (is_replacement s) ns) k rest
-    at (Retired r ByRotation) rest k = both (r == s) (list_any (is_retirement s) ns) (list_any (is_replacement s) ns) k rest
-    at (Retired r ByModification) rest k = both (r == s) (list_any (is_retirement s) ns) (list_any (is_replacement s) ns) k rest
-    at (Opened o) rest k = rest k
-    at (Terms w) rest k = rest k
-    at (Approved g c) rest k = rest k
-    at (Issued t) rest k = rest k
-    at (Door g v e) rest k = rest k
-    at (Pended r) rest k = rest k
-    at (DecidedAs d) rest k = rest k
-    at (Finalized g) rest k = rest k
-    at (Wrong g) rest k = rest k
+    each : (n : Note) → HasItem trail n → token_row_in after later n ≡ option_and_then f (token_row_in trail now n)
+    each (Opened o) i = refl
+    each (Terms w) i = refl
+    each (Approved g c) i = refl
+    each (Issued t) i = h t (item_noted trail (Issued t) i)
+    each (Door g v e) i = refl
+    each (Pended r) i = refl
+    each (DecidedAs d) i = refl
+    each (Finalized g) i = refl
+    each (Wrong g) i = refl
+    each (Retired s w) i = refl
 
 -- the row of a token that was just issued
 issued_row : (trail : List Note) (now : ℕ) (t : TokenNote) → GoesOn trail now t.grant → list_any (is_retirement t.serial) trail ≡ false → token_row_in (Issued t ∷ trail) now (Issued t) ≡ Some (new_token t)
-issued_row trail now t going fresh = rw (not_replaced trail t.serial fresh, going, fresh) refl
+issued_row trail now t going fresh = rw (not_replaced t.serial trail fresh, going, fresh) refl
 
 -- What a note does to the tokens.
 pub tokens_next : (n : Note) (trail : List Note) (now : ℕ) → CanFollow now trail n → token_rows (n ∷ trail) now ≡ tokens_after n (token_rows trail now)

@@ -269,34 +269,35 @@ number_length n small =
     same : (a b : ℕ) → a ≡ b → (a == b) ≡ true
     same a b e = grind (arith, nat_tests)
 
--- ---- what the fields say of the body
+-- ---- what the fields say of the body, and that they are few
 
-framed : (ty : Option (List ℕ)) (ex : Extra) (last none : Bool) (n : ℕ) → n < 2 ^ 63 → frames (map name_and_value (fields_with ty ex last none n)) n ≡ true
+framed : (ty : Option (List ℕ)) (ex : Extra) (last none : Bool) (n : ℕ) → n < 2 ^ 63
+    → (frames (map name_and_value (fields_with ty ex last none n)) n ≡ true) × (nat_le (length (map name_and_value (fields_with ty ex last none n))) 64 ≡ true)
 unfolding eq_ignore_case line fields_with type_fields extra_fields close_fields length_fields
-framed None Nothing true true n small = refl
-framed None Nothing false true n small = refl
-framed None (Allow methods) true true n small = refl
-framed None (Allow methods) false true n small = refl
-framed None Challenge true true n small = refl
-framed None Challenge false true n small = refl
-framed (Some body) Nothing true true n small = refl
-framed (Some body) Nothing false true n small = refl
-framed (Some body) (Allow methods) true true n small = refl
-framed (Some body) (Allow methods) false true n small = refl
-framed (Some body) Challenge true true n small = refl
-framed (Some body) Challenge false true n small = refl
-framed None Nothing true false n small = number_length n small
-framed None Nothing false false n small = number_length n small
-framed None (Allow methods) true false n small = number_length n small
-framed None (Allow methods) false false n small = number_length n small
-framed None Challenge true false n small = number_length n small
-framed None Challenge false false n small = number_length n small
-framed (Some body) Nothing true false n small = number_length n small
-framed (Some body) Nothing false false n small = number_length n small
-framed (Some body) (Allow methods) true false n small = number_length n small
-framed (Some body) (Allow methods) false false n small = number_length n small
-framed (Some body) Challenge true false n small = number_length n small
-framed (Some body) Challenge false false n small = number_length n small
+framed None Nothing true true n small = (refl, refl)
+framed None Nothing false true n small = (refl, refl)
+framed None (Allow methods) true true n small = (refl, refl)
+framed None (Allow methods) false true n small = (refl, refl)
+framed None Challenge true true n small = (refl, refl)
+framed None Challenge false true n small = (refl, refl)
+framed (Some body) Nothing true true n small = (refl, refl)
+framed (Some body) Nothing false true n small = (refl, refl)
+framed (Some body) (Allow methods) true true n small = (refl, refl)
+framed (Some body) (Allow methods) false true n small = (refl, refl)
+framed (Some body) Challenge true true n small = (refl, refl)
+framed (Some body) Challenge false true n small = (refl, refl)
+framed None Nothing true false n small = (number_length n small, refl)
+framed None Nothing false false n small = (number_length n small, refl)
+framed None (Allow methods) true false n small = (number_length n small, refl)
+framed None (Allow methods) false false n small = (number_length n small, refl)
+framed None Challenge true false n small = (number_length n small, refl)
+framed None Challenge false false n small = (number_length n small, refl)
+framed (Some body) Nothing true false n small = (number_length n small, refl)
+framed (Some body) Nothing false false n small = (number_length n small, refl)
+framed (Some body) (Allow methods) true false n small = (number_length n small, refl)
+framed (Some body) (Allow methods) false false n small = (number_length n small, refl)
+framed (Some body) Challenge true false n small = (number_length n small, refl)
+framed (Some body) Challenge false false n small = (number_length n small, refl)
 
 -- ---- the fields
 
@@ -346,33 +347,6 @@ good_head r may small = record {
 
 -- ---- the whole
 
-few : (ty : Option (List ℕ)) (ex : Extra) (last none : Bool) (n : ℕ) → nat_le (length (map name_and_value (fields_with ty ex last none n))) 64 ≡ true
-unfolding fields_with type_fields extra_fields close_fields length_fields
-few None Nothing true true n = refl
-few None Nothing false true n = refl
-few None (Allow methods) true true n = refl
-few None (Allow methods) false true n = refl
-few None Challenge true true n = refl
-few None Challenge false true n = refl
-few (Some body) Nothing true true n = refl
-few (Some body) Nothing false true n = refl
-few (Some body) (Allow methods) true true n = refl
-few (Some body) (Allow methods) false true n = refl
-few (Some body) Challenge true true n = refl
-few (Some body) Challenge false true n = refl
-few None Nothing true false n = refl
-few None Nothing false false n = refl
-few None (Allow methods) true false n = refl
-few None (Allow methods) false false n = refl
-few None Challenge true false n = refl
-few None Challenge false false n = refl
-few (Some body) Nothing true false n = refl
-few (Some body) Nothing false false n = refl
-few (Some body) (Allow methods) true false n = refl
-few (Some body) (Allow methods) false false n = refl
-few (Some body) Challenge true false n = refl
-few (Some body) Challenge false false n = refl
-
 at_most : (n : ℕ) → n ≤ 16384 → nat_le n 16384 ≡ true
 at_most n e = grind (arith, nat_tests)
 
@@ -386,11 +360,11 @@ written_is_read_law r may small short =
     let n : ℕ = length (body_bytes r.body) in
     let used : Used r.status = used_from r.status may.status in
     let text : head_bytes r ≡ print_response (head_of r) = head_text r used in
+    let fields = framed r.body r.extra r.last (r.status == 204) n small in
     record {
       head = head_of r;
       reads = (good_head r may small, ap (λ (t : List ℕ). t ++ body_bytes r.body) text);
-      fits = and_from _ _ (and_from _ _ (and_from _ _ (at_most _ (subst (λ (t : List ℕ). length t ≤ 16384) text short)) (few r.body r.extra r.last (r.status == 204) n))
-          (framed r.body r.extra r.last (r.status == 204) n small))
+      fits = and_from _ _ (and_from _ _ (and_from _ _ (at_most _ (subst (λ (t : List ℕ). length t ≤ 16384) text short)) fields.1) fields.0)
           (subst (λ (s : ℕ). (not (s == 204) || n == 0) ≡ true) (sym (same_status r.status used)) (no_body r.status (r.status == 204) r.body refl may.no_content));
       status_is = sym (same_status r.status used);
     }

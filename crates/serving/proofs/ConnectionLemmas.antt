@@ -44,6 +44,13 @@ pub next_ok : {Message Fault : Type 0} (wire : Wire Message Fault) (held rest : 
     → ReadsMessage wire held rest a b (Ok r) → ReadsMessage wire held rest a b (Ok m)
 next_ok wire held rest a b r m is next = subst (λ x. ReadsMessage wire held rest a b (Ok x)) is next
 
+-- the same turn under the same number
+pub under_number : {Message A B N : Type 0} {IsTurn : Bool → Turn Message (Entry A B N) → Type 0} {k n : ℕ} {last : Bool} {m : Message} {seen : List (Entry A B N) → Type 0}
+    {h : List (Entry A B N)} {g g1 : GearState} {c c1 : Told} {f f1 : ℕ} {after : AfterTurn}
+    → k ≡ n → TakesTurn IsTurn k last m seen h g g1 c c1 f f1 after → TakesTurn IsTurn n last m seen h g g1 c c1 f f1 after
+under_number {Message} {A} {B} {N} {IsTurn} {k} {n} {last} {m} {seen} {h} {g} {g1} {c} {c1} {f} {f1} {after} is t =
+    subst (λ j. TakesTurn IsTurn j last m seen h g g1 c c1 f f1 after) is t
+
 rose_some : (f f' : ℕ) → f ≡ 0 → Rose f f' → 0 < f'
 rose_some f f' is rose = let r : Rose 0 f' = subst (λ x. Rose x f') is rose in omega (arith, r)
 

@@ -6,7 +6,7 @@ use Rattle.gnap_io.specs.Outside.{Told}
 use Rattle.gnap_io.specs.Gears.{GearState, with_moment, with_draw, with_uses}
 use Rattle.histories.specs.declared.entry.Entry.{Entry}
 use Rattle.histories.specs.History.{Law, Legal, entry_of}
-use Rattle.histories.specs.Steps.{Enters, EntersLapse}
+use Rattle.histories.specs.Steps.{NoneOf, Enters, EntersLapse}
 use Rattle.histories.specs.Turns.{Turn, Face}
 use Rattle.histories.specs.Whole.{own_of}
 use Rattle.histories.proofs.OwnEntries.{own-next}
@@ -63,41 +63,34 @@ module _ {A B N Message : Type 0} (IsTurn : Bool → Turn Message (Entry A B N) 
 module _ {R A B N Message : Type 0} (IsTurn : Bool → Turn Message (Entry A B N) → Type 0) (law : Law R A B N) (rules : R) (n : ℕ) (last : Bool) (m : Message) (t : ℕ) (d : List ℕ)
     (seen : List (Entry A B N) → Type 0) (h : List (Entry A B N)) (g g1 g2 : GearState) (conn conn' : Told) (f f' : ℕ) (after : AfterTurn)
     (bytes : List ℕ) (on : Bool) (first : g1 ≡ with_moment t g) (second : g2 ≡ with_draw d g1) (written : HasWrittenText bytes conn conn' f f' after) (follows : LetsFollow after on) where
-  pub with_entry : (call : A) (reply : B) → (x : Enters law rules n h t d call reply seen)
-      → IsTurn last (record { message = m; moment = t; entries = entry_of law rules (h ++ x.others) n t d call ∷ []; bytes = bytes; on = on })
+  -- a turn whose one entry has this call, behind entries of others
+  with_call : (call : A) (others : List (Entry A B N)) → NoneOf n others → seen (h ++ others ++ entry_of law rules (h ++ others) n t d call ∷ [])
+      → IsTurn last (record { message = m; moment = t; entries = entry_of law rules (h ++ others) n t d call ∷ []; bytes = bytes; on = on })
       → TakesTurn IsTurn n last m seen h g g2 conn conn' f f' after
-  with_entry call reply x is =
-      let e : Entry A B N = entry_of law rules (h ++ x.others) n t d call in
+  with_call call others not_mine seen_now is =
+      let e : Entry A B N = entry_of law rules (h ++ others) n t d call in
       record {
         turn = record { message = m; moment = t; entries = e ∷ []; bytes = bytes; on = on };
         is_turn = is;
         message = refl;
         follows = follows;
         few = omega arith;
-        history = h ++ x.others ++ e ∷ [];
-        seen_now = x.seen_now;
-        own = own-next n h x.others e x.not_mine refl;
+        history = h ++ others ++ e ∷ [];
+        seen_now = seen_now;
+        own = own-next n h others e not_mine refl;
         used = used_one g g1 g2 t d first second;
         written = written;
       }
 
+  pub with_entry : (call : A) (reply : B) → (x : Enters law rules n h t d call reply seen)
+      → IsTurn last (record { message = m; moment = t; entries = entry_of law rules (h ++ x.others) n t d call ∷ []; bytes = bytes; on = on })
+      → TakesTurn IsTurn n last m seen h g g2 conn conn' f f' after
+  with_entry call reply x is = with_call call x.others x.not_mine x.seen_now is
+
   pub with_lapse : (x : EntersLapse law rules n h t d seen)
       → IsTurn last (record { message = m; moment = t; entries = entry_of law rules (h ++ x.others) n t d law.lapse ∷ []; bytes = bytes; on = on })
       → TakesTurn IsTurn n last m seen h g g2 conn conn' f f' after
-  with_lapse x is =
-      let e : Entry A B N = entry_of law rules (h ++ x.others) n t d law.lapse in
-      record {
-        turn = record { message = m; moment = t; entries = e ∷ []; bytes = bytes; on = on };
-        is_turn = is;
-        message = refl;
-        follows = follows;
-        few = omega arith;
-        history = h ++ x.others ++ e ∷ [];
-        seen_now = x.seen_now;
-        own = own-next n h x.others e x.not_mine refl;
-        used = used_one g g1 g2 t d first second;
-        written = written;
-      }
+  with_lapse x is = with_call law.lapse x.others x.not_mine x.seen_now is
 
 -- A desk whose histories are legal gives replies that can be said.
 pub entered_said : {R A B N : Type 0} (law : Law R A B N) (rules : R) (can_say : B → Type 0) (says : SaysAllReplies law can_say) (n : ℕ) (h : List (Entry A B N))

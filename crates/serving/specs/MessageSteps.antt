@@ -1,5 +1,5 @@
 -- What a message is to a machine, and which replies are said.
-use Rattle.std.specs.Prelude.{◌≡◌, ◌≢◌, ℕ, Bool, List, ◌∷◌, ◌++◌}
+use Rattle.std.specs.Prelude.{◌≢◌, ℕ, Bool, List, ◌∷◌, ◌++◌}
 use Rattle.histories.specs.declared.entry.Entry.{Entry}
 use Rattle.histories.specs.History.{Law, Legal}
 use Rattle.histories.specs.Turns.{Face}

@@ -1,7 +1,7 @@
 //! The steps of a call: a ticket, the wait for the turn, the core's step, and the hand-on.
 ghost use Rattle.std.specs.Prelude.{◌≡◌, ◌≢◌, ℕ, ◌+◌, ◌*◌, ◌<◌, ◌≤◌, ◌^◌, true, false, List, [], ◌∷◌, ◌++◌, length, Some, IfOk, OnErr, IsOk};
 ghost use Rattle.histories.specs.History.{last_moment};
-ghost use Rattle.shared_server.specs.Rule.{number_of, drawn, on, HasTurn};
+ghost use Rattle.shared_server.specs.Rule.{drawn, on, HasTurn};
 ghost use Rattle.shared_server.specs.Seats.{IsTable, IsSame, CanDraw, CanLook, CanHand, Added, AddedReply};
 
 use crate::rule::{Draw, EntryOf, Hand, Look, Mark, SeatOf, Told, Top};
@@ -32,7 +32,7 @@ fn wait_for_turn<C: Core, R: Wait>(rt: &R, top: &Top<C>, seat: &mut SeatOf<C>, t
     requires table { IsTable top.now.table_id seat.old.table_id }
     requires may { CanLook seat.old.me × (ticket ≡ seat.old.me.0.ticket) }
     ensures seat { IsSame seat.old seat.new }
-    ensures turn { HasTurn number_of C.stands C.rules seat.old.me seat.new.me }
+    ensures turn { HasTurn C.stands C.rules seat.old.me seat.new.me }
 {
     let mut looks = 0;
     for _ in rt.forever() {
@@ -119,7 +119,7 @@ fn hand_on<C: Core, W: Told<EntryOf<C>>>(
     _reply: &Result<<C::M as Machine>::Reply, Mem>,
 )
     requires table { IsTable top.now.table_id seat.old.table_id }
-    requires may { CanHand number_of C.stands C.rules (C.rules top.now.key.core.value) W.entry seat.old.me }
+    requires may { CanHand C.stands C.rules (C.rules top.now.key.core.value) W.entry seat.old.me }
     ensures seat { IsSame seat.old seat.new }
     ensures on { (e : _) → W.entry ≡ Some e → seat.new.me ≡ (on seat.old.me.0 e, []) }
 {

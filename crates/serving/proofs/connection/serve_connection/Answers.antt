@@ -2,8 +2,7 @@ use Rattle.std.proofs.Common.{◌∙◌, [], refl, sym, subst, arith, ◌<◌, l
 use Rattle.histories.specs.History.{places}
 use Rattle.histories.specs.Turns.{IsTurn}
 use Rattle.serving.specs.declared.ends.AfterTurn.TheVariants.{MoreMayCome, OutOfMemory, WriteFailed}
-use Rattle.serving.specs.MessageTurns.{TakesTurn}
-use Rattle.serving.proofs.ConnectionLemmas.{next_ok, not_full, served-start, room, closes-end, closes-stop, served-next, ends-last, ends-quota, ends-want, ends-cut}
+use Rattle.serving.proofs.ConnectionLemmas.{next_ok, not_full, under_number, served-start, room, closes-end, closes-stop, served-next, ends-last, ends-quota, ends-want, ends-cut}
 use Rattle.serving.proofs.connection.serve_connection.Goals as goal
 
 pub loop-held-init : goal.loop-held-init
@@ -52,9 +51,7 @@ returns-then-place-eq999-clause-session g c h seen =
     let I = IsTurn g.V.M.Machine.law g.V.Server.face (g.V.Server.rules c.args.server.now) in
     let inv = c.loop-held.invariant in
     let so_far = inv.so_far h seen in
-    let t = subst (λ n. TakesTurn I n c.closes-last.result c.in-Ok-Some.message (g.D.Desk.seen c.turn.new.desk) so_far.history (g.G.Counted.state c.loop-held.gear) (g.G.Counted.state c.turn.new.gear)
-    (g.S.Device.told c.next_message.new.source) (g.S.Device.told c.turn.new.conn) (g.S.Device.faults c.next_message.new.source) (g.S.Device.faults c.turn.new.conn) MoreMayCome) inv.number
-    (c.in-MoreMayCome.ensures.turn so_far.history so_far.seen_now) in
+    let t = under_number inv.number (c.in-MoreMayCome.ensures.turn so_far.history so_far.seen_now) in
     ends-quota W g.V.Server.stays I _ c.loop-held.place inv.few _ (g.D.Desk.seen c.turn.new.desk) h _ _ _ _ _ _ _ _ _ _ _ so_far c.in-Ok-Some.message
     (next_ok W _ _ _ _ _ _ c.in-Ok-Some.field-0-is c.in-Ok-Some.ensures.reads) c.in-Ok-Some.ensures.cause c.closes-last.result c.closes-last.ensures MoreMayCome t c.if-place-eq999.true t.follows t.written.0
 
@@ -64,9 +61,7 @@ returns-then-last-clause-session g c h seen =
     let I = IsTurn g.V.M.Machine.law g.V.Server.face (g.V.Server.rules c.args.server.now) in
     let inv = c.loop-held.invariant in
     let so_far = inv.so_far h seen in
-    let t = subst (λ n. TakesTurn I n c.closes-last.result c.in-Ok-Some.message (g.D.Desk.seen c.turn.new.desk) so_far.history (g.G.Counted.state c.loop-held.gear) (g.G.Counted.state c.turn.new.gear)
-    (g.S.Device.told c.next_message.new.source) (g.S.Device.told c.turn.new.conn) (g.S.Device.faults c.next_message.new.source) (g.S.Device.faults c.turn.new.conn) MoreMayCome) inv.number
-    (c.in-MoreMayCome.ensures.turn so_far.history so_far.seen_now) in
+    let t = under_number inv.number (c.in-MoreMayCome.ensures.turn so_far.history so_far.seen_now) in
     ends-last W g.V.Server.stays I _ c.loop-held.place inv.few _ (g.D.Desk.seen c.turn.new.desk) h _ _ _ _ _ _ _ _ _ _ _ so_far c.in-Ok-Some.message
     (next_ok W _ _ _ _ _ _ c.in-Ok-Some.field-0-is c.in-Ok-Some.ensures.reads) c.in-Ok-Some.ensures.cause c.closes-last.result c.closes-last.ensures MoreMayCome t c.if-last.true c.if-place-eq999.false t.follows t.written.0
 
@@ -76,9 +71,7 @@ returns-in-OutOfMemory-clause-session g c h seen =
     let I = IsTurn g.V.M.Machine.law g.V.Server.face (g.V.Server.rules c.args.server.now) in
     let inv = c.loop-held.invariant in
     let so_far = inv.so_far h seen in
-    let t = subst (λ n. TakesTurn I n c.closes-last.result c.in-Ok-Some.message (g.D.Desk.seen c.turn.new.desk) so_far.history (g.G.Counted.state c.loop-held.gear) (g.G.Counted.state c.turn.new.gear)
-    (g.S.Device.told c.next_message.new.source) (g.S.Device.told c.turn.new.conn) (g.S.Device.faults c.next_message.new.source) (g.S.Device.faults c.turn.new.conn) OutOfMemory) inv.number
-    (c.in-OutOfMemory.ensures.turn so_far.history so_far.seen_now) in
+    let t = under_number inv.number (c.in-OutOfMemory.ensures.turn so_far.history so_far.seen_now) in
     ends-want W g.V.Server.stays I _ c.loop-held.place inv.few _ (g.D.Desk.seen c.turn.new.desk) h _ _ _ _ _ _ _ _ _ _ _ so_far c.in-Ok-Some.message
     (next_ok W _ _ _ _ _ _ c.in-Ok-Some.field-0-is c.in-Ok-Some.ensures.reads) c.in-Ok-Some.ensures.cause c.closes-last.result c.closes-last.ensures OutOfMemory t t.follows t.written.0
 
@@ -88,9 +81,7 @@ returns-in-WriteFailed-clause-session g c h seen =
     let I = IsTurn g.V.M.Machine.law g.V.Server.face (g.V.Server.rules c.args.server.now) in
     let inv = c.loop-held.invariant in
     let so_far = inv.so_far h seen in
-    let t = subst (λ n. TakesTurn I n c.closes-last.result c.in-Ok-Some.message (g.D.Desk.seen c.turn.new.desk) so_far.history (g.G.Counted.state c.loop-held.gear) (g.G.Counted.state c.turn.new.gear)
-    (g.S.Device.told c.next_message.new.source) (g.S.Device.told c.turn.new.conn) (g.S.Device.faults c.next_message.new.source) (g.S.Device.faults c.turn.new.conn) WriteFailed) inv.number
-    (c.in-WriteFailed.ensures.turn so_far.history so_far.seen_now) in
+    let t = under_number inv.number (c.in-WriteFailed.ensures.turn so_far.history so_far.seen_now) in
     ends-cut W g.V.Server.stays I _ c.loop-held.place inv.few _ (g.D.Desk.seen c.turn.new.desk) h _ _ _ _ _ _ _ _ _ _ _ so_far c.in-Ok-Some.message
     (next_ok W _ _ _ _ _ _ c.in-Ok-Some.field-0-is c.in-Ok-Some.ensures.reads) c.in-Ok-Some.ensures.cause c.closes-last.result c.closes-last.ensures WriteFailed t t.written.0.0 t.written.0.1 t.written.0.2 t.written.1
 
@@ -108,9 +99,7 @@ loop-held-preserved g c = record {
       let I = IsTurn g.V.M.Machine.law g.V.Server.face (g.V.Server.rules c.args.server.now) in
       let inv = c.loop-held.invariant in
       let so_far = inv.so_far h seen in
-      let t = subst (λ n. TakesTurn I n c.closes-last.result c.in-Ok-Some.message (g.D.Desk.seen c.turn.new.desk) so_far.history (g.G.Counted.state c.loop-held.gear) (g.G.Counted.state c.turn.new.gear)
-      (g.S.Device.told c.next_message.new.source) (g.S.Device.told c.turn.new.conn) (g.S.Device.faults c.next_message.new.source) (g.S.Device.faults c.turn.new.conn) MoreMayCome) inv.number
-      (c.in-MoreMayCome.ensures.turn so_far.history so_far.seen_now) in
+      let t = under_number inv.number (c.in-MoreMayCome.ensures.turn so_far.history so_far.seen_now) in
       served-next W g.V.Server.stays I _ c.loop-held.place inv.few _ (g.D.Desk.seen c.turn.new.desk) h _ _ _ _ _ _ _ _ _ _ _ so_far c.in-Ok-Some.message
       (next_ok W _ _ _ _ _ _ c.in-Ok-Some.field-0-is c.in-Ok-Some.ensures.reads) c.in-Ok-Some.ensures.cause c.closes-last.result c.closes-last.ensures MoreMayCome t c.if-last.false t.follows t.written.0 t.written.1;
 }
