@@ -1,5 +1,5 @@
 -- A log that is accounted for, and one more connection.
-use Rattle.std.proofs.Common.{◌≡◌, ◌∙◌, ℕ, ◌≤◌, List, [], ◌∷◌, ◌++◌, length, refl, ap, sym, subst, append_assoc, arith}
+use Rattle.std.proofs.Common.{◌≡◌, ◌∙◌, ℕ, ◌*◌, ◌≤◌, List, [], ◌∷◌, ◌++◌, length, length-append, refl, ap, sym, subst, append_assoc, arith}
 use Rattle.std.specs.Prelude.{Bool, map}
 use Rattle.std.proofs.lemmas.List.{append-nil, map-append}
 use Rattle.gnap_io.specs.Outside.{Served}
@@ -40,6 +40,28 @@ module _ {Message Call Reply Note : Type 0} (IsSession : Served → List (Turn M
         draws = ap (λ xs. xs ++ map draw_of (entries_in ts)) was.draws ∙ sym (map-append draw_of own (entries_in ts)) ∙ ap (map draw_of) (sym owns);
         own_is = owns ∙ ap (λ xs. xs ++ entries_in ts) was.own_is ∙ sym (entries_in-append (joined first) ts) ∙ ap entries_in (sym last);
       })
+
+  entries_by_connections : (conns : List Served) (turns : List (List (Turn Message (Entry Call Reply Note))))
+      → ((conn : Served) (ts : List (Turn Message (Entry Call Reply Note))) → IsSession conn ts → length (entries_in ts) ≤ 1000)
+      → Sessions IsSession conns turns → length (entries_in (joined turns)) ≤ 1000 * length conns
+  entries_by_connections [] [] few each = omega arith
+  entries_by_connections [] (ts ∷ turns) few each = absurd each
+  entries_by_connections (conn ∷ conns) [] few each = absurd each
+  entries_by_connections (conn ∷ conns) (ts ∷ turns) few each =
+      let first = few conn ts each.0 in
+      let rest = entries_by_connections conns turns few each.1 in
+      let all = ap length (entries_in-append ts (joined turns)) in
+      let sum = length-append (entries_in ts) (entries_in (joined turns)) in
+      omega (arith, first, rest, all, sum)
+
+  -- Where a connection makes at most 1,000 entries, a worker made at most 1,000 for each that its gear served.
+  pub account_few : (log : Log) (own : List (Entry Call Reply Note))
+      → ((conn : Served) (ts : List (Turn Message (Entry Call Reply Note))) → IsSession conn ts → length (entries_in ts) ≤ 1000)
+      → IsAccount IsSession log own → length own ≤ 1000 * length log.served
+  account_few log own few account =
+      let most = entries_by_connections log.served account.turns few account.sessions in
+      let all = ap length account.own_is in
+      omega (arith, most, all)
 
 -- a turn makes one entry at most
 pub entries_few : {Message Rules Call Reply Note : Type 0} (law : Law Rules Call Reply Note) (face : Face Message Rules Call Reply) (rules : Rules) (last : Bool)

@@ -3,3 +3,4 @@ mod MessageTurnLemmas
 mod WorkerLemmas
 mod Starting
 mod Ending
+pub mod EntryCounts
