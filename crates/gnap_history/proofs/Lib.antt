@@ -10,4 +10,5 @@ pub mod Deciding
 pub mod Modifying
 pub mod Retiring
 pub mod Terms
+pub mod UserCodes
 pub mod Weaker

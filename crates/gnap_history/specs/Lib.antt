@@ -6,3 +6,4 @@ pub mod Holders
 pub mod Laws
 pub mod Rounds
 pub mod Terms
+pub mod UserCodes

@@ -6,6 +6,7 @@
 //! where memory ran out. `laws` says what is known of each history that a desk of this machine has seen, and that its replies can be shown.
 #![tactic(auto)]
 
+mod asking;
 mod changing;
 mod continuing;
 mod decided_asks;
@@ -17,6 +18,7 @@ mod keys;
 pub mod laws;
 mod limits;
 pub mod list_core;
+mod live_rounds;
 mod look_ups;
 mod managing;
 mod note_list;
@@ -24,6 +26,7 @@ mod opening;
 mod presented_values;
 mod rounds;
 mod settling;
+mod user_codes;
 pub mod values;
 
 pub use gnap_model::calls::{Call, FinishOut, Reply, TokenOut, Tokens};
