@@ -17,6 +17,7 @@ mod keys;
 pub mod laws;
 mod limits;
 pub mod list_core;
+mod live_rounds;
 mod look_ups;
 mod managing;
 mod note_list;
