@@ -5,6 +5,7 @@ pub mod Counts
 pub mod FitsThrough
 pub mod FoundFits
 pub mod Holders
+pub mod Interactions
 pub mod Issuing
 pub mod Deciding
 pub mod Modifying
