@@ -1,7 +1,6 @@
 //! The grant machine over histories, and a desk that keeps one in a list.
 //!
-//! `Gnap` is the machine: its answers are those of `gnap_model`, and a call fits where it is built, has at most 8 asks and its texts can be shown.
-//! The calls of clients and resource servers are built, but for requests that name a way to interact; those of the consent front aren't.
+//! `Gnap` is the machine: its answers are those of `gnap_model`, and a call fits where it has at most 8 asks and its texts can be shown.
 //! `ListCore` meets the contract of `Core`: each reply is the machine's for the history that it stands for, which then has the call's entry, or a lapse
 //! where memory ran out. `laws` says what is known of each history that a desk of this machine has seen, and that its replies can be shown.
 #![tactic(auto)]
