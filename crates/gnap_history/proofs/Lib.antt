@@ -8,6 +8,7 @@ pub mod Holders
 pub mod Interactions
 pub mod Issuing
 pub mod Deciding
+pub mod Decisions
 pub mod Modifying
 pub mod Retiring
 pub mod Terms

@@ -7,6 +7,7 @@
 
 mod asking;
 mod changing;
+mod consent_front;
 mod continuing;
 mod decided_asks;
 mod drawing;
@@ -35,5 +36,7 @@ pub use histories::machine::{Core, Desk, Machine};
 pub use list_core::{ListCore, ListDesk, list_desk};
 pub use values::{code_text, value_text};
 
+#[cfg(test)]
+mod front_tests;
 #[cfg(test)]
 mod tests;

@@ -23,15 +23,9 @@ pub fn live_round<'a>(notes: &'a [Note], grant: u64, now: u64) -> Option<&'a Rou
     ensures { option_map (λ r. r.now) result ≡ round_by_state (reverse notes.now) now (grant_state (reverse notes.now) grant now) }
 {
     match state_now(notes, grant, now) {
-        StateNow::Pending(round) => {
-            if now < round.until && decision_of(notes, round.grant).is_none() {
-                Some(round)
-            } else {
-                None
-            }
-        }
-        StateNow::Approved => None,
-        StateNow::Finalized => None,
+        StateNow::Pending(round)
+            if now < round.until && decision_of(notes, round.grant).is_none() => Some(round),
+        _ => None,
     }
 }
 
@@ -64,7 +58,7 @@ fn last_grant_with(notes: &[Note], name: RoundName) -> u64
 }
 
 /// Another grant than this one had a round with this name.
-fn is_with_others(notes: &[Note], grant: u64, name: RoundName) -> bool
+fn is_used_elsewhere(notes: &[Note], grant: u64, name: RoundName) -> bool
     ensures { result ≡ list_any (is_round_elsewhere grant (is_called name.entry)) notes.now }
 {
     for note in notes {
@@ -94,14 +88,8 @@ fn live_round_with<'a>(
         return None;
     }
     match live_round(notes, grant, now) {
-        Some(round) => {
-            if goes_by(round, name) {
-                Some(round)
-            } else {
-                None
-            }
-        }
-        None => None,
+        Some(round) if goes_by(round, name) => Some(round),
+        _ => None,
     }
 }
 
@@ -110,7 +98,7 @@ fn round_with<'a>(notes: &'a [Note], now: u64, name: RoundName) -> Option<&'a Ro
     ensures { option_map (λ r. r.now) result ≡ first_of (round_where (is_called name.entry)) (live_rounds (reverse notes.now) now) }
 {
     let holder = last_grant_with(notes, name);
-    let is_shared = is_with_others(notes, holder, name);
+    let is_shared = is_used_elsewhere(notes, holder, name);
     let mut found = None;
     for note in notes {
         if let Note::Opened(opening) = note {
@@ -129,14 +117,14 @@ fn round_with<'a>(notes: &'a [Note], now: u64, name: RoundName) -> Option<&'a Ro
     found
 }
 
-/// The interaction with this handle.
+/// The interaction with this handle; `None` where no live interaction has it.
 pub fn round_by_handle<'a>(notes: &'a [Note], now: u64, handle: &[u8]) -> Option<&'a RoundNote>
     ensures { option_map (λ r. r.now) result ≡ round_with_handle (reverse notes.now) now handle.now }
 {
     round_with(notes, now, RoundName::Handle(handle))
 }
 
-/// The interaction with this user code (RFC 9635, section 3.3.3).
+/// The interaction with this user code (RFC 9635, section 3.3.3); `None` where no live interaction has it.
 pub fn round_by_code<'a>(notes: &'a [Note], now: u64, code: &[u8; 8]) -> Option<&'a RoundNote>
     ensures { option_map (λ r. r.now) result ≡ round_with_code (reverse notes.now) now code.now }
 {
