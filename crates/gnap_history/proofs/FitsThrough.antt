@@ -188,7 +188,7 @@ notes_fit_on : (rules : Setup) (before rest : List GnapEntry) → Legal gnap rul
 notes_fit_on rules before [] legal fit = subst (λ (h : List GnapEntry). NotesFit (notes_of h)) (sym (append-nil before)) fit
 notes_fit_on rules before (e ∷ rest) legal fit =
     let follows = legal before e rest refl in
-    let here : NotesFit e.notes = subst NotesFit (sym follows.notes) (answer_fits rules (notes_of before) (now before e.moment) e.draw e.call fit follows.fits.2).1 in
+    let here : NotesFit e.notes = subst NotesFit (sym follows.notes) (answer_fits rules (notes_of before) (now before e.moment) e.draw e.call fit follows.fits.1).1 in
     let joined : notes_of (before ++ e ∷ []) ≡ notes_of before ++ (e.notes ++ []) = notes-append before (e ∷ []) in
     let more : NotesFit (notes_of (before ++ e ∷ [])) = subst NotesFit (sym joined)
     (all-append NoteFits (notes_of before) (e.notes ++ []) fit (all-append NoteFits e.notes [] here tt)) in
@@ -205,7 +205,7 @@ pub replies_fit : (rules : Setup) (h before : List GnapEntry) (e : GnapEntry) (a
 replies_fit rules h before e after legal is =
     let follows = legal before e after is in
     let front = legal-front gnap rules before (e ∷ after) (subst (λ (k : List GnapEntry). Legal gnap rules k) is legal) in
-    subst ReplyFits (sym follows.reply) (answer_fits rules (notes_of before) (now before e.moment) e.draw e.call (notes_fit rules before front) follows.fits.2).0
+    subst ReplyFits (sym follows.reply) (answer_fits rules (notes_of before) (now before e.moment) e.draw e.call (notes_fit rules before front) follows.fits.1).0
 
 -- A desk's reply to a call that fits, fits.
 pub entered_fits : (rules : Setup) (number : ℕ) (h : List GnapEntry) (moment : ℕ) (draw : List ℕ) (call : Call) (reply : Reply) (seen : List GnapEntry → Type 0)

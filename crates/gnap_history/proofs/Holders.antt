@@ -12,7 +12,7 @@ use Rattle.gnap_model.specs.declared.notes.Note.{Note}
 use Rattle.gnap_model.specs.declared.notes.Note.TheVariants.{Opened, Terms, Approved, Issued, Door, Pended, DecidedAs, Finalized, Wrong, Retired}
 use Rattle.gnap_history.specs.Holders.{is_held_by_other}
 
-not_held : (a b : Bool) → (a && not b) ≡ false → b ≡ false → a ≡ false
+pub not_held : (a b : Bool) → (a && not b) ≡ false → b ≡ false → a ≡ false
 not_held true true h e = cc e
 not_held true false h e = cc h
 not_held false b h e = refl
@@ -36,7 +36,7 @@ other_door (Finalized k ∷ trail) g h value none other = other_door trail g h v
 other_door (Wrong k ∷ trail) g h value none other = other_door trail g h value none other
 other_door (Retired s why ∷ trail) g h value none other = other_door trail g h value none other
 
-none-reverse : (p : Note → Bool) (notes : List Note) → list_any p notes ≡ false → list_any p (reverse notes) ≡ false
+pub none-reverse : (p : Note → Bool) (notes : List Note) → list_any p notes ≡ false → list_any p (reverse notes) ≡ false
 none-reverse p [] none = refl
 none-reverse p (x ∷ xs) none =
     let parts = or_parts (p x) (list_any p xs) none in

@@ -3,6 +3,8 @@ pub mod Courses
 pub mod Drawings
 pub mod Gnap
 pub mod Holders
+pub mod Interactions
 pub mod Laws
 pub mod Rounds
 pub mod Terms
+pub mod UserCodes

@@ -1,12 +1,14 @@
 //! The modification of a grant, and its cancellation (RFC 9635, sections 5.3 and 5.4).
 ghost use Rattle.std.specs.Prelude.{◌≡◌, ◌≤◌, length, reverse, IfOk};
 ghost use Rattle.gnap_model.specs.Actions.{outcome_of, retire};
+ghost use Rattle.gnap_model.specs.Actions.Action.{ModifyAsking};
 ghost use Rattle.gnap_model.specs.Judging.{settle as settle_for};
-ghost use Rattle.gnap_model.specs.Judging.Settled.{AtOnce as SettledAtOnce};
+ghost use Rattle.gnap_model.specs.Judging.Settled.{AtOnce as SettledAtOnce, ByAsking as SettledByAsking};
 ghost use Rattle.gnap_model.specs.Standing.{consent_of as consent_to};
 ghost use Rattle.gnap_model.specs.Change.{tokens_of, modify_by as modified_by, modify as modified, cancel as cancelled};
 ghost use Rattle.gnap_history.specs.Drawings.{trail, supply, IsAnswer};
 
+use crate::asking::pending;
 use crate::drawing::{Drawing, NotedReply, noted, refuse};
 use crate::granting::grant;
 use crate::limits::others_pass_limit;
@@ -19,7 +21,7 @@ use gnap_io::memory::{Duplicate, Mem};
 use gnap_io::seq::Seq;
 use gnap_model::calls::Reply;
 use gnap_model::notes::{Note, OpeningNote, Why};
-use gnap_model::objects::{ErrorCode, GrantRequest, Setup};
+use gnap_model::objects::{ErrorCode, GrantRequest, Modes, Setup};
 use gnap_model::rights::Rights;
 use std::alloc::Global;
 
@@ -80,6 +82,36 @@ fn modify_at_once(
     )
 }
 
+/// The user is asked about the new terms; the tokens of those before are retired.
+fn modify_asking(
+    alloc: Global,
+    drawing: &Drawing,
+    opening: &OpeningNote,
+    request: &GrantRequest,
+    modes: &Modes,
+) -> Result<NotedReply, Mem>
+    ensures { IfOk result (IsAnswer (outcome_of (supply drawing.now) (ModifyAsking opening.now (tokens_of (trail drawing.now) drawing.now.moment opening.now) request.now modes.now))) }
+{
+    let mut before = retirements(alloc, drawing.notes.as_slice(), opening, drawing.moment)?;
+    before.push(Note::Terms(terms(opening, request)?))?;
+    pending(alloc, drawing, opening, before, modes, None)
+}
+
+/// The user is asked, if the client can start an interaction.
+fn modify_by_asking(
+    alloc: Global,
+    drawing: &Drawing,
+    opening: &OpeningNote,
+    request: &GrantRequest,
+) -> Result<NotedReply, Mem>
+    ensures { IfOk result (IsAnswer (outcome_of (supply drawing.now) (modified_by SettledByAsking (trail drawing.now) drawing.now.moment opening.now request.now))) }
+{
+    match &request.modes {
+        Some(modes) => modify_asking(alloc, drawing, opening, request, modes),
+        None => Ok(refuse(alloc, ErrorCode::RequestDenied)),
+    }
+}
+
 /// The request is settled, with the consent of the grant.
 fn modify_grant(
     alloc: Global,
@@ -88,8 +120,7 @@ fn modify_grant(
     opening: &OpeningNote,
     request: &GrantRequest,
 ) -> Result<NotedReply, Mem>
-    requires few { length request.now.asks ≤ 8 }
-    requires no_modes { request.now.modes ≡ None }
+    requires { length request.now.asks ≤ 8 }
     ensures { IfOk result (IsAnswer (outcome_of (supply drawing.now) (modified_by (settle_for setup.now opening.now.key (consent_to (trail drawing.now) opening.now.grant) request.now)
         (trail drawing.now) drawing.now.moment opening.now request.now))) }
 {
@@ -97,12 +128,12 @@ fn modify_grant(
     let consent = consent_of(drawing.notes.as_slice(), opening.grant, &none);
     match settle(alloc, setup, opening.key.as_slice(), consent, request)? {
         Course::AtOnce => modify_at_once(alloc, drawing, opening, consent, request),
-        Course::ByAsking => Ok(refuse(alloc, ErrorCode::RequestDenied)),
+        Course::ByAsking => modify_by_asking(alloc, drawing, opening, request),
         Course::Never => Ok(refuse(alloc, ErrorCode::RequestDenied)),
     }
 }
 
-/// Answers a modification that names no way to interact (RFC 9635, section 5.3).
+/// Answers a modification (RFC 9635, section 5.3).
 pub fn modify(
     alloc: Global,
     setup: &Setup,
@@ -111,8 +142,7 @@ pub fn modify(
     value: &Bytes,
     request: &GrantRequest,
 ) -> Result<NotedReply, Mem>
-    requires few { length request.now.asks ≤ 8 }
-    requires no_modes { request.now.modes ≡ None }
+    requires { length request.now.asks ≤ 8 }
     ensures { IfOk result (IsAnswer (outcome_of (supply drawing.now) (modified setup.now (trail drawing.now) drawing.now.moment key.now value.now request.now))) }
 {
     let grant = named_grant(drawing.notes.as_slice(), drawing.moment, value.as_slice());

@@ -1,12 +1,13 @@
 //! The grant machine over histories, and a desk that keeps one in a list.
 //!
-//! `Gnap` is the machine: its answers are those of `gnap_model`, and a call fits where it is built, has at most 8 asks and its texts can be shown.
-//! The calls of clients and resource servers are built, but for requests that name a way to interact; those of the consent front aren't.
+//! `Gnap` is the machine: its answers are those of `gnap_model`, and a call fits where it has at most 8 asks and its texts can be shown.
 //! `ListCore` meets the contract of `Core`: each reply is the machine's for the history that it stands for, which then has the call's entry, or a lapse
 //! where memory ran out. `laws` says what is known of each history that a desk of this machine has seen, and that its replies can be shown.
 #![tactic(auto)]
 
+mod asking;
 mod changing;
+mod consent_front;
 mod continuing;
 mod decided_asks;
 mod drawing;
@@ -17,6 +18,7 @@ mod keys;
 pub mod laws;
 mod limits;
 pub mod list_core;
+mod live_rounds;
 mod look_ups;
 mod managing;
 mod note_list;
@@ -24,6 +26,7 @@ mod opening;
 mod presented_values;
 mod rounds;
 mod settling;
+mod user_codes;
 pub mod values;
 
 pub use gnap_model::calls::{Call, FinishOut, Reply, TokenOut, Tokens};
@@ -33,5 +36,7 @@ pub use histories::machine::{Core, Desk, Machine};
 pub use list_core::{ListCore, ListDesk, list_desk};
 pub use values::{code_text, value_text};
 
+#[cfg(test)]
+mod front_tests;
 #[cfg(test)]
 mod tests;

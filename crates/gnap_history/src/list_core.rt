@@ -8,6 +8,7 @@ ghost use Rattle.gnap_history.specs.Gnap.{GnapFits, StandsFor};
 ghost use Rattle.gnap_history.specs.Drawings.{IsAnswer};
 
 use crate::changing::{cancel, modify};
+use crate::consent_front::{decide, find_code, look};
 use crate::continuing::continue_grant;
 use crate::drawing::{Drawing, NotedReply};
 use crate::grant_machine::Gnap;
@@ -98,9 +99,9 @@ fn answer_call(
             binding,
             wanted,
         } => introspect(alloc, rules, drawing, server, value, *binding, wanted),
-        Call::Look { .. } => unreachable!(),
-        Call::FindCode { .. } => unreachable!(),
-        Call::Decide { .. } => unreachable!(),
+        Call::Look { front: _, handle } => look(alloc, drawing, handle),
+        Call::FindCode { front: _, code } => Ok(find_code(alloc, drawing, code)),
+        Call::Decide { front: _, request } => decide(alloc, drawing, request),
         Call::Lapse => unreachable!(),
     }
 }

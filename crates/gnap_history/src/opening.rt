@@ -1,11 +1,12 @@
 //! The answer to a grant request (RFC 9635, section 2).
 ghost use Rattle.std.specs.Prelude.{◌≡◌, ◌≤◌, length, IfOk};
 ghost use Rattle.gnap_model.specs.Actions.{terms_for, instance_of as instance_named, outcome_of};
-ghost use Rattle.gnap_model.specs.Actions.Action.{OpenAtOnce};
+ghost use Rattle.gnap_model.specs.Actions.Action.{OpenAtOnce, OpenAsking};
 ghost use Rattle.gnap_model.specs.Begin.{is_past as has_passed, opening as opening_for, begin_by as begun_by, begin as begun};
-ghost use Rattle.gnap_model.specs.Judging.Settled.{AtOnce as SettledAtOnce};
+ghost use Rattle.gnap_model.specs.Judging.Settled.{AtOnce as SettledAtOnce, ByAsking as SettledByAsking};
 ghost use Rattle.gnap_history.specs.Drawings.{trail, supply, IsAnswer};
 
+use crate::asking::pending;
 use crate::drawing::{Drawing, NotedReply, refuse};
 use crate::granting::grant;
 use crate::limits::{has_many_grants, passes_limit};
@@ -14,7 +15,7 @@ use gnap_io::bytes::Bytes;
 use gnap_io::memory::{Duplicate, Mem};
 use gnap_io::seq::Seq;
 use gnap_model::notes::{Note, OpeningNote, TermsNote};
-use gnap_model::objects::{ErrorCode, GrantRequest, Setup};
+use gnap_model::objects::{ErrorCode, GrantRequest, Modes, Setup};
 use std::alloc::Global;
 
 /// A grant lasts so many seconds.
@@ -120,7 +121,45 @@ fn begin_at_once(
     open_at_once(alloc, drawing, opening, request)
 }
 
-/// Answers a grant request that names no way to interact.
+/// A new grant, and the user is asked (RFC 9635, section 3.3).
+fn open_asking(
+    alloc: Global,
+    drawing: &Drawing,
+    opening: &OpeningNote,
+    request: &GrantRequest,
+    modes: &Modes,
+) -> Result<NotedReply, Mem>
+    ensures { IfOk result (IsAnswer (outcome_of (supply drawing.now) (OpenAsking opening.now request.now modes.now))) }
+{
+    let mut before = Seq::new(alloc);
+    before.push(Note::Opened(opening.copy()?))?;
+    before.push(Note::Terms(terms(opening, request)?))?;
+    pending(
+        alloc,
+        drawing,
+        opening,
+        before,
+        modes,
+        instance_of(opening)?,
+    )
+}
+
+/// The user is asked, if the client can start an interaction.
+fn begin_by_asking(
+    alloc: Global,
+    drawing: &Drawing,
+    opening: &OpeningNote,
+    request: &GrantRequest,
+) -> Result<NotedReply, Mem>
+    ensures { IfOk result (IsAnswer (outcome_of (supply drawing.now) (begun_by SettledByAsking (trail drawing.now) drawing.now.moment opening.now request.now))) }
+{
+    match &request.modes {
+        Some(modes) => open_asking(alloc, drawing, opening, request, modes),
+        None => Ok(refuse(alloc, ErrorCode::RequestDenied)),
+    }
+}
+
+/// Answers a grant request.
 pub fn begin(
     alloc: Global,
     setup: &Setup,
@@ -129,8 +168,7 @@ pub fn begin(
     request: &GrantRequest,
     not_after: Option<u64>,
 ) -> Result<NotedReply, Mem>
-    requires few { length request.now.asks ≤ 8 }
-    requires no_modes { request.now.modes ≡ None }
+    requires { length request.now.asks ≤ 8 }
     ensures { IfOk result (IsAnswer (outcome_of (supply drawing.now) (begun setup.now (trail drawing.now) drawing.now.moment key.now request.now not_after))) }
 {
     if is_past(drawing.moment, not_after) || has_many_grants(drawing.notes, drawing.moment) {
@@ -142,6 +180,9 @@ pub fn begin(
             let opening = opening(drawing, key, request, not_after)?;
             begin_at_once(alloc, drawing, &opening, request)
         }
-        Course::ByAsking => Ok(refuse(alloc, ErrorCode::RequestDenied)),
+        Course::ByAsking => {
+            let opening = opening(drawing, key, request, not_after)?;
+            begin_by_asking(alloc, drawing, &opening, request)
+        }
     }
 }

@@ -8,10 +8,16 @@ ghost use Rattle.gnap_objects.specs.CallsFit.{RightsFit, RightsFitOr};
 ghost use Rattle.gnap_history.specs.Gnap.{GnapFits};
 
 use super::*;
+use crate::asking::pending;
+use crate::drawing::Drawing;
+use crate::note_list::NoteList;
 use gnap_io::bytes::Bytes;
 use gnap_io::memory::Mem;
 use gnap_io::seq::Seq;
-use gnap_model::objects::{Ask, Asks, Binding, ErrorCode, GrantRequest, KeyRow, Role, Setup};
+use gnap_model::notes::{Note, OpeningNote, RoundNote};
+use gnap_model::objects::{
+    Ask, Asks, Binding, ErrorCode, GrantRequest, KeyRow, Modes, Role, Setup,
+};
 use gnap_model::rights::{Right, Rights};
 use std::alloc::Global;
 use std::test::Fail;
@@ -308,5 +314,77 @@ fn shows_what_is_served_and_suits(rt: HostRuntime) -> Result<(), Fail> {
     let wanted = Some(rights(alloc, "photos")?);
     let told = look(alloc, &mut desk, 4, 1001, "r2", V1, None, wanted)?;
     assert_eq!(rt; told, Answered::Refused(ErrorCode::InvalidAccess));
+    Ok(())
+}
+
+const BY_CODE: Modes = Modes {
+    redirect: false,
+    user_code: true,
+    user_code_uri: false,
+    finish: None,
+};
+
+// A grant of c1 with this number, which ends at 100,000.
+fn opening(alloc: Global, grant: u64) -> Result<OpeningNote, Mem> {
+    Ok(OpeningNote {
+        grant,
+        key: text(alloc, "c1")?,
+        by_object: false,
+        user: None,
+        end: 100_000,
+    })
+}
+
+// The user may decide about a grant before 1600, by the code of the number 0.
+fn pending_grant(alloc: Global) -> Result<NoteList, Mem> {
+    let mut notes = Seq::new(alloc);
+    notes.push(Note::Opened(opening(alloc, 1)?))?;
+    notes.push(Note::Pended(RoundNote {
+        grant: 1,
+        until: 1600,
+        over: 2200,
+        modes: BY_CODE,
+        handle: *V1,
+        code: Some(*b"BBBBBBBB"),
+        nonce: None,
+    }))?;
+    let mut list = NoteList::new(alloc);
+    list.append(notes)?;
+    Ok(list)
+}
+
+// The user code and the seconds of a second grant's round that begins at this moment, if its values are V2 and V3.
+fn asked_at(alloc: Global, notes: &NoteList, moment: u64) -> Result<Option<([u8; 8], u64)>, Mem>
+    requires { moment ≤ last_moment }
+{
+    let drawing = Drawing {
+        notes,
+        moment,
+        words: &[0; 48],
+    };
+    let opening = opening(alloc, 2)?;
+    let answered = pending(alloc, &drawing, &opening, Seq::new(alloc), &BY_CODE, None)?;
+    match &answered.reply {
+        Reply::Pending {
+            door,
+            handle,
+            code,
+            expires_in,
+            ..
+        } if door == V2 && handle == V3 => Ok(Some((*code, *expires_in))),
+        _ => Ok(None),
+    }
+}
+
+#[test]
+fn draws_codes_that_are_free(rt: HostRuntime) -> Result<(), Fail> {
+    let alloc = rt.alloc();
+    let notes = pending_grant(alloc)?;
+    let asked = asked_at(alloc, &notes, 1599)?;
+    assert_eq!(rt; asked, Some((*b"BBBBBBBC", 600)));
+    let asked = asked_at(alloc, &notes, 1600)?;
+    assert_eq!(rt; asked, Some((*b"BBBBBBBB", 600)));
+    let asked = asked_at(alloc, &notes, 99_900)?;
+    assert_eq!(rt; asked, Some((*b"BBBBBBBB", 100)));
     Ok(())
 }

@@ -17,3 +17,12 @@ returns-in-Revoke c = rw c.in-Revoke.is c.revoke.ensures
 
 pub returns-in-Introspect : goal.returns-in-Introspect
 returns-in-Introspect c = rw c.in-Introspect.is c.introspect.ensures
+
+pub returns-in-Look : goal.returns-in-Look
+returns-in-Look c = rw c.in-Look.is c.look.ensures
+
+pub returns-in-FindCode : goal.returns-in-FindCode
+returns-in-FindCode c = rw c.in-FindCode.is c.find_code.ensures
+
+pub returns-in-Decide : goal.returns-in-Decide
+returns-in-Decide c = rw c.in-Decide.is c.decide.ensures

@@ -20,5 +20,5 @@ returns-clause-err c =
     let s = c.args.self.now in
     let at : c.max-self.result ≡ max s.latest c.args.moment = search rules in
     on_err_weaker c.enter_call.result
-    (λ same h stands. rw same (lapses-by_notes gnap_answer GnapFits Lapse s.rules s.notes s.latest h c.args.moment c.args.draw.now c.max-self.result stands (tt, tt, tt) c.requires.in_time at refl))
+    (λ same h stands. rw same (lapses-by_notes gnap_answer GnapFits Lapse s.rules s.notes s.latest h c.args.moment c.args.draw.now c.max-self.result stands (tt, tt) c.requires.in_time at refl))
     c.enter_call.ensures.err
