@@ -6,12 +6,16 @@ ghost use Rattle.gnap_model.specs.Keys.{key_of};
 ghost use Rattle.gnap_objects.specs.Grants.{grant_body_of};
 ghost use Rattle.gnap_objects.specs.Continuations.{continuation_of, rotation_of};
 ghost use Rattle.gnap_objects.specs.Introspections.{introspection_of};
-ghost use Rattle.gnap_objects.specs.CallReading.{is_caller, stranger, IsReadable, body_in, begin_by, modify_by, continue_by, rotate_by, introspect_by, caller_call, call_of, IsTaken};
+ghost use Rattle.gnap_objects.specs.UserCodes.{user_code_of};
+ghost use Rattle.gnap_objects.specs.Decisions.{handle_of, decide_request_of};
+ghost use Rattle.gnap_objects.specs.CallReading.{is_caller, stranger, IsReadable, body_in, begin_by, modify_by, continue_by, rotate_by, introspect_by, look_by, find_code_by, decide_by, caller_call, call_of, IsTaken};
 
 use crate::continuations::{read_continue, read_rotate};
+use crate::decisions::{read_decide, read_handle};
 use crate::fault::ObjectFault;
 use crate::grants::grant_body_of;
 use crate::introspections::read_introspect;
+use crate::user_codes::read_code;
 use gnap_io::bytes::Bytes;
 use gnap_io::memory::Mem;
 use gnap_model::calls::Call;
@@ -19,7 +23,7 @@ use gnap_model::objects::{ErrorCode, KeyRow, Role, Setup};
 use serde_json::Value;
 use std::alloc::Global;
 
-/// The calls that are built.
+/// The calls that keys make.
 #[derive(Clone, Copy, Debug, PartialEq, Eq)]
 pub enum CallKind {
     /// A grant request of a client (RFC 9635, section 2).
@@ -36,6 +40,12 @@ pub enum CallKind {
     Revoke,
     /// An introspection of a resource server (RFC 9767, section 3.3).
     Introspect,
+    /// A look of the consent front at an interaction (RFC 9635, section 4.1).
+    Look,
+    /// The consent front's search for an interaction by its user code (RFC 9635, section 4.1.2).
+    FindCode,
+    /// The user's decision, handed in by the consent front (RFC 9635, section 4).
+    Decide,
 }
 
 /// The body that a call comes with.
@@ -72,6 +82,7 @@ fn is_caller(kind: CallKind, key: Option<&KeyRow>) -> bool
         | CallKind::Rotate
         | CallKind::Revoke => matches!(key.role, Role::Client),
         CallKind::Introspect => matches!(key.role, Role::Server),
+        CallKind::Look | CallKind::FindCode | CallKind::Decide => matches!(key.role, Role::Front),
     }
 }
 
@@ -87,7 +98,10 @@ pub fn stranger(kind: CallKind) -> CallOrRefusal
         | CallKind::Modify
         | CallKind::Cancel
         | CallKind::Rotate
-        | CallKind::Revoke => CallOrRefusal::Refused(ErrorCode::InvalidClient),
+        | CallKind::Revoke
+        | CallKind::Look
+        | CallKind::FindCode
+        | CallKind::Decide => CallOrRefusal::Refused(ErrorCode::InvalidClient),
         CallKind::Introspect => CallOrRefusal::Refused(ErrorCode::InvalidResourceServer),
     }
 }
@@ -103,9 +117,6 @@ fn begin_by(alloc: Global, key: &[u8], body: &Value) -> Result<CallOrRefusal, Me
         Err(ObjectFault::OutOfMemory) => return Err(Mem),
         Err(_) => return Ok(CallOrRefusal::Refused(ErrorCode::InvalidRequest)),
     };
-    if body.request.modes.is_some() {
-        return Ok(CallOrRefusal::Refused(ErrorCode::InvalidRequest));
-    }
     let names_key = match &body.request.client {
         Some(client) => client.as_slice() == key,
         None => false,
@@ -135,9 +146,6 @@ fn modify_by(alloc: Global, key: &[u8], value: &[u8], body: &Value) -> Result<Ca
         Err(ObjectFault::OutOfMemory) => return Err(Mem),
         Err(_) => return Ok(CallOrRefusal::Refused(ErrorCode::InvalidRequest)),
     };
-    if wanted.request.modes.is_some() {
-        return Ok(CallOrRefusal::Refused(ErrorCode::InvalidRequest));
-    }
     if wanted.repeats_flag {
         return Ok(CallOrRefusal::Refused(ErrorCode::InvalidFlag));
     }
@@ -221,6 +229,49 @@ fn introspect_by(alloc: Global, key: &[u8], body: &Value) -> Result<CallOrRefusa
     }))
 }
 
+fn look_by(alloc: Global, key: &[u8], body: &Value) -> Result<CallOrRefusal, Mem>
+    requires { IsUtf8 key.now }
+    ensures call { IfOk result (λ c. c ≡ look_by key.now (handle_of (view body.now))) }
+    ensures taken { IfOk result IsTaken }
+{
+    let handle = match read_handle(alloc, body) {
+        Ok(handle) => handle,
+        Err(ObjectFault::OutOfMemory) => return Err(Mem),
+        Err(_) => return Ok(CallOrRefusal::Refused(ErrorCode::InvalidRequest)),
+    };
+    let front = Bytes::from_slice(alloc, key)?;
+    Ok(CallOrRefusal::Accepted(Call::Look { front, handle }))
+}
+
+fn find_code_by(alloc: Global, key: &[u8], body: &Value) -> Result<CallOrRefusal, Mem>
+    requires { IsUtf8 key.now }
+    ensures call { IfOk result (λ c. c ≡ find_code_by key.now (user_code_of (view body.now))) }
+    ensures taken { IfOk result IsTaken }
+{
+    let code = match read_code(alloc, body) {
+        Ok(code) => code,
+        Err(ObjectFault::OutOfMemory) => return Err(Mem),
+        Err(_) => return Ok(CallOrRefusal::Refused(ErrorCode::InvalidRequest)),
+    };
+    let front = Bytes::from_slice(alloc, key)?;
+    Ok(CallOrRefusal::Accepted(Call::FindCode { front, code }))
+}
+
+fn decide_by(alloc: Global, key: &[u8], body: &Value) -> Result<CallOrRefusal, Mem>
+    requires key { IsUtf8 key.now }
+    requires body { IsBody (view body.now) }
+    ensures call { IfOk result (λ c. c ≡ decide_by key.now (decide_request_of (view body.now))) }
+    ensures taken { IfOk result IsTaken }
+{
+    let request = match read_decide(alloc, body) {
+        Ok(request) => request,
+        Err(ObjectFault::OutOfMemory) => return Err(Mem),
+        Err(_) => return Ok(CallOrRefusal::Refused(ErrorCode::InvalidRequest)),
+    };
+    let front = Bytes::from_slice(alloc, key)?;
+    Ok(CallOrRefusal::Accepted(Call::Decide { front, request }))
+}
+
 // The call of one who may make it.
 fn caller_call(
     alloc: Global,
@@ -250,6 +301,9 @@ fn caller_call(
             value: Bytes::from_slice(alloc, value)?,
         })),
         (CallKind::Introspect, BodyForm::Object(body)) => introspect_by(alloc, key, body),
+        (CallKind::Look, BodyForm::Object(body)) => look_by(alloc, key, body),
+        (CallKind::FindCode, BodyForm::Object(body)) => find_code_by(alloc, key, body),
+        (CallKind::Decide, BodyForm::Object(body)) => decide_by(alloc, key, body),
         (_, BodyForm::Absent | BodyForm::NotOfForm) => {
             Ok(CallOrRefusal::Refused(ErrorCode::InvalidRequest))
         }
@@ -258,12 +312,12 @@ fn caller_call(
 
 /// The call of this kind by the key with this id, with the value that it presents and its body; or the error that is the answer, the first that applies:
 /// `InvalidClient`, for an introspection `InvalidResourceServer`, where the setup has no such key, or one of another role than the call's;
-/// `InvalidRequest` where the body isn't of the call's form, or offers a way to interact, since none is built; `InvalidClient` or `InvalidResourceServer`
-/// where the body of a grant request or of an introspection names another than the key as the one who calls; `InvalidFlag` where a flag stands twice in a
-/// token request; else the call.
+/// `InvalidRequest` where the body isn't of the call's form; `InvalidClient` or `InvalidResourceServer` where the body of a grant request or of an
+/// introspection names another than the key as the one who calls; `InvalidFlag` where a flag stands twice in a token request; else the call.
 ///
-/// A continuation and a rotation may come without a body. The body of a cancellation and of a revocation isn't looked at. The value goes into the call as
-/// it is; a grant request and an introspection have none.
+/// Clients make the calls on grants and tokens, resource servers introspections, and the consent front looks, searches and decisions. A continuation
+/// and a rotation may come without a body. The body of a cancellation and of a revocation isn't looked at. The value goes into a continuation, a
+/// modification, a cancellation, a rotation and a revocation as it is; the other calls don't look at it.
 #[tactic(auto, unfolding(crate::specs::CallReading::call_of))]
 pub fn read_call(
     alloc: Global,
