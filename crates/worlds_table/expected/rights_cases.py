@@ -1,0 +1,190 @@
+"""Cases of rights as objects, several tokens, labels, flags and bearer tokens: each by a replay and over HTTP, with the same replies."""
+
+from http_cases import SETUP, call, case, introspection, value_of
+from rights import compact
+
+BOTH = {"type": "t", "actions": ["read", "write"], "locations": ["a"]}
+ONLY_READ = {"type": "t", "actions": ["read"], "locations": ["b"]}
+RICH = {
+    "type": "é", "actions": ["a", "a"], "locations": [""], "datatypes": ["d"], "privileges": ["p", "q"], "identifier": "", "x": {"b": [1, None], "a": "é\n"},
+}
+AUTO = ["photos", BOTH, ONLY_READ, RICH, {"type": "n" * 256}]
+
+
+def setup_with(auto, serves):
+    first, *others = SETUP["keys"]
+    keys = [{**first, "auto": auto}, *(dict(key, serves=serves) if key["id"] == "r1" else key for key in others)]
+    return {**SETUP, "keys": keys}
+
+
+OBJECTS = setup_with(AUTO, ["photos", "t", "é"])
+
+
+def by_both(name, calls, setup=OBJECTS):
+    """A replay and a connection with these calls: at which moment, by which key, which call, the presented value, and the body."""
+    lines = [compact(setup)]
+    requests = []
+    for at, key, asked, value, body in calls:
+        line = {"at": at, "call": asked, "key": key, "value": value, "body": body}
+        lines.append(compact({part: given for part, given in line.items() if given is not None}))
+        requests.append(call(asked, key, at, body, value))
+    text = "\n".join(lines).encode().decode("latin-1")
+    yield {"name": name + ": a replay", "words": ["replay", "calls"], "files": [["calls", text]]}
+    over_http = case(name + ": over HTTP", [requests], [at for at, *_ in calls], setup=setup)
+    over_http["files"][0][1] = over_http["files"][0][1].encode().decode("latin-1")
+    yield over_http
+
+
+def begin(access, at=1_000, client="c1", **members):
+    return at, "c1", "begin", None, {"access_token": {"access": access, **members}, "client": client}
+
+
+def introspect(value, at=1_001, server="r1", **more):
+    return at, server, "introspect", None, introspection(value, server, **more)
+
+
+def right(**members):
+    return {"type": "t", **members}
+
+
+def covering():
+    yield from by_both("wanted rights are covered by the union alone", [
+        begin([BOTH, ONLY_READ]),
+        introspect(value_of(1), access=[right(actions=["read"], locations=["a", "b"])]),
+        introspect(value_of(1), access=[right(actions=["write"], locations=["b"])]),
+        introspect(value_of(1), access=[right()]),
+        introspect(value_of(1), access=[right(actions=["read"])]),
+        introspect(value_of(1), access=[right(actions=["read"], locations=["a"], identifier="")]),
+        introspect(value_of(1), access=[right(actions=["read"], locations=["a"], datatypes=["d"])]),
+        introspect(value_of(1), access=[right(actions=["read"], locations=["a"], x=1)]),
+        introspect(value_of(1), access=["t"]),
+        introspect(value_of(1), access=[right(actions=["write", "read", "write"], locations=["a"]), ONLY_READ]),
+    ])
+    yield from by_both("asked rights are covered by what the client gets at once", [
+        begin([right(actions=["read"], locations=["b", "a"])]),
+        begin([right(actions=["write"], locations=["b"])]),
+        begin([right()]),
+        begin(["t"]),
+        begin([{"type": "photos"}]),
+        begin([RICH]),
+        begin([{**RICH, "actions": ["a"], "privileges": ["q"]}]),
+        begin([{**RICH, "x": {"a": "é\n", "b": [1, None]}}]),
+        begin([{**RICH, "x": {"a": "é\n", "b": [1]}}]),
+        begin([{**RICH, "y": 1}]),
+        begin([{name: value for name, value in RICH.items() if name != "identifier"}]),
+        begin([{**RICH, "identifier": "i"}]),
+        begin([{"type": "n" * 256}]),
+    ])
+    yield from by_both("a server sees the part that it serves", [
+        begin(["photos", RICH, BOTH, {"type": "n" * 256}]), introspect(value_of(1)), introspect(value_of(1), server="r2"),
+        introspect(value_of(1), access=["photos", RICH]), introspect(value_of(1), access=[{"type": "n" * 256}]),
+        introspect(value_of(1), server="r2", access=["photos"]),
+        (1_001, "r1", "introspect", None, introspection(value_of(1), "r2")),
+    ])
+
+
+def limits():
+    wide = ["w"] * 16
+    fits = {"type": "t", "actions": wide, "locations": ["a"] * 16, "datatypes": ["d"] * 4}
+    auto = [fits, *(f"r{place}" for place in range(17))]
+    setup = setup_with(auto, ["t"])
+    names = [f"r{place}" for place in range(17)]
+    long = ["x" * 250] * 16
+    yield from by_both("rights at their limits and one past them", [
+        begin([fits]),
+        begin([{**fits, "privileges": ["p", "p"]}]),
+        begin([{**fits, "actions": wide + ["w"]}]),
+        begin([{**fits, "actions": []}]),
+        begin([{**fits, "actions": ["w", 1]}]),
+        begin([{**fits, "identifier": 1}]),
+        begin([{**fits, "type": ""}]),
+        begin([{"actions": wide}]),
+        begin([1]),
+        begin(names[:16]),
+        begin(names),
+        begin([]),
+        begin(["m" * 256]),
+        begin(["m" * 257]),
+        begin([""]),
+        begin([{"type": "m" * 257}]),
+        begin([{"type": "t", "x": 1.5}]),
+        begin(long[:15] + ["x" * (4_096 - 2 - 15 * 253 - 2)]),
+        begin(long[:15] + ["x" * (4_096 - 2 - 15 * 253 - 1)]),
+    ], setup_with([*auto, "x" * 250, "x" * (4_096 - 2 - 15 * 253 - 2), "x" * (4_096 - 2 - 15 * 253 - 1)], ["t"]))
+    del setup
+
+
+def several():
+    photos = {"access": ["photos"]}
+
+    def begin_all(asks, client="c1", **more):
+        return 1_000, "c1", "begin", None, {"access_token": asks, "client": client, **more}
+
+    labels = [{**photos, "label": f"l{place}"} for place in range(9)]
+    yield from by_both("several tokens in one request", [
+        begin_all([{**photos, "label": "a"}, {**photos, "label": "b", "flags": ["bearer"]}], {"key": "c1"}),
+        introspect(value_of(1)), introspect(value_of(1), proof="httpsig"), introspect(value_of(1), proof="bearer"),
+        introspect(value_of(3)), introspect(value_of(3), proof="httpsig"), introspect(value_of(3), proof="bearer"),
+        introspect(value_of(3), proof="mtls"), introspect(value_of(2)), introspect(value_of(5)),
+        (1_002, "c1", "rotate", value_of(4), None), introspect(value_of(6), proof="bearer"), introspect(value_of(3), proof="bearer"),
+        (1_003, "c1", "revoke", value_of(2), None), introspect(value_of(1)),
+        (1_004, "c1", "modify", value_of(5), {"access_token": [{**photos, "label": "c"}]}), introspect(value_of(6)), introspect(value_of(8)),
+        (1_005, "c1", "modify", value_of(10), {"access_token": {**photos, "label": "d", "flags": ["bearer"]}}),
+    ])
+    yield from by_both("labels", [
+        begin_all([{**photos, "label": "a"}, {**photos, "label": "a"}]),
+        begin_all([{**photos, "label": "a"}, photos]),
+        begin_all([photos]),
+        begin_all([{**photos, "label": ""}]),
+        begin_all([{**photos, "label": 1}]),
+        begin_all([{**photos, "label": "l" * 64}]),
+        begin_all([{**photos, "label": "l" * 65}]),
+        begin_all([{**photos, "label": "é" * 32}]),
+        begin_all([{**photos, "label": "é" * 33}]),
+        begin_all({**photos, "label": "a"}),
+        begin_all({**photos, "label": None}),
+        begin_all(labels[:8]),
+        begin_all(labels),
+        begin_all([]),
+        begin_all(None),
+    ])
+    yield from by_both("flags", [
+        begin_all({**photos, "flags": ["bearer", "bearer"]}),
+        begin_all({**photos, "flags": ["durable"]}),
+        begin_all({**photos, "flags": ["durable", "x", "bearer"]}),
+        begin_all({**photos, "flags": ["x", "x"]}),
+        begin_all({**photos, "flags": ["x", "x"], "label": 1}),
+        begin_all({**photos, "flags": []}),
+        begin_all({**photos, "flags": "bearer"}),
+        begin_all({**photos, "flags": ["bearer", 1]}),
+        begin_all([{**photos, "label": "a"}, {**photos, "label": "b", "flags": ["x", "x"]}]),
+        begin_all({**photos, "flags": ["x", "x"]}, "c2"),
+    ])
+    yield from by_both("clients and resource servers as objects", [
+        begin_all(photos, {"key": "c1"}), begin_all(photos, {"key": "c1", "display": {}}), begin_all(photos, {"key": "c2"}), begin_all(photos, {}),
+        begin_all(photos, {"key": {"proof": "httpsig"}}), begin_all(photos, "no id"),
+        (1_001, "r1", "introspect", None, {"access_token": value_of(1), "resource_server": {"key": "r1"}}),
+        (1_001, "r1", "introspect", None, {"access_token": value_of(1), "resource_server": {"key": "r2"}}),
+        (1_001, "r1", "introspect", None, {"access_token": value_of(1), "resource_server": {"id": "r1"}}),
+        (1_001, "r1", "introspect", None, {"access_token": 1, "resource_server": "r1"}),
+        (1_001, "r1", "introspect", None, {"resource_server": "r1"}),
+    ])
+
+
+def setups():
+    """Setups whose rights are objects, and those whose rights are at fault."""
+    for name, auto in [
+        ("a right without a type", [{"actions": ["a"]}]), ("17 values", [{"type": "t", "actions": ["a"] * 17}]),
+        ("1,025 atoms or more", [{"type": "t", "actions": ["a"] * 16, "locations": ["b"] * 16, "datatypes": ["c"] * 5}]),
+        ("a right that is a number", [1]), ("a right of 257 bytes", ["a" * 257]), ("a number that is a fraction", [{"type": "t", "x": 0.5}]),
+        ("a right in full", [RICH]),
+    ]:
+        text = compact(setup_with(auto, ["é"])).encode().decode("latin-1")
+        yield {"name": "setup: " + name, "words": ["as", "setup", "a", "1", "0"], "files": [["setup", text]], "gears": [{"connections": []}]}
+
+
+def cases():
+    yield from covering()
+    yield from limits()
+    yield from several()
+    yield from setups()
