@@ -151,14 +151,16 @@ class Machine:
 
     # the client's calls
 
-    def call_begin(self, key, request):
+    def call_begin(self, key, request, not_after=None):
         course = self.settle(key, request, [])
-        if course == "denied" or self.live_grants() >= LIVE_LIMIT:
+        is_past = not_after is not None and not_after <= self.now
+        if course == "denied" or is_past or self.live_grants() >= LIVE_LIMIT:
             return refusal("request_denied")
         if course == "granted" and self.live_tokens() + len(request.asks) > LIVE_LIMIT:
             return refusal("request_denied")
         taken = {grant.round.code for grant in self.live_interactions()}
-        grant = Grant(key, request.user, self.now + GRANT_SECONDS, request)
+        end = self.now + GRANT_SECONDS
+        grant = Grant(key, request.user, end if not_after is None else min(end, not_after), request)
         self.grants.append(grant)
         instance = key if request.by_object else None
         if course == "granted":
