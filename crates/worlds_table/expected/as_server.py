@@ -141,9 +141,9 @@ class Worker:
                 return
 
 
-def served(world, setup, gear):
+def served(world, service, gear):
     """What is written to each connection that one worker takes, and whether the door failed."""
-    worker = Worker(Service(setup), gear)
+    worker = Worker(service, gear)
     connections = []
     for place in range(len(gear["connections"])):
         if place + 1 in gear.get("bad_accepts", []):

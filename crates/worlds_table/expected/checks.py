@@ -2,8 +2,9 @@
 
 import base64
 
-from http_cases import PHOTOS, call, case, value_of
+from http_cases import PHOTOS, call, case
 from http_forms import reply_bytes
+from scripts import V
 from signatures import Request, digest_field, mac, signature_base
 from worlds import outcome
 
@@ -34,7 +35,7 @@ def check_all():
     base = signature_base(RFC_MESSAGE, "http://example.com", items, {"created": ("Integer", 1618884473), "keyid": ("String", "test-shared-secret")})
     assert base64.b64encode(mac(RFC_SECRET, base)) == RFC_SIGNATURE
     assert digest_field(HELLO) == b"sha-256=:X48E9qOokqqrvdts8nOJRJN3OWDUoyWxBf7kbu9DBPE=:"
-    assert value_of(1, 2 ** 64 - 1, 2 ** 64 - 1) == "AAAAAAAAAAH_____________________"
+    assert V(1, 2 ** 64 - 1, 2 ** 64 - 1) == "AAAAAAAAAAH_____________________"
     assert outcome(case("", [[b"POST /gnap HTTP/1.1\r\nContent-Length: 2\r\n\r\n{}"]], [1_000]))["served"] == [[UNSIGNED.replace("\n", "\r\n")]]
     granted = outcome(case("", [[call("begin", "c1", 1_000, PHOTOS)]], [1_000]))
     assert granted["served"] == [[reply_bytes(200, GRANTED.encode()).decode()]]

@@ -1,15 +1,6 @@
-"""Cases of `as` on messages as such: heads, routes, ends of connections, and what fails outside; and cases of `sign`, `verify` and of the words."""
+"""Cases of `as` on messages as such: routes, heads, ends of connections."""
 
-from http_cases import BASE, NOT_FOUND, PHOTOS, SECRETS, SETUP, call, case, introspection, latin, request, sent, value_of
-from http_forms import request_bytes
-from rights import compact
-from signatures import signed
-
-HELLO = b'{"hello": "world"}'
-
-
-def head(*lines):
-    return b"\r\n".join([*lines, b"", b""])
+from http_cases import NOT_FOUND, PHOTOS, call, case, head, latin, request, sent, signed_by_c1
 
 
 def routes():
@@ -19,8 +10,7 @@ def routes():
         ("GET", "/.well-known/gnap-as-rs"), ("POST", "/.well-known/gnap-as-rs"), ("GET", "/?/gnap"), ("GET", "/é".encode().decode("latin-1")),
     ]:
         yield case(f"route: {method} {target}", [[head(f"{method} {target} HTTP/1.1".encode("latin-1"))]])
-    signed_request = signed(request(b"POST", b"/gnap?x=1", compact(PHOTOS).encode()), BASE, "c1", SECRETS["c1"], 1_000)
-    yield case("route: a signed query", [[sent(signed_request)]], [1_000])
+    yield case("route: a signed query", [[sent(signed_by_c1(request(b"POST", b"/gnap?x=1", PHOTOS)))]], [1_000])
 
 
 def heads():
@@ -65,6 +55,9 @@ def heads():
     yield case("head: LF alone at the ends of lines", [[b"GET /x HTTP/1.1\nA: b\n\n", NOT_FOUND]])
     yield case("head: empty lines before", [[b"\r\n\n\r\n", NOT_FOUND, b"\r\n", NOT_FOUND]])
     yield case("head: a CR alone before", [[b"\r", NOT_FOUND]])
+
+
+def long_heads():
     for count in (16_384, 16_385):
         lines = b"GET /x HTTP/1.1\r\nA: "
         filled = case(f"head: {count} bytes", [[lines, b"\r\n\r\n", NOT_FOUND]])
@@ -92,100 +85,6 @@ def ends():
     yield case("bytes that are no head, cut after each byte", [[b"GET /\x01\x02 HTTP/1.1\r\n\r\n"]], cut=True)
 
 
-def failures():
-    begin = call("begin", "c1", 1_000, PHOTOS)
-    active = call("introspect", "r1", 1_001, introspection(value_of(1)))
-    moments = [1_000, 1_000, 1_001]
-    yield case("a second write that fails: the entry stands", [[NOT_FOUND, begin, NOT_FOUND], [active]], moments, bad_writes=[[2]])
-    yield case("a first write that fails", [[begin], [active]], [1_000, 1_001], bad_writes=[[1]])
-    yield case("room for a beginning of the reply", [[begin, NOT_FOUND], [active]], [1_000, 1_001], rooms=[100])
-    yield case("a read that fails", [[begin], [NOT_FOUND]], [1_000], bad_reads=[[1]])
-    yield case("the door fails at once", [[NOT_FOUND]], bad_accepts=[1])
-    yield case("the door fails after one connection", [[NOT_FOUND], [NOT_FOUND]], bad_accepts=[2])
-    yield case("the door fails after all connections", [[NOT_FOUND]], bad_accepts=[2])
-    yield case("the setup can't be opened", [[NOT_FOUND]], bad_opens=[1])
-    yield case("the address can't be listened at", [[NOT_FOUND]], bad_opens=[2])
-    plain = case("", [[NOT_FOUND]])
-    yield {**plain, "name": "the setup can't be read", "bad_reads": [[1]]}
-    for name, words in [
-        ("no file of that name", ["as", "other", "a", "1", "1"]),
-        ("another address", ["as", "setup", "b", "1", "1"]),
-        ("more workers than gears", ["as", "setup", "a", "2", "1"]),
-        ("a quota below the connections", ["as", "setup", "a", "1", "0"]),
-        ("a quota above the connections", ["as", "setup", "a", "1", "1000000"]),
-        ("no worker", ["as", "setup", "a", "0", "1"]),
-        ("65 workers", ["as", "setup", "a", "65", "1"]),
-        ("a quota above 1,000,000", ["as", "setup", "a", "1", "1000001"]),
-        ("a number with a leading zero", ["as", "setup", "a", "01", "1"]),
-        ("a number with a sign", ["as", "setup", "a", "+1", "1"]),
-        ("an empty number", ["as", "setup", "a", "", "1"]),
-        ("a number past 64 bits", ["as", "setup", "a", "1", "18446744073709551617"]),
-        ("an option", ["as", "-setup", "a", "1", "1"]),
-        ("an empty word", ["as", "setup", "", "1", "1"]),
-        ("one word too few", ["as", "setup", "a", "1"]),
-        ("one word too many", ["as", "setup", "a", "1", "1", "1"]),
-        ("a replay without a file", ["replay"]),
-        ("a replay of a file that isn't there", ["replay", "other"]),
-        ("a replay of a setup alone", ["replay", "setup"]),
-        ("--help", ["--help"]),
-        ("no words", []),
-        ("an unknown command", ["serve", "setup"]),
-    ]:
-        yield {**plain, "name": "words: " + name, "words": words}
-    yield {**plain, "name": "a setup that is none", "files": [["setup", "{}"]]}
-    yield {**plain, "name": "a quota of 0 and a gear without a connection", "words": ["as", "setup", "a", "1", "0"],
-           "gears": [{"connections": []}]}
-    yield {**plain, "name": "three workers", "words": ["as", "setup", "a", "3", "1"],
-           "gears": [{"connections": [latin(NOT_FOUND)]}, {"connections": []}, {"connections": [latin(head(b"GET /gnap HTTP/1.0"))]}]}
-
-
-def files_with_requests():
-    text = compact(SETUP)
-    plain = request_bytes(request(b"POST", b"/gnap", HELLO))
-    message = signed(request(b"POST", b"/gnap", HELLO), BASE, "c1", SECRETS["c1"], 1_000)
-    good = request_bytes(message)
-
-    def over(name, words, bytes_read, **more):
-        return {"name": name, "words": words, "files": [["setup", text], ["request", latin(bytes_read)]], **more}
-
-    for key, created in [("c1", "1000"), ("r1", "0"), ("f1", "253402300799"), ("c9", "1000"), ("c1", "253402300800"), ("c1", "01000")]:
-        yield over(f"sign: by {key} at {created}", ["sign", "setup", key, created, "request"], plain)
-    for name, bytes_read in [
-        ("a signed one", good), ("without a body", head(b"DELETE /continue HTTP/1.1", b"Authorization: GNAP x")), ("HTTP/1.0", head(b"GET /gnap?a=b HTTP/1.0")),
-        ("two fields of a name", head(b"GET /gnap HTTP/1.1", b"A: b ", b"a:\tc")), ("bytes behind it", plain + b"x"), ("a second one", plain * 2),
-        ("nothing", b""), ("an unfinished one", plain[:-1]), ("no head", b"GET\r\n\r\n"), ("a coded one", head(b"GET / HTTP/1.1", b"Content-Encoding: x")),
-        ("a body that is too large", head(b"GET / HTTP/1.1", b"Content-Length: 65537")),
-        ("a digest that isn't the body's", request_bytes(request(b"POST", b"/gnap", HELLO, [(b"Content-Digest", b"sha-256=:AAAA:")]))),
-    ]:
-        yield over("sign: " + name, ["sign", "setup", "c1", "1000", "request"], bytes_read)
-    for now in ("1000", "1300", "1301", "700", "699"):
-        yield over(f"verify: at {now}", ["verify", "setup", now, "request"], good)
-    names = ["@method", "@target-uri", "content-digest"]
-    code = dict(message.fields)[b"signature"]
-    for name, bytes_read in [
-        ("no signature", plain), ("bytes behind it", good + b"\n"), ("a changed body", good[:-1] + b" "),
-        ("a changed signature", good.replace(code, code[:-3] + b"A=:" if code[-3:-2] != b"A" else code[:-3] + b"B=:")),
-        ("the digest isn't covered", request_bytes(signed(request(b"POST", b"/gnap", HELLO), BASE, "c1", SECRETS["c1"], 1_000, names=names[:2]))),
-        ("two of the tag", request_bytes(signed(message, BASE, "c1", SECRETS["c1"], 1_000, label="b"))),
-        ("another tag", request_bytes(signed(request(b"POST", b"/gnap", HELLO), BASE, "c1", SECRETS["c1"], 1_000, tag="x"))),
-        ("no dictionary", good.replace(b"sig1=(", b"sig1=[")), ("no list", good.replace(b'sig1=("@method" "@target-uri" "content-digest")', b"sig1")),
-        ("an item that is no String", good.replace(b'("@method"', b"(a")), ("a component that isn't there", good.replace(b'("@method"', b'("x"')),
-        ("a component twice", good.replace(b'("@method"', b'("@target-uri"')), ("an unknown key", good.replace(b'keyid="c1"', b'keyid="c8"')),
-        ("it is early", good.replace(b"created=1000", b"created=-1")), ("it expired", good.replace(b";tag", b";expires=999;tag")),
-        ("an alg", good.replace(b";tag", b';alg="x";tag')), ("a created that is no Integer", good.replace(b"created=1000", b"created=1000.0")),
-    ]:
-        yield over("verify: " + name, ["verify", "setup", "1000", "request"], bytes_read)
-    for name, more in [
-        ("the output fails", {"bad_writes": [1]}), ("the setup can't be opened", {"bad_opens": [1]}), ("the request can't be opened", {"bad_opens": [2]}),
-        ("the setup can't be read", {"bad_reads": [[1]]}), ("the request can't be read", {"bad_reads": [[], [1]]}),
-    ]:
-        yield over("verify: " + name, ["verify", "setup", "1000", "request"], good, **more)
-    yield {**over("verify: a setup that is none", ["verify", "setup", "1000", "other"], good), "files": [["setup", "[]"]]}
-
-
 def cases():
-    yield from routes()
-    yield from heads()
-    yield from ends()
-    yield from failures()
-    yield from files_with_requests()
+    for part in (routes, heads, long_heads, ends):
+        yield from part()

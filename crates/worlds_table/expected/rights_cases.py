@@ -1,7 +1,9 @@
-"""Cases of rights as objects, several tokens, labels, flags and bearer tokens: each by a replay and over HTTP, with the same replies."""
+"""Runs with rights as objects, several tokens, labels, flags and bearer tokens, at every limit and one past it; and setups with such rights."""
 
-from http_cases import SETUP, call, case, introspection, value_of
+import run_cases
+from http_cases import introspection
 from rights import compact
+from scripts import SETUP, V, Run, Step
 
 BOTH = {"type": "t", "actions": ["read", "write"], "locations": ["a"]}
 ONLY_READ = {"type": "t", "actions": ["read"], "locations": ["b"]}
@@ -20,19 +22,9 @@ def setup_with(auto, serves):
 OBJECTS = setup_with(AUTO, ["photos", "t", "é"])
 
 
-def by_both(name, calls, setup=OBJECTS):
-    """A replay and a connection with these calls: at which moment, by which key, which call, the presented value, and the body."""
-    lines = [compact(setup)]
-    requests = []
-    for at, key, asked, value, body in calls:
-        line = {"at": at, "call": asked, "key": key, "value": value, "body": body}
-        lines.append(compact({part: given for part, given in line.items() if given is not None}))
-        requests.append(call(asked, key, at, body, value))
-    text = "\n".join(lines).encode().decode("latin-1")
-    yield {"name": name + ": a replay", "words": ["replay", "calls"], "files": [["calls", text]]}
-    over_http = case(name + ": over HTTP", [requests], [at for at, *_ in calls], setup=setup)
-    over_http["files"][0][1] = over_http["files"][0][1].encode().decode("latin-1")
-    yield over_http
+def run(name, calls, setup=OBJECTS):
+    """A run whose answers the model alone gives: at which moment, by which key, which call, the presented value, and the body."""
+    return Run(name, setup, [Step(*call, answer="") for call in calls])
 
 
 def begin(access, at=1_000, client="c1", **members):
@@ -48,19 +40,19 @@ def right(**members):
 
 
 def covering():
-    yield from by_both("wanted rights are covered by the union alone", [
+    yield run("wanted rights are covered by the union alone", [
         begin([BOTH, ONLY_READ]),
-        introspect(value_of(1), access=[right(actions=["read"], locations=["a", "b"])]),
-        introspect(value_of(1), access=[right(actions=["write"], locations=["b"])]),
-        introspect(value_of(1), access=[right()]),
-        introspect(value_of(1), access=[right(actions=["read"])]),
-        introspect(value_of(1), access=[right(actions=["read"], locations=["a"], identifier="")]),
-        introspect(value_of(1), access=[right(actions=["read"], locations=["a"], datatypes=["d"])]),
-        introspect(value_of(1), access=[right(actions=["read"], locations=["a"], x=1)]),
-        introspect(value_of(1), access=["t"]),
-        introspect(value_of(1), access=[right(actions=["write", "read", "write"], locations=["a"]), ONLY_READ]),
+        introspect(V(1), access=[right(actions=["read"], locations=["a", "b"])]),
+        introspect(V(1), access=[right(actions=["write"], locations=["b"])]),
+        introspect(V(1), access=[right()]),
+        introspect(V(1), access=[right(actions=["read"])]),
+        introspect(V(1), access=[right(actions=["read"], locations=["a"], identifier="")]),
+        introspect(V(1), access=[right(actions=["read"], locations=["a"], datatypes=["d"])]),
+        introspect(V(1), access=[right(actions=["read"], locations=["a"], x=1)]),
+        introspect(V(1), access=["t"]),
+        introspect(V(1), access=[right(actions=["write", "read", "write"], locations=["a"]), ONLY_READ]),
     ])
-    yield from by_both("asked rights are covered by what the client gets at once", [
+    yield run("asked rights are covered by what the client gets at once", [
         begin([right(actions=["read"], locations=["b", "a"])]),
         begin([right(actions=["write"], locations=["b"])]),
         begin([right()]),
@@ -75,22 +67,22 @@ def covering():
         begin([{**RICH, "identifier": "i"}]),
         begin([{"type": "n" * 256}]),
     ])
-    yield from by_both("a server sees the part that it serves", [
-        begin(["photos", RICH, BOTH, {"type": "n" * 256}]), introspect(value_of(1)), introspect(value_of(1), server="r2"),
-        introspect(value_of(1), access=["photos", RICH]), introspect(value_of(1), access=[{"type": "n" * 256}]),
-        introspect(value_of(1), server="r2", access=["photos"]),
-        (1_001, "r1", "introspect", None, introspection(value_of(1), "r2")),
+    yield run("a server sees the part that it serves", [
+        begin(["photos", RICH, BOTH, {"type": "n" * 256}]), introspect(V(1)), introspect(V(1), server="r2"),
+        introspect(V(1), access=["photos", RICH]), introspect(V(1), access=[{"type": "n" * 256}]),
+        introspect(V(1), server="r2", access=["photos"]),
+        (1_001, "r1", "introspect", None, introspection(V(1), "r2")),
     ])
 
 
 def limits():
     wide = ["w"] * 16
     fits = {"type": "t", "actions": wide, "locations": ["a"] * 16, "datatypes": ["d"] * 4}
-    auto = [fits, *(f"r{place}" for place in range(17))]
-    setup = setup_with(auto, ["t"])
     names = [f"r{place}" for place in range(17)]
-    long = ["x" * 250] * 16
-    yield from by_both("rights at their limits and one past them", [
+    long = ["x" * 254] * 15
+    rest = 4_096 - len(compact([*long, ""]))
+    setup = setup_with([fits, *names, "x" * 254, "x" * rest, "x" * (rest + 1)], ["t"])
+    yield run("rights at their limits and one past them", [
         begin([fits]),
         begin([{**fits, "privileges": ["p", "p"]}]),
         begin([{**fits, "actions": wide + ["w"]}]),
@@ -108,10 +100,9 @@ def limits():
         begin([""]),
         begin([{"type": "m" * 257}]),
         begin([{"type": "t", "x": 1.5}]),
-        begin(long[:15] + ["x" * (4_096 - 2 - 15 * 253 - 2)]),
-        begin(long[:15] + ["x" * (4_096 - 2 - 15 * 253 - 1)]),
-    ], setup_with([*auto, "x" * 250, "x" * (4_096 - 2 - 15 * 253 - 2), "x" * (4_096 - 2 - 15 * 253 - 1)], ["t"]))
-    del setup
+        begin([*long, "x" * rest]),
+        begin([*long, "x" * (rest + 1)]),
+    ], setup)
 
 
 def several():
@@ -121,17 +112,17 @@ def several():
         return 1_000, "c1", "begin", None, {"access_token": asks, "client": client, **more}
 
     labels = [{**photos, "label": f"l{place}"} for place in range(9)]
-    yield from by_both("several tokens in one request", [
+    yield run("several tokens in one request", [
         begin_all([{**photos, "label": "a"}, {**photos, "label": "b", "flags": ["bearer"]}], {"key": "c1"}),
-        introspect(value_of(1)), introspect(value_of(1), proof="httpsig"), introspect(value_of(1), proof="bearer"),
-        introspect(value_of(3)), introspect(value_of(3), proof="httpsig"), introspect(value_of(3), proof="bearer"),
-        introspect(value_of(3), proof="mtls"), introspect(value_of(2)), introspect(value_of(5)),
-        (1_002, "c1", "rotate", value_of(4), None), introspect(value_of(6), proof="bearer"), introspect(value_of(3), proof="bearer"),
-        (1_003, "c1", "revoke", value_of(2), None), introspect(value_of(1)),
-        (1_004, "c1", "modify", value_of(5), {"access_token": [{**photos, "label": "c"}]}), introspect(value_of(6)), introspect(value_of(8)),
-        (1_005, "c1", "modify", value_of(10), {"access_token": {**photos, "label": "d", "flags": ["bearer"]}}),
+        introspect(V(1)), introspect(V(1), proof="httpsig"), introspect(V(1), proof="bearer"),
+        introspect(V(3)), introspect(V(3), proof="httpsig"), introspect(V(3), proof="bearer"),
+        introspect(V(3), proof="mtls"), introspect(V(2)), introspect(V(5)),
+        (1_002, "c1", "rotate", V(4), None), introspect(V(6), proof="bearer"), introspect(V(3), proof="bearer"),
+        (1_003, "c1", "revoke", V(2), None), introspect(V(1)),
+        (1_004, "c1", "modify", V(5), {"access_token": [{**photos, "label": "c"}]}), introspect(V(6)), introspect(V(8)),
+        (1_005, "c1", "modify", V(10), {"access_token": {**photos, "label": "d", "flags": ["bearer"]}}),
     ])
-    yield from by_both("labels", [
+    yield run("labels", [
         begin_all([{**photos, "label": "a"}, {**photos, "label": "a"}]),
         begin_all([{**photos, "label": "a"}, photos]),
         begin_all([photos]),
@@ -148,7 +139,7 @@ def several():
         begin_all([]),
         begin_all(None),
     ])
-    yield from by_both("flags", [
+    yield run("flags", [
         begin_all({**photos, "flags": ["bearer", "bearer"]}),
         begin_all({**photos, "flags": ["durable"]}),
         begin_all({**photos, "flags": ["durable", "x", "bearer"]}),
@@ -160,12 +151,12 @@ def several():
         begin_all([{**photos, "label": "a"}, {**photos, "label": "b", "flags": ["x", "x"]}]),
         begin_all({**photos, "flags": ["x", "x"]}, "c2"),
     ])
-    yield from by_both("clients and resource servers as objects", [
+    yield run("clients and resource servers as objects", [
         begin_all(photos, {"key": "c1"}), begin_all(photos, {"key": "c1", "display": {}}), begin_all(photos, {"key": "c2"}), begin_all(photos, {}),
         begin_all(photos, {"key": {"proof": "httpsig"}}), begin_all(photos, "no id"),
-        (1_001, "r1", "introspect", None, {"access_token": value_of(1), "resource_server": {"key": "r1"}}),
-        (1_001, "r1", "introspect", None, {"access_token": value_of(1), "resource_server": {"key": "r2"}}),
-        (1_001, "r1", "introspect", None, {"access_token": value_of(1), "resource_server": {"id": "r1"}}),
+        (1_001, "r1", "introspect", None, {"access_token": V(1), "resource_server": {"key": "r1"}}),
+        (1_001, "r1", "introspect", None, {"access_token": V(1), "resource_server": {"key": "r2"}}),
+        (1_001, "r1", "introspect", None, {"access_token": V(1), "resource_server": {"id": "r1"}}),
         (1_001, "r1", "introspect", None, {"access_token": 1, "resource_server": "r1"}),
         (1_001, "r1", "introspect", None, {"resource_server": "r1"}),
     ])
@@ -179,12 +170,10 @@ def setups():
         ("a right that is a number", [1]), ("a right of 257 bytes", ["a" * 257]), ("a number that is a fraction", [{"type": "t", "x": 0.5}]),
         ("a right in full", [RICH]),
     ]:
-        text = compact(setup_with(auto, ["é"])).encode().decode("latin-1")
+        text = run_cases.latin(compact(setup_with(auto, ["é"])))
         yield {"name": "setup: " + name, "words": ["as", "setup", "a", "1", "0"], "files": [["setup", text]], "gears": [{"connections": []}]}
 
 
 def cases():
-    yield from covering()
-    yield from limits()
-    yield from several()
+    yield from run_cases.cases([*covering(), *limits(), *several()])
     yield from setups()

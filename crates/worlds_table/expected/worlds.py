@@ -159,7 +159,7 @@ def verify(world, config, now, name):
 
 
 def serve(world, config, listen, workers, quota):
-    """Workers here get no call of the machine where there are several, since the order of their calls isn't known."""
+    """One worker after another: where there are several, the order in which their calls come makes no difference to any reply."""
     argument(config), argument(listen)
     workers, quota = number(workers, 1, 64), number(quota, 0, 1_000_000)
     setup = world.config(config)
@@ -167,7 +167,8 @@ def serve(world, config, listen, workers, quota):
     gears = world.case.get("gears", [])
     if listen != "a" or len(gears) != workers or any(len(gear["connections"]) > quota for gear in gears):
         raise Stop(4)
-    answers = [as_server.served(world, setup, gear) for gear in gears]
+    service = as_server.Service(setup)
+    answers = [as_server.served(world, service, gear) for gear in gears]
     world.served = [connections for connections, _ in answers]
     return 4 if any(failed for _, failed in answers) else 0
 

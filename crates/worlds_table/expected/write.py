@@ -8,11 +8,19 @@ from pathlib import Path
 
 import edge_cases
 import http_cases
+import line_cases
+import outside_cases
 import rights_cases
+import run_cases
+import scripted_grants
 from checks import check_all
 from worlds import outcome
 
-MODULES = (http_cases, edge_cases, rights_cases)
+
+def cases():
+    for module in (http_cases, edge_cases, outside_cases, rights_cases, line_cases):
+        yield from module.cases()
+    yield from run_cases.cases(scripted_grants.RUNS)
 
 
 def lines_of(values):
@@ -21,10 +29,10 @@ def lines_of(values):
 
 def main():
     check_all()
-    cases = [case for module in MODULES for case in module.cases()]
-    assert len({case["name"] for case in cases}) == len(cases)
+    table = list(cases())
+    assert len({case["name"] for case in table}) == len(table)
     folder = Path(__file__).resolve().parent.parent
-    for name, values in (("stdin", cases), ("stdout", map(outcome, cases))):
+    for name, values in (("stdin", table), ("stdout", map(outcome, table))):
         (folder / name).write_text(lines_of(values), encoding="utf-8")
 
 
