@@ -2,8 +2,10 @@
 
 from http_cases import NAMES, NOT_FOUND, PHOTOS, call, case, head, introspection, latin, request, signed_by_c1
 from http_forms import request_bytes
+from rfc_message import MESSAGE, SECRET_TEXT, SIGNATURE_FIELDS
 from rights import compact
-from scripts import SETUP, V
+from scripts import SETUP, V, client, setup_of
+from signatures import Request
 
 SETUP_TEXT = compact(SETUP)
 PLAIN = case("", [[NOT_FOUND]])
@@ -135,6 +137,15 @@ def verifying():
     yield over("verify: a setup that is none, and no request", ["verify", "request", "1000", "other"], SIGNED)
 
 
+def rfc_message():
+    """The message of RFC 9421 has a signature without a tag. It is signed by the same key with one."""
+    setup = compact({**setup_of(client("test-shared-secret", SECRET_TEXT, [], [])), "base": "https://example.com"})
+    text = request_bytes(Request(MESSAGE.method, MESSAGE.target, MESSAGE.fields + SIGNATURE_FIELDS, MESSAGE.body))
+    files = [["setup", setup], ["request", latin(text)], ["unsigned", latin(request_bytes(MESSAGE))]]
+    yield {"name": "verify: the message of RFC 9421", "words": ["verify", "setup", "1618884473", "request"], "files": files}
+    yield {"name": "sign: the message of RFC 9421", "words": ["sign", "setup", "test-shared-secret", "1618884473", "unsigned"], "files": files}
+
+
 def cases():
-    for part in (devices, workers, words, signing, verifying):
+    for part in (devices, workers, words, signing, verifying, rfc_message):
         yield from part()
