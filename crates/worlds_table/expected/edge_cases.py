@@ -7,7 +7,9 @@ def routes():
     for method, target in [
         ("OPTIONS", "/gnap"), ("GET", "/gnap"), ("PUT", "/gnap"), ("post", "/gnap"), ("GET", "/x"), ("POST", "/"), ("POST", "/gnap/"), ("GET", "*"),
         ("OPTIONS", "/gnap?a=/x"), ("GET", "/continue"), ("GET", "/token"), ("PATCH", "/token"), ("GET", "/introspect"), ("DELETE", "/introspect"),
-        ("GET", "/.well-known/gnap-as-rs"), ("POST", "/.well-known/gnap-as-rs"), ("GET", "/?/gnap"), ("GET", "/é".encode().decode("latin-1")),
+        ("GET", "/.well-known/gnap-as-rs"), ("POST", "/.well-known/gnap-as-rs"), ("GET", "/?/gnap"),
+        ("POST", "//gnap"), ("POST", "https://as.example/gnap"), ("POST", "/gnap#"), ("POST", "/gnap%20"), ("POST", "/GNAP"), ("GNAP!", "/gnap?"),
+        ("GET", "/é".encode().decode("latin-1")),
     ]:
         yield case(f"route: {method} {target}", [[head(f"{method} {target} HTTP/1.1".encode("latin-1"))]])
     yield case("route: a signed query", [[sent(signed_by_c1(request(b"POST", b"/gnap?x=1", PHOTOS)))]], [1_000])
@@ -43,12 +45,21 @@ def heads():
         ("a length with a sign", b"GET /x HTTP/1.1", b"Content-Length: +1"),
         ("an empty length", b"GET /x HTTP/1.1", b"Content-Length:"),
         ("two equal lengths", b"GET /x HTTP/1.1", b"Content-Length: 0", b"Content-Length: 0"),
+        ("a length of 5 behind 30 zeros", b"GET /x HTTP/1.1", b"Content-Length: " + b"0" * 30 + b"5"),
+        ("the body isn't read as a request", b"GET /x HTTP/1.1", b"Content-Length: 17", b"", b"GET /y HTTP/1.0"),
+        ("a last message with a body", b"GET /x HTTP/1.1", b"Content-Length: 4", b"Connection: close"),
+        ("HTTP/1.0 closes where it asks to be kept alive", b"GET /x HTTP/1.0", b"Connection: keep-alive"),
+        ("Expect", b"GET /x HTTP/1.1", b"Expect: 100-continue"),
+        ("a name of odd bytes", b"GET /x HTTP/1.1", b"!#$%&'*+-.^_`|~: a"),
+        ("a name with a byte past ASCII", b"GET /x HTTP/1.1", b"\xe4: a"),
         ("two lengths in one field", b"GET /x HTTP/1.1", b"Content-Length: 0, 0"),
         ("leading zeros of a length", b"GET /x HTTP/1.1", b"Content-Length: 000"),
         ("a length of 65,537", b"GET /x HTTP/1.1", b"Content-Length: 65537"),
         ("a length of 2^64", b"GET /x HTTP/1.1", b"Content-Length: 18446744073709551616"),
         ("64 fields", b"GET /x HTTP/1.1", *[b"A: b"] * 64),
         ("65 fields", b"GET /x HTTP/1.1", *[b"A: b"] * 65),
+        ("65 fields and a coding", b"GET /x HTTP/1.1", *[b"A: b"] * 64, b"Transfer-Encoding: chunked"),
+        ("64 fields, of which one is a length", b"GET /x HTTP/1.1", b"Content-Length: 2", *[b"A: b"] * 63),
         ("65 fields, and one that isn't one", b"GET /x HTTP/1.1", *[b"A: b"] * 65, b"A"),
     ]:
         yield case("head: " + name, [[head(*lines), NOT_FOUND]])
@@ -64,10 +75,16 @@ def long_heads():
         filled["gears"][0]["connections"] = [latin(lines) + chr(256) + latin(b"\r\n\r\n", NOT_FOUND)]
         filled["runs"] = [["b", count - len(lines) - 4]]
         yield filled
-    for name, text in [("a field", "GET /x HTTP/1.1\r\nA: " + chr(256)), ("a target", "GET /" + chr(256)), ("fields", "GET /x HTTP/1.1\r\n" + chr(257))]:
+    blank = case("head: empty lines count", [[b""], [b""]])
+    blank["gears"][0]["connections"] = [chr(256) + latin(NOT_FOUND), "\n" + chr(256) + latin(NOT_FOUND)]
+    blank["runs"] = [["\n", 16_384 - len(NOT_FOUND)]]
+    yield blank
+    for name, text in [
+        ("empty lines", chr(258)), ("a field", "GET /x HTTP/1.1\r\nA: " + chr(256)), ("a target", "GET /" + chr(256)), ("fields", "GET /x HTTP/1.1\r\n" + chr(257)),
+    ]:
         open_head = case(f"head: no end within 16,384 bytes, in {name}", [[b""]])
         open_head["gears"][0]["connections"] = [text]
-        open_head["runs"] = [["b", 16_384], ["A: b\r\n", 3_000]]
+        open_head["runs"] = [["b", 16_384], ["A: b\r\n", 3_000], ["\r\n", 8_192]]
         yield open_head
 
 

@@ -1,6 +1,7 @@
 """Cases of `as` over HTTP: requests signed and sent, and all that can be wrong with them."""
 
 import base64
+import hashlib
 import json
 
 from http_forms import request_bytes
@@ -74,6 +75,10 @@ def whole_runs():
         begin, call("introspect", "r1", 4_599, introspection(V(1))), call("introspect", "r1", 4_600, introspection(V(1))),
         call("introspect", "r1", 4_599, introspection(V(1))),
     ]], [1_000, 4_599, 4_600, 4_599])
+    last = 253_402_300_799
+    yield case("the last moment", [[
+        call("begin", "c1", last, PHOTOS), call("introspect", "r1", last, introspection(V(1))), call("continue", "c1", last, value=V(3)),
+    ]], [last])
     yield case("a grant that is continued, modified, rotated, revoked and cancelled", [[
         begin, call("continue", "c1", 1_004, value=V(3)), call("continue", "c1", 1_005, value=V(3)),
         call("continue", "c1", 1_010, {}, V(4)), call("modify", "c1", 1_011, PHOTOS, V(5)),
@@ -140,11 +145,34 @@ def changed_requests():
         ("the method isn't the signed one", sent(Request(b"POST", b"/gnap", signed_put.fields, TEXT))),
         ("more blanks in the list than its canonical text has", changed(b'("@method" "@target-uri"', b'(  "@method"   "@target-uri"')),
         ("a blank before a parameter", changed(b";created", b"; created")),
+        ("a blank behind the signature", changed(code, code + b" ")),
+        ("zeros before a number", changed(b"created=1000", b"created=001000")),
+        ("a parameter twice: the last one counts, in the place of the first", changed(
+            b';created=1000;keyid="c1";tag="gnap"', b';created=1;keyid="c1";tag="gnap";created=1000')),
+        ("a label twice: the last one counts", changed(b"sig1=(", b"sig1=1, sig1=(")),
+        ("a parameter of the signature", changed(code, code + b";x=1")),
+        ("a signature that is a list", changed(code, b"sig1=(" + code[5:] + b")")),
         ("without the padding of the byte sequence", changed(code, code[:-2] + b":")),
         ("no signature", sent(plain())),
         ("no Signature-Input", sent(Request(b"POST", b"/gnap", [pair for pair in GOOD.fields if pair[0] != b"signature-input"], TEXT))),
     ]:
         yield case("signature: " + name, [[bytes_sent]], [1_000])
+
+
+def odd_parameters():
+    """Parameters whose text isn't the canonical one that the signature base has."""
+    for name, value, canonical, text in [
+        ("true", ("Boolean", True), b";x", b";x=?1"),
+        ("a Decimal", ("Decimal", 1_500), b";x=1.5", b";x=1.500"),
+        ("a negative Decimal", ("Decimal", -20), b";x=-0.02", b";x=-00.020"),
+        ("a byte sequence", ("Binary", b"a"), b";x=:YQ==:", b";x=:YQ:"),
+        ("a Token", ("Token", "*a/b:c'~"), b";x=*a/b:c'~", b";x=*a/b:c'~"),
+        ("an empty String", ("String", ""), b';x=""', b';  x=""'),
+        ("minus zero", ("Integer", 0), b";x=0", b";x=-0"),
+    ]:
+        before = sent(signed_by_c1(plain(), more={"x": value}))
+        assert before.count(canonical) == 1
+        yield case("signature: a parameter that is " + name, [[before.replace(canonical, text)]], [1_000])
 
 
 def signed_otherwise():
@@ -188,6 +216,18 @@ def other_messages():
         yield case("signature: " + name, [[sent(message)]], [1_000])
 
 
+def digests():
+    short, long = (name + b"=:" + base64.b64encode(digest(TEXT).digest()) + b":"
+                   for name, digest in ((b"sha-256", hashlib.sha256), (b"sha-512", hashlib.sha512)))
+    for name, *lines in [
+        ("sha-512 alone", long), ("both", short + b", " + long), ("both, in two lines", long, short), ("one of the two is wrong", short, b"sha-512=:AAAA:"),
+        ("an unknown one beside", b"md5=:AAAA:, " + short), ("an unknown one alone", b"md5=:AAAA:"), ("one with a parameter", short + b";x"),
+        ("one that is a String", b'sha-256="a"'), ("twice, the last one right", b"sha-256=1, " + short), ("no dictionary", b"sha-256=:"), ("empty", b""),
+        ("in capitals", short.replace(b"sha", b"SHA")),
+    ]:
+        yield case("digest: " + name, [[sent(signed_by_c1(plain(*((b"content-digest", line) for line in lines))))]], [1_000])
+
+
 def bodies():
     photos = json.dumps(PHOTOS).encode()
     for name, key, route, body in [
@@ -201,6 +241,19 @@ def bodies():
         ("the last of two members counts", "c1", "begin", b'{"client":1.5,"access_token":{"access":["photos"]},"client":"c1"}'),
         ("127 levels", "c1", "begin", {**PHOTOS, "x": json.loads("[" * 126 + "]" * 126)}),
         ("128 levels", "c1", "begin", {**PHOTOS, "x": json.loads("[" * 127 + "]" * 127)}),
+        ("an escaped client", "c1", "begin", photos.replace(b'"c1"', b'"\\u00631"')),
+        ("half of a surrogate pair", "c1", "begin", photos[:-1] + b',"x":"\\ud83d"}'),
+        ("a whole surrogate pair", "c1", "begin", photos[:-1] + b',"x":"\\ud83d\\ude00"}'),
+        ("a control byte in a text", "c1", "begin", photos[:-1] + b',"x":"\n"}'),
+        ("a byte order mark before it", "c1", "begin", b"\xef\xbb\xbf" + photos),
+        ("a comma behind the last member", "c1", "begin", photos[:-1] + b",}"),
+        ("the greatest and the least number", "c1", "begin", photos[:-1] + b',"x":[18446744073709551615,-9223372036854775808]}'),
+        ("a number above the greatest", "c1", "begin", photos[:-1] + b',"x":18446744073709551616}'),
+        ("a number below the least", "c1", "begin", photos[:-1] + b',"x":-9223372036854775809}'),
+        ("minus zero", "c1", "begin", photos[:-1] + b',"x":-0}'),
+        ("an exponent", "c1", "begin", photos[:-1] + b',"x":1e3}'),
+        ("a number past all floats", "c1", "begin", photos[:-1] + b',"x":1e999}'),
+        ("NaN", "c1", "begin", photos[:-1] + b',"x":NaN}'),
         ("blanks around", "c1", "begin", b" \r\n\t" + photos + b" "),
         ("a continuation's is blank", "c1", "continue", b" "),
         ("a continuation's is null", "c1", "continue", b"null"),
@@ -226,6 +279,6 @@ def long_bodies():
 
 def cases():
     for part in (
-        whole_runs, presented_values, at_moments, changed_requests, signed_otherwise, other_messages, bodies, long_bodies,
+        whole_runs, presented_values, at_moments, changed_requests, odd_parameters, signed_otherwise, other_messages, digests, bodies, long_bodies,
     ):
         yield from part()

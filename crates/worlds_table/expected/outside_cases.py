@@ -25,10 +25,15 @@ def devices():
     yield case("the address can't be listened at", [[NOT_FOUND]], bad_opens=[2])
     yield {**PLAIN, "name": "the setup can't be read", "bad_reads": [[1]]}
     yield {**PLAIN, "name": "a setup that is none", "files": [["setup", "{}"]]}
+    for count in (1_048_576, 1_048_577):
+        runs = [[" ", count - len(SETUP_TEXT)]]
+        yield {**PLAIN, "name": f"a setup of {count} bytes", "files": [["setup", SETUP_TEXT + chr(256)]], "runs": runs}
+        yield {"name": f"a replay whose setup has {count} bytes", "words": ["replay", "f"], "files": [["f", SETUP_TEXT + chr(256) + "\n{"]], "runs": runs}
     begin = compact({"at": 1_000, "call": "begin", "key": "c1", "body": PHOTOS})
     text = "\n".join([SETUP_TEXT, begin, "{", "{"])
     for fails in (1, 2, 3):
-        yield {"name": f"a replay whose output fails at write {fails}", "words": ["replay", "calls"], "files": [["calls", text]], "bad_writes": [fails]}
+        name = f"a replay whose output fails at write {fails}"
+        yield {"name": name, "words": ["replay", "calls"], "files": [["calls", text]], "bad_writes": [fails]}
 
 
 def workers():
@@ -121,6 +126,9 @@ def verifying():
         ("no list", SIGNED.replace(b"sig1=" + items, b"sig1")),
         ("an item that is no String", SIGNED.replace(b'("@method"', b"(a")),
         ("a component that isn't there", SIGNED.replace(b'("@method"', b'("x"')),
+        ("a component in capitals", SIGNED.replace(b'("@method"', b'("Host"')),
+        ("a component with a parameter", SIGNED.replace(b'("@method"', b'("@method";req')),
+        ("a derived component that isn't known", SIGNED.replace(b'("@method"', b'("@status"')),
         ("a component twice", SIGNED.replace(b'("@method"', b'("@target-uri"')),
         ("an unknown key", SIGNED.replace(b'keyid="c1"', b'keyid="c8"')),
         ("it is early", SIGNED.replace(b"created=1000", b"created=-1")),
@@ -130,8 +138,11 @@ def verifying():
     ]:
         yield over("verify: " + name, ["verify", "setup", "1000", "request"], text)
     for name, more in [
-        ("the output fails", {"bad_writes": [1]}), ("the setup can't be opened", {"bad_opens": [1]}), ("the request can't be opened", {"bad_opens": [2]}),
-        ("the setup can't be read", {"bad_reads": [[1]]}), ("the request can't be read", {"bad_reads": [[], [1]]}),
+        ("the output fails", {"bad_writes": [1]}),
+        ("the setup can't be opened", {"bad_opens": [1]}),
+        ("the request can't be opened", {"bad_opens": [2]}),
+        ("the setup can't be read", {"bad_reads": [[1]]}),
+        ("the request can't be read", {"bad_reads": [[], [1]]}),
     ]:
         yield over("verify: " + name, ["verify", "setup", "1000", "request"], SIGNED, **more)
     yield over("verify: a setup that is none, and no request", ["verify", "request", "1000", "other"], SIGNED)

@@ -8,7 +8,8 @@ from scripts import SETUP, V, Run, Step
 BOTH = {"type": "t", "actions": ["read", "write"], "locations": ["a"]}
 ONLY_READ = {"type": "t", "actions": ["read"], "locations": ["b"]}
 RICH = {
-    "type": "é", "actions": ["a", "a"], "locations": [""], "datatypes": ["d"], "privileges": ["p", "q"], "identifier": "", "x": {"b": [1, None], "a": "é\n"},
+    "type": "é", "actions": ["a", "a"], "locations": [""], "datatypes": ["d"], "privileges": ["p", "q"], "identifier": "",
+    "x": {"b": [1, None], "a": "é\n\u0001\u007f\u2028\U0001f600\"\\/", "": [[], {}, 2 ** 64 - 1, -2 ** 63]},
 }
 AUTO = ["photos", BOTH, ONLY_READ, RICH, {"type": "n" * 256}]
 
@@ -60,8 +61,8 @@ def covering():
         begin([{"type": "photos"}]),
         begin([RICH]),
         begin([{**RICH, "actions": ["a"], "privileges": ["q"]}]),
-        begin([{**RICH, "x": {"a": "é\n", "b": [1, None]}}]),
-        begin([{**RICH, "x": {"a": "é\n", "b": [1]}}]),
+        begin([{**RICH, "x": dict(reversed(RICH["x"].items()))}]),
+        begin([{**RICH, "x": {**RICH["x"], "b": [1]}}]),
         begin([{**RICH, "y": 1}]),
         begin([{name: value for name, value in RICH.items() if name != "identifier"}]),
         begin([{**RICH, "identifier": "i"}]),

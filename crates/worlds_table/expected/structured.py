@@ -1,7 +1,7 @@
 """Structured fields, written from RFC 8941 and docs/STRUCTURED_FIELDS.md alone: dictionaries read, inner lists printed.
 
-A bare item is a pair of its kind and its value: an Integer, a Decimal (in thousandths), a String, a Token, a Binary or a Boolean. An item is a bare item
-and its parameters, an inner list ("list", items) and its parameters. Parameters and dictionaries keep their order.
+A bare item is a pair of its kind and its value: an Integer, a Decimal (in thousandths), a String, a Token, a Binary or a Boolean. An item is a
+bare item and its parameters, an inner list ("list", items) and its parameters. Parameters and dictionaries keep their order.
 """
 
 import base64
@@ -121,8 +121,7 @@ def read_dictionary(text):
     except UnicodeDecodeError:
         raise NotAField from None
     reader.skip(" ")
-    found = reader.entries() if reader.peek() else {}
-    return found
+    return reader.entries() if reader.peek() else {}
 
 
 def print_bare(bare):

@@ -3,7 +3,6 @@ use crate::case::Case;
 use crate::fault::Fault;
 use crate::latin::{bytes_of, text_of};
 use crate::world::world;
-use gnap_io::bytes::Bytes;
 use gnap_io::memory_devices::MemSink;
 use gnap_io::memory_gear::MemGear;
 use gnap_tool::run;
@@ -42,7 +41,7 @@ fn written(alloc: Global, gear: &MemGear) -> Result<Vec<String>, Fault> {
     Ok(texts)
 }
 
-fn outcome<R: Threads + Wait + Sync>(
+fn run_case<R: Threads + Wait + Sync>(
     rt: &R,
     alloc: Global,
     case: &Case,
@@ -104,14 +103,14 @@ fn add(
     Ok(())
 }
 
-fn cut_outcome<R: Threads + Wait + Sync>(
+fn run_beginnings<R: Threads + Wait + Sync>(
     rt: &R,
     alloc: Global,
     case: &Case,
 ) -> Result<CutOutcome, Fault> {
     let mut cut = Vec::new(alloc);
     for count in 0..=longest(alloc, case)? {
-        let outcome = outcome(rt, alloc, case, count)?;
+        let outcome = run_case(rt, alloc, case, count)?;
         let status = outcome.status;
         let text = first_written(outcome).unwrap_or(String::new(alloc));
         add(&mut cut, count, status, text)?;
@@ -129,7 +128,7 @@ pub fn outcome_line<R: Threads + Wait + Sync>(
     case: &Case,
 ) -> Result<String, Fault> {
     if case.cut {
-        return Ok(serde_json::to_string(alloc, &cut_outcome(rt, alloc, case)?)?);
+        return Ok(serde_json::to_string(alloc, &run_beginnings(rt, alloc, case)?)?);
     }
-    Ok(serde_json::to_string(alloc, &outcome(rt, alloc, case, usize::MAX)?)?)
+    Ok(serde_json::to_string(alloc, &run_case(rt, alloc, case, usize::MAX)?)?)
 }
