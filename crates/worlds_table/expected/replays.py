@@ -1,0 +1,81 @@
+"""A replay: a file of a setup line and call lines, and what is printed of it (docs/FORMATS.md, sections 2 to 4).
+
+Run as a program it prints the lines of the replay file that its argument names, and ends with its status.
+"""
+
+import sys
+
+from calls import ROLES, Server
+from json_forms import Fault, NotJson, read_json, read_setup
+from rights import compact
+
+SETUP_BYTES = 1_048_576
+LINE_BYTES = 131_072
+LAST_MOMENT = 253_402_300_799
+NO_FORM = (400, {"error": {"code": "invalid_request"}})
+
+
+class NoLine(Exception):
+    """A line is no object of the form of a call line."""
+
+
+def whole_number(value, most):
+    return type(value) is int and 0 <= value <= most
+
+
+def read_line(line):
+    """The members of a call line: moment, words, call, key, presented value, body."""
+    try:
+        value = read_json(line)
+    except NotJson:
+        raise NoLine from None
+    if not isinstance(value, dict):
+        raise NoLine
+    texts = [value.get(name, "" if name == "value" else None) for name in ("call", "key", "value")]
+    words = value.get("draw", [])
+    fits = (
+        whole_number(value.get("at"), LAST_MOMENT)
+        and all(isinstance(text, str) for text in texts)
+        and ("body" not in value or isinstance(value["body"], dict))
+        and isinstance(words, list) and len(words) <= 48
+        and all(whole_number(word, 2 ** 64 - 1) for word in words)
+    )
+    if not fits:
+        raise NoLine
+    return (value["at"], words, *texts, value.get("body"))
+
+
+def answer_line(server, line):
+    """Status and body of the answer to a line that isn't empty."""
+    if len(line) > LINE_BYTES:
+        return 413, None
+    try:
+        moment, words, call, key, value, body = read_line(line)
+    except NoLine:
+        return NO_FORM
+    if call not in ROLES:
+        return 404, None
+    return server.answer(moment, words, call, key, value, body)[:2]
+
+
+def printed(status, body):
+    return str(status) + ("" if body is None else " " + compact(body)) + "\n"
+
+
+def replay(text):
+    """Status of the program and what it prints, for the bytes of the file."""
+    first, *lines = text.split(b"\n")
+    try:
+        if len(first) > SETUP_BYTES:
+            raise NotJson
+        server = Server(read_setup(first))
+    except (NotJson, Fault):
+        return 3, ""
+    return 0, "".join(printed(*answer_line(server, line)) for line in lines if line)
+
+
+if __name__ == "__main__":
+    with open(sys.argv[1], "rb") as file:
+        status, out = replay(file.read())
+    sys.stdout.write(out)
+    sys.exit(status)

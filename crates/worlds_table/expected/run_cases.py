@@ -1,0 +1,56 @@
+"""The cases of the table that come from runs: each run once as a replay, and once signed over one connection."""
+
+from calls import Server
+from http_forms import request_bytes
+from json_forms import read_setup
+from rights import compact
+from signatures import Request, signed
+
+ROUTES = {
+    "begin": ("POST", "/gnap"), "introspect": ("POST", "/introspect"),
+    "continue": ("POST", "/continue"), "modify": ("PATCH", "/continue"), "cancel": ("DELETE", "/continue"),
+    "rotate": ("POST", "/token"), "revoke": ("DELETE", "/token"),
+    "look": ("POST", "/front/look"), "find_code": ("POST", "/front/code"), "decide": ("POST", "/front/decide"),
+}
+
+
+def latin(text):
+    """The bytes of a text, with a character for each, as the table has them."""
+    return text.encode().decode("latin-1")
+
+
+def replay_case(run):
+    return {"name": run.name + ", replayed", "words": ["replay", "f"], "files": [["f", latin(run.file())]]}
+
+
+def secret_of(setup, key):
+    return setup.keys[key].secret if key in setup.keys else b"of nobody"
+
+
+def signed_request(step, setup):
+    """The bytes of a step's call as its key signs it, at the step's moment."""
+    method, path = ROUTES[step.call]
+    body = b"" if step.body is None else compact(step.body).encode()
+    fields = [(b"authorization", b"GNAP " + step.value.encode())] if step.value else []
+    request = Request(method.encode(), path.encode(), fields, body)
+    return request_bytes(signed(request, setup.base, step.key, secret_of(setup, step.key), step.at))
+
+
+def signed_case(run):
+    setup_text = compact(run.setup)
+    setup = read_setup(setup_text.encode())
+    server = Server(setup)
+    sent, draws = [], []
+    for step in run.steps:
+        words = step.draw or []
+        if server.answer(step.at, words, step.call, step.key, step.value or "", step.body)[2]:
+            draws.append(words)
+        sent.append(signed_request(step, setup).decode("latin-1"))
+    while draws and not draws[-1]:
+        draws.pop()
+    gear = {"connections": ["".join(sent)], "moments": [step.at for step in run.steps], "draws": draws}
+    return {"name": run.name + ", signed", "words": ["as", "s", "a", "1", "1"], "files": [["s", latin(setup_text)]], "gears": [gear]}
+
+
+def cases(runs):
+    return [case_of(run) for run in runs for case_of in (replay_case, signed_case)]

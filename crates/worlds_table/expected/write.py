@@ -1,0 +1,40 @@
+"""Writes ../stdin, a table of cases, and ../stdout, what comes of each by the rules of docs/, without the program.
+
+Run it anew where a rule or a case changes: python3 crates/worlds_table/expected/write.py
+"""
+
+import json
+from pathlib import Path
+
+import edge_cases
+import http_cases
+import line_cases
+import outside_cases
+import rights_cases
+import run_cases
+import scripted_grants
+from checks import check_all
+from worlds import outcome
+
+
+def cases():
+    for module in (http_cases, edge_cases, outside_cases, rights_cases, line_cases):
+        yield from module.cases()
+    yield from run_cases.cases(scripted_grants.RUNS)
+
+
+def lines_of(values):
+    return "".join(json.dumps(value, ensure_ascii=False, separators=(",", ":")) + "\n" for value in values)
+
+
+def main():
+    check_all()
+    table = list(cases())
+    assert len({case["name"] for case in table}) == len(table)
+    folder = Path(__file__).resolve().parent.parent
+    for name, values in (("stdin", table), ("stdout", map(outcome, table))):
+        (folder / name).write_text(lines_of(values), encoding="utf-8")
+
+
+if __name__ == "__main__":
+    main()

@@ -1,0 +1,135 @@
+//! The worlds of the table.
+ghost use Rattle.std.specs.Prelude.{◌≤◌, IfOk, All};
+ghost use Rattle.gnap_io.specs.Gears.{IsUnused, last_moment};
+ghost use Rattle.gnap_io.specs.MemoryForms.{IsUnusedConn};
+
+use crate::case::{Case, GearCase};
+use crate::fault::Fault;
+use crate::latin::bytes_of;
+use gnap_io::bytes::Bytes;
+use gnap_io::gear::Counted;
+use gnap_io::memory_conn::MemConn;
+use gnap_io::memory_devices::MemSource;
+use gnap_io::memory_gear::MemGear;
+use gnap_io::memory_world::MemWorld;
+use std::alloc::Global;
+
+const LAST_MOMENT: u64 = 253_402_300_799;
+
+// How many bytes can be written to a connection of which the case doesn't say it.
+const ROOM: u64 = 262_144;
+
+// The numbers of the calls that fail, at a place of a list of them.
+fn plan(alloc: Global, plans: &[Vec<u64>], place: usize) -> Result<Vec<u64>, Fault> {
+    match plans.get(place) {
+        None => Ok(Vec::new(alloc)),
+        Some(plan) => Ok(plan.clone()?),
+    }
+}
+
+fn files(alloc: Global, case: &Case) -> Result<Vec<(Bytes, MemSource)>, Fault> {
+    let mut files = Vec::new(alloc);
+    for (place, (name, text)) in case.files.iter().enumerate() {
+        let source = MemSource::new(
+            bytes_of(alloc, case, text.as_str())?,
+            plan(alloc, case.bad_reads.as_slice(), place)?,
+        );
+        files.push((Bytes::from_slice(alloc, name.as_bytes())?, source))?;
+    }
+    Ok(files)
+}
+
+// At most so many of the first bytes.
+fn beginning(alloc: Global, bytes: Bytes, most: usize) -> Result<Bytes, Fault> {
+    if bytes.len() <= most {
+        return Ok(bytes);
+    }
+    Ok(Bytes::from_slice(alloc, &bytes.as_slice()[..most])?)
+}
+
+fn connection(
+    alloc: Global,
+    case: &Case,
+    gear: &GearCase,
+    place: usize,
+    text: &str,
+    most: usize,
+) -> Result<MemConn, Fault>
+    ensures { IfOk result IsUnusedConn }
+{
+    let bytes = beginning(alloc, bytes_of(alloc, case, text)?, most)?;
+    let room = gear.rooms.get(place).copied().unwrap_or(ROOM).min(ROOM) as usize;
+    let bad_reads = plan(alloc, gear.bad_reads.as_slice(), place)?;
+    let bad_writes = plan(alloc, gear.bad_writes.as_slice(), place)?;
+    Ok(MemConn::new(alloc, bytes, room, bad_reads, bad_writes)?)
+}
+
+fn connections(
+    alloc: Global,
+    case: &Case,
+    gear: &GearCase,
+    most: usize,
+) -> Result<Vec<MemConn>, Fault>
+    ensures { IfOk result (λ conns. All IsUnusedConn conns.items) }
+{
+    let mut conns = Vec::new(alloc);
+    for (place, text) in gear.connections.iter().enumerate() {
+        conns.push(connection(alloc, case, gear, place, text.as_str(), most)?)?;
+    }
+    Ok(conns)
+}
+
+fn moments(alloc: Global, gear: &GearCase) -> Result<Vec<u64>, Fault>
+    ensures { IfOk result (λ moments. All (λ m. m ≤ last_moment) moments.items) }
+{
+    let mut moments = Vec::new(alloc);
+    for moment in &gear.moments {
+        moments.push((*moment).min(LAST_MOMENT))?;
+    }
+    Ok(moments)
+}
+
+fn draws(alloc: Global, gear: &GearCase) -> Result<Vec<[u64; 48]>, Fault> {
+    let mut draws = Vec::new(alloc);
+    for given in &gear.draws {
+        let mut words = [0; 48];
+        for (word, given) in words.iter_mut().zip(given) {
+            *word = *given;
+        }
+        draws.push(words)?;
+    }
+    Ok(draws)
+}
+
+fn gear(alloc: Global, case: &Case, gear: &GearCase, most: usize) -> Result<MemGear, Fault>
+    ensures { IfOk result (λ gear. IsUnused (⟦<MemGear as Counted>⟧.state gear)) }
+{
+    Ok(MemGear::new(
+        connections(alloc, case, gear, most)?,
+        moments(alloc, gear)?,
+        draws(alloc, gear)?,
+        gear.bad_accepts.clone()?,
+    )?)
+}
+
+fn gears(alloc: Global, case: &Case, most: usize) -> Result<Vec<MemGear>, Fault>
+    ensures { IfOk result (λ gears. All (λ gear. IsUnused (⟦<MemGear as Counted>⟧.state gear)) gears.items) }
+{
+    let mut gears = Vec::new(alloc);
+    for given in &case.gears {
+        gears.push(gear(alloc, case, given, most)?)?;
+    }
+    Ok(gears)
+}
+
+/// The world of the case, whose connections have at most so many of their bytes.
+pub fn world(alloc: Global, case: &Case, most: usize) -> Result<MemWorld, Fault> {
+    let mut at = Vec::new(alloc);
+    at.push((Bytes::from_slice(alloc, b"a")?, gears(alloc, case, most)?))?;
+    Ok(MemWorld::new(
+        files(alloc, case)?,
+        at,
+        Vec::new(alloc),
+        case.bad_opens.clone()?,
+    ))
+}
