@@ -283,6 +283,10 @@ RUNS = [
                                                            uri="https://client.example")),
              pending(6, finish=V(8), redirect=redirect(7))),
         step(1000, "f1", "decide", decide(7, "grant"), told(9, uri="https://client.example/", nonce=8)),
+        step(1000, "c1", "begin", asks("mail", interact=by("redirect", method="redirect", nonce=NONCE,
+                                                           uri="HTTPS://Client.Example:443/Cb")),
+             pending(10, finish=V(12), redirect=redirect(11))),
+        step(1000, "f1", "decide", decide(11, "grant"), told(13, uri="https://client.example/Cb", nonce=12)),
     ]),
     Run("a modification and a cancellation drop a decision", SETUP, [
         step(1000, "c1", "begin", MAIL_TOLD, BY_REDIRECT),
