@@ -14,6 +14,9 @@ ROUTES = {
     "/continue": {"POST": "continue", "PATCH": "modify", "DELETE": "cancel"},
     "/token": {"POST": "rotate", "DELETE": "revoke"},
     "/introspect": {"POST": "introspect"},
+    "/front/look": {"POST": "look"},
+    "/front/code": {"POST": "find_code"},
+    "/front/decide": {"POST": "decide"},
     "/.well-known/gnap-as-rs": {"GET": "rs_discovery"},
 }
 NOT_OF_FORM = NoWholeNumber()
@@ -21,8 +24,12 @@ NOT_OF_FORM = NoWholeNumber()
 
 def discovery(base):
     return {
-        "grant_request_endpoint": base + "/gnap", "interaction_finish_methods_supported": [], "interaction_start_modes_supported": [],
-        "key_proofs_supported": ["httpsig"], "key_rotation_supported": False, "sub_id_formats_supported": [],
+        "grant_request_endpoint": base + "/gnap",
+        "interaction_finish_methods_supported": ["redirect", "push"],
+        "interaction_start_modes_supported": ["redirect", "user_code", "user_code_uri"],
+        "key_proofs_supported": ["httpsig"],
+        "key_rotation_supported": False,
+        "sub_id_formats_supported": ["opaque"],
     }
 
 

@@ -179,7 +179,7 @@ def interaction_hash(long, client_nonce, server_nonce, reference, endpoint):
 def finish_uri(uri, told, reference):
     parts = urlsplit(uri)
     default = {"http": ":80", "https": ":443"}[parts.scheme]
-    host = parts.netloc.removesuffix(default)
+    host = parts.netloc.lower().removesuffix(default)
     query = (parts.query + "&" if parts.query else "") + "hash=" + told + "&interact_ref=" + reference
     return parts.scheme + "://" + host + (parts.path or "/") + "?" + query
 

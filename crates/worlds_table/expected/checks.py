@@ -6,6 +6,7 @@ from scripts import V
 from rfc_message import BODY, COMPONENTS, MESSAGE, PARAMETERS, SECRET, SIGNATURE
 from signatures import digest_field, mac, signature_base
 from worlds import outcome
+from written_answers import count_differences
 
 GRANTED = (
     '{"access_token":{"access":["photos"],"expires_in":3600,"manage":{"access_token":{"value":"AAAAAAAAAAIAAAAAAAAAAAAAAAAAAAAA"},'
@@ -22,6 +23,7 @@ Content-Length: 35
 
 
 def check_all():
+    assert count_differences() == 0
     assert mac(SECRET, signature_base(MESSAGE, "https://example.com", COMPONENTS, PARAMETERS)) == SIGNATURE
     assert digest_field(BODY) == b"sha-256=:X48E9qOokqqrvdts8nOJRJN3OWDUoyWxBf7kbu9DBPE=:"
     assert V(1, 2 ** 64 - 1, 2 ** 64 - 1) == "AAAAAAAAAAH_____________________"

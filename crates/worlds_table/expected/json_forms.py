@@ -229,8 +229,9 @@ def read_user(value):
 
 
 # the URIs that this model reads; it gives up where the URL Standard would say more
-PLAIN_URI = re.compile(r"(https?)://([a-z0-9.-]+)(:[1-9][0-9]{0,3})?(/[A-Za-z0-9._~/-]*)?(\?[A-Za-z0-9._~=&-]*)?")
-NO_FINISH_URI = re.compile(r"(?!https?:).*|.*#.*|https?://?", re.DOTALL)
+PLAIN_URI = re.compile(
+    r"https?://([a-z][a-z0-9-]*\.)*[a-z][a-z0-9-]*(:[1-9][0-9]{0,3})?(/[a-z0-9_~/-]*)?(\?[a-z0-9._~=&-]*)?", re.IGNORECASE)
+NO_FINISH_URI = re.compile(r"(?!https?:)[!-~]*|[!-~]*#[!-~]*|https?:/*", re.IGNORECASE)
 
 
 def is_finish_uri(uri):

@@ -34,7 +34,7 @@ def told(serial, method="redirect", uri=CALLBACK, long=False, nonce=3):
 
 
 def decide(serial, verdict, **further):
-    return {"handle": V(serial), "verdict": verdict, **further}
+    return {"handle": V(serial), "verdict": verdict} | further
 
 
 def reference(serial):
@@ -283,5 +283,51 @@ RUNS = [
                                                            uri="https://client.example")),
              pending(6, finish=V(8), redirect=redirect(7))),
         step(1000, "f1", "decide", decide(7, "grant"), told(9, uri="https://client.example/", nonce=8)),
+        step(1000, "c1", "begin", asks("mail", interact=by("redirect", method="redirect", nonce=NONCE,
+                                                           uri="HTTPS://Client.Example:443/Cb")),
+             pending(10, finish=V(12), redirect=redirect(11))),
+        step(1000, "f1", "decide", decide(11, "grant"), told(13, uri="https://client.example/Cb", nonce=12)),
+    ]),
+    Run("a modification and a cancellation drop a decision", SETUP, [
+        step(1000, "c1", "begin", MAIL_TOLD, BY_REDIRECT),
+        step(1001, "f1", "decide", decide(2, "grant"), told(4)),
+        step(1002, "c1", "modify", V(1), MAIL_CODE, pending(5, user_code="BBBBBBBB")),
+        step(1003, "c1", "continue", V(5), reference(4), refused("invalid_interaction")),
+        step(1007, "c1", "continue", V(5), continuing(7)),
+        step(1008, "f1", "decide", decide(6, "grant"), NO_FINISH),
+        step(1009, "c1", "cancel", V(7), DONE),
+        step(1012, "c1", "continue", V(7), GONE),
+        step(1012, "c1", "begin", MAIL_CODE, pending(8, user_code="BBBBBBBB")),
+        step(1012, "c1", "cancel", V(8), DONE),
+        step(1012, "f1", "find_code", {"code": "BBBBBBBB"}, UNKNOWN),
+        step(1012, "f1", "decide", decide(9, "grant"), UNKNOWN),
+    ]),
+    Run("a second decision gives a new consent", MANY, [
+        step(1000, "c1", "begin", asks("mail", READ, interact=by("redirect")), pending(1, redirect=redirect(2))),
+        step(1000, "f1", "decide", decide(2, "grant"), NO_FINISH),
+        step(1005, "c1", "continue", V(1), granted(token(3, ["mail", READ]), 5)),
+        step(1005, "c1", "modify", V(5), asks(WRITE, "mail", interact=by("redirect")), pending(6, redirect=redirect(7))),
+        step(1005, "f1", "decide", decide(7, "grant", access=[WRITE]), NO_FINISH),
+        step(1010, "c1", "continue", V(6), granted(token(8, [WRITE]), 10)),
+        step(1010, "c1", "modify", V(10), asks("mail"), DENIED),
+        step(1010, "c1", "modify", V(10), asks(READ), DENIED),
+        step(1010, "c1", "modify", V(10), asks(WRITE), granted(token(11, [WRITE]), 13)),
+    ]),
+    Run("limits of decisions and of users", SETUP, [
+        *[step(1000, "c1", "begin", asks("mail", user=user, interact=by("redirect")), INVALID) for user in (
+            "", "u" * 257, "\u00fc" * 129, 1, None, {}, {"sub_ids": {}}, {"sub_ids": []}, {"sub_ids": [1, {"format": "x"}]},
+            {"sub_ids": [{"format": "opaque"}]}, {"sub_ids": [{"format": "opaque", "id": ""}, {"format": "opaque", "id": "u"}]},
+            {"sub_ids": [{"format": "opaque", "id": "u" * 257}]})],
+        *[step(1000, "c1", "begin", asks("mail", subject=subject, interact=by("redirect")), INVALID) for subject in (
+            1, None, {}, {"sub_id_formats": "opaque"}, {"sub_id_formats": ["opaque", 1]})],
+        step(1000, "c1", "begin", asks("mail", user="\u00fc" * 128, subject={"sub_id_formats": []}, interact=by("redirect")),
+             pending(1, redirect=redirect(2))),
+        step(1000, "f1", "look", {"handle": V(2)}, shown(600, {"access": ["mail"]}, user="\u00fc" * 128)),
+        *[step(1000, "f1", "decide", decide(2, "grant") | members, INVALID) for members in (
+            {"access": ["mail"] * 586}, {"access": "mail"}, {"access": [""]}, {"access": [{"actions": ["read"]}]},
+            {"subject": ""}, {"subject": "s" * 257}, {"subject": 1}, {"verdict": "Grant"}, {"verdict": None}, {"handle": 2})],
+        step(1000, "f1", "decide", INVALID),
+        step(1000, "f1", "decide", decide(2, "grant", access=["mail"] * 585, subject="s" * 256), NO_FINISH),
+        step(1005, "c1", "continue", V(1), granted(token(3, ["mail"]), 5)),
     ]),
 ]

@@ -7,12 +7,14 @@ import json
 from pathlib import Path
 
 import edge_cases
+import generated_histories
 import http_cases
 import line_cases
 import outside_cases
 import rights_cases
 import run_cases
 import scripted_grants
+import scripted_interactions
 from checks import check_all
 from worlds import outcome
 
@@ -20,7 +22,8 @@ from worlds import outcome
 def cases():
     for module in (http_cases, edge_cases, outside_cases, rights_cases, line_cases):
         yield from module.cases()
-    yield from run_cases.cases(scripted_grants.RUNS)
+    yield from run_cases.cases(scripted_grants.RUNS + scripted_interactions.RUNS)
+    yield from map(run_cases.replay_case, generated_histories.runs())
 
 
 def lines_of(values):

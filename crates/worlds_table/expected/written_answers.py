@@ -1,4 +1,7 @@
-"""The model gives the answers of all scripted runs and lines. Run as a program it says which it doesn't give."""
+"""The answers that stand beside the steps of scripted runs and beside odd lines: whether the model gives them too.
+
+Run as a program it says which it doesn't give.
+"""
 
 import sys
 
@@ -18,7 +21,7 @@ def compare(name, file, lines):
     return len(wrong) + (status != 0) + (len(answers) != len(lines))
 
 
-def check_model():
+def count_differences():
     wrong = 0
     for run in scripted_grants.RUNS + scripted_interactions.RUNS:
         wrong += compare(run.name, run.file().encode(), [(step.line(), step.answer) for step in run.steps])
@@ -30,4 +33,4 @@ def check_model():
 
 
 if __name__ == "__main__":
-    sys.exit(check_model() > 0)
+    sys.exit(count_differences() > 0)
