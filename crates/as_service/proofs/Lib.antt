@@ -1,2 +1,3 @@
 pub mod UsedUp
 pub mod TakenBack
+mod FewEntries

@@ -11,6 +11,7 @@ use Rattle.histories.specs.Whole.{OneHistory}
 use Rattle.serving.specs.Workers.{accounts_of}
 use Rattle.gnap_model.specs.declared.objects.Setup.{Setup}
 use Rattle.gnap_history.specs.Gnap.{gnap}
+use Rattle.gnap_history.specs.Laws.{WhatHolds}
 use Rattle.as_edge.specs.EdgeSessions.{IsEdgeSession}
 
 -- the door failed
@@ -23,9 +24,10 @@ pub record IsUsedUp (gear : GearState) : Type 0 where
   pub unfailed : gear.faults ≡ 0
 
 -- There is one legal history of the setup's machine, which accounts, by the entries of each gear's number, for what that gear tells: for the bytes of
--- each connection, the moments and the words. No connection is out.
+-- each connection, the moments and the words. What holds of all legal histories holds of it. No connection is out.
 pub record AreServed (setup : Setup) (gears : List GearState) : Type 0 where
   pub one : OneHistory gnap setup (accounts_of (IsEdgeSession setup) gears)
+  pub holds : WhatHolds setup one.history
   pub out : All (λ gear. gear.out ≡ 0) gears
 
 -- How it ended: each door gave all its connections; or one failed; or memory ran out before the first connection.

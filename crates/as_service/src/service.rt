@@ -7,6 +7,7 @@ ghost use Rattle.as_service.specs.Services.{has_failed, IsService};
 use as_edge::AuthorizationServer;
 use as_requests::Edge;
 use gnap_history::ListCore;
+use gnap_history::laws::what_holds;
 use gnap_io::bytes::Bytes;
 use gnap_io::gear::{Counted, Door};
 use gnap_io::memory::{Duplicate, Mem};
@@ -58,6 +59,7 @@ pub fn serve_at<R: Threads + Wait + Sync, W: World>(
     let server = AuthorizationServer { edge };
     let core = ListCore::new(alloc, rules);
     let (gears, served) = serve_gears(rt, alloc, core, &server, gears);
+    what_holds();
     let failed = any_failed(gears.as_slice());
     world.stop_gears(gears);
     match served {

@@ -9,9 +9,10 @@ use Rattle.gnap_io.specs.declared.world.Opening.TheVariants.{File}
 use Rattle.gnap_io.specs.Outside.{Told, Served, IsAtEnd, Rose}
 use Rattle.gnap_io.specs.Worlds.{WorldState, with_opened, with_returned}
 use Rattle.gnap_io.specs.Openings.{Gives, GivesBack, gears_in, new_files}
+use Rattle.gnap_io.proofs.Devices.{writes_none}
 use Rattle.gnap_io.proofs.OpeningLemmas.{gives-none, gives-file, back-all}
 use Rattle.gnap_tool.specs.declared.command.Command.{Command}
-use Rattle.gnap_tool.specs.declared.command.Command.TheVariants.{Replay, Field, Sign, Verify, As}
+use Rattle.gnap_tool.specs.declared.command.Command.TheVariants.{Replay, Field, Sign, Verify, As, Hash}
 use Rattle.gnap_tool.specs.declared.purpose.Purpose.{Purpose}
 use Rattle.gnap_tool.specs.declared.purpose.Purpose.TheVariants as purposes
 use Rattle.gnap_tool.specs.declared.ended.Ended.{Ended}
@@ -62,6 +63,18 @@ unopened_starved openings input before after same count = record {
   took = λ place is file found. tt;
   limited = λ is. absurd cc;
   to_end = λ is. absurd cc;
+}
+
+-- a command that opens nothing, and ended neither by a failed read nor at a limit
+pub nothing_used : (world : WorldState) (ended : Ended) → (ended ≡ Done) ⊎ (ended ≡ WriteFault) ⊎ (ended ≡ Memory) → UsesWorld [] None world world ended
+nothing_used world ended how = record {
+  given_back = back-none [] world world refl;
+  all = λ done. gives-none world world refl;
+  failed = λ is. absurd (elim how [ inl a ↦ (let bad = sym a ∙ is in cc) | inr (inl b) ↦ (let bad = sym b ∙ is in cc) | inr (inr d) ↦ (let bad = sym d ∙ is in cc) ]);
+  sound = λ isnt. unopened_sound world world refl refl;
+  took = λ place is file found. absurd cc;
+  limited = λ is. absurd (elim how [ inl a ↦ (let bad = sym a ∙ is in cc) | inr (inl b) ↦ (let bad = sym b ∙ is in cc) | inr (inr d) ↦ (let bad = sym d ∙ is in cc) ]);
+  to_end = λ is. subst (All (λ (file : Served). IsAtEnd file.told)) (sym (files_none world world refl)) (All-nil (λ (file : Served). IsAtEnd file.told));
 }
 
 -- ---- a file was opened and given back
@@ -185,3 +198,4 @@ starved_carries (Field kind file) text world out = inl (refl, (refl, inr refl))
 starved_carries (Sign config key created file) text world out = inl (refl, (refl, inr refl))
 starved_carries (Verify config now file) text world out = inl (refl, (refl, inr refl))
 starved_carries (As config listen workers quota) text world out = inl (refl, (refl, inr refl))
+starved_carries (Hash texts) text world out = (refl, (record { sent = []; told = writes_none out; ends = refl }, inr (inr refl)))

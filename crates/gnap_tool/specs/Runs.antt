@@ -9,13 +9,14 @@ use Rattle.gnap_io.specs.declared.world.WorldFault.TheVariants as faults
 use Rattle.as_service.specs.Services.{IsService}
 use Rattle.gnap_io.specs.Openings.{Gives, GivesBack, gears_in, new_files}
 use Rattle.gnap_tool.specs.declared.command.Command.{Command}
-use Rattle.gnap_tool.specs.declared.command.Command.TheVariants.{Replay, Field, Sign, Verify, As}
+use Rattle.gnap_tool.specs.declared.command.Command.TheVariants.{Replay, Field, Sign, Verify, As, Hash}
 use Rattle.gnap_tool.specs.declared.purpose.Purpose.{Purpose}
 use Rattle.gnap_tool.specs.declared.purpose.Purpose.TheVariants as purposes
 use Rattle.gnap_tool.specs.declared.ended.Ended.{Ended}
 use Rattle.gnap_tool.specs.declared.ended.Ended.TheVariants.{Done, NoSetup, Failed, WriteFault, Memory, Refused, TooLong}
 use Rattle.gnap_tool.specs.Ends.{status_of, Took}
 use Rattle.gnap_tool.specs.Fields.{PrintsField}
+use Rattle.gnap_tool.specs.HashLines.{PrintsHash}
 use Rattle.gnap_tool.specs.Printing.{PrintsFor}
 use Rattle.gnap_tool.specs.Replays.{ReplaysFile, setup_limit, setup_in}
 use Rattle.signed_files.specs.SignedText.{SignsFile}
@@ -114,6 +115,7 @@ CarriesOut (Verify config now file) text before after out out_now ended =
 CarriesOut (As config listen workers quota) text before after out out_now ended =
     BySetup (text config) before after out out_now ended (λ between setup.
     (out_now ≡ out) × Serves setup listen workers quota between after ended)
+CarriesOut (Hash texts) text before after out out_now ended = (after ≡ before) × PrintsHash texts out out_now ended
 
 -- the same, of the status that says how it ended
 pub record Carries (command : Command) (text : List ℕ → Option (List ℕ)) (before after : WorldState) (out out_now : Told) (status : ℕ) : Type 0 where

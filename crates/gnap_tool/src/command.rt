@@ -1,9 +1,10 @@
 //! The commands, and which of them words are.
 ghost use Rattle.std.specs.Prelude.{◌≡◌, ◌≤◌, ℕ, List, Option, None, IfOk, IfSome, IfNone, map, string_bytes};
 ghost use Rattle.gnap_io.specs.Gears.{last_moment};
-ghost use Rattle.gnap_tool.specs.Commands.{IsReadAs, IsWithinRanges, is_argument, kind_of, moment_of, replay_of, field_of, with_three, with_four, sign_words, verify_words, as_words, command_of};
+ghost use Rattle.gnap_tool.specs.Commands.{IsReadAs, IsWithinRanges, is_argument, kind_of, moment_of, replay_of, field_of, with_three, with_four, sign_words, verify_words, as_words, long_method, hash_of, command_of};
 
 use crate::fields::Kind;
+use crate::hash_lines::HashedTexts;
 use crate::numbers::number_within;
 use gnap_io::bytes::Bytes;
 use gnap_io::memory::Mem;
@@ -22,6 +23,8 @@ pub enum Command {
     Verify(Bytes, u64, Bytes),
     /// `as CONFIG LISTEN WORKERS QUOTA`: the authorization server of a setup is served at an address, by so many workers, each for so many connections.
     As(Bytes, Bytes, usize, u32),
+    /// `hash METHOD CLIENT SERVER REF URI`: the interaction hash of the texts is printed.
+    Hash(HashedTexts),
 }
 
 /// The last second of the year 9999, in seconds since 1970.
@@ -172,6 +175,50 @@ fn as_of(alloc: Global, arguments: &[String]) -> Result<Option<Command>, Mem>
     Ok(Some(Command::As(config, listen, workers as usize, quota as u32)))
 }
 
+// Whether a hash method is the long one, where the word names one.
+fn long_method(word: &str) -> Option<bool>
+    ensures { result ≡ long_method word.now }
+{
+    match word {
+        "sha-256" => Some(false),
+        "sha-512" => Some(true),
+        _ => None,
+    }
+}
+
+fn hash_of(alloc: Global, arguments: &[String]) -> Result<Option<Command>, Mem>
+    ensures read { IsReadAs result (hash_of (map string_bytes arguments.now)) }
+    ensures ranges { IfOk result (λ command. IfSome command IsWithinRanges) }
+{
+    let Some((method, texts)) = arguments.split_first() else {
+        return Ok(None);
+    };
+    let Some((client, server, reference, endpoint)) = four(texts) else {
+        return Ok(None);
+    };
+    if !(is_argument(client)
+        && is_argument(server)
+        && is_argument(reference)
+        && is_argument(endpoint))
+    {
+        return Ok(None);
+    }
+    let Some(long) = long_method(method.as_str()) else {
+        return Ok(None);
+    };
+    let client_nonce = owned(alloc, client)?;
+    let server_nonce = owned(alloc, server)?;
+    let reference = owned(alloc, reference)?;
+    let endpoint = owned(alloc, endpoint)?;
+    Ok(Some(Command::Hash(HashedTexts {
+        long,
+        client_nonce,
+        server_nonce,
+        reference,
+        endpoint,
+    })))
+}
+
 /// The command that the words are, where they are one.
 pub fn command_of(alloc: Global, words: &[String]) -> Result<Option<Command>, Mem>
     ensures read { IsReadAs result (command_of (map string_bytes words.now)) }
@@ -186,6 +233,7 @@ pub fn command_of(alloc: Global, words: &[String]) -> Result<Option<Command>, Me
         "sign" => sign_of(alloc, arguments),
         "verify" => verify_of(alloc, arguments),
         "as" => as_of(alloc, arguments),
+        "hash" => hash_of(alloc, arguments),
         _ => Ok(None),
     }
 }

@@ -53,6 +53,8 @@ fn tell_setup<E: Sink>(err: &mut E, command: &Command, why: &WrongSetup) {
         | Command::As(config, _, _, _) => {
             tell(err, &[b"gnap: ", config.as_slice(), b" is no setup: "])
         }
+        // It reads none.
+        Command::Hash(_) => return,
     }
     match why {
         WrongSetup::TooLong => tell(err, &[b"it has more than 1,048,576 bytes"]),
@@ -71,7 +73,7 @@ fn tell_setup<E: Sink>(err: &mut E, command: &Command, why: &WrongSetup) {
     tell(err, &[b"\n"]);
 }
 
-// The files of a command.
+// The files of a command, or what it makes without one.
 fn tell_files<E: Sink>(err: &mut E, command: &Command) {
     match command {
         Command::Replay(file) | Command::Field(_, file) => tell(err, &[file.as_slice()]),
@@ -81,6 +83,7 @@ fn tell_files<E: Sink>(err: &mut E, command: &Command) {
         Command::As(config, listen, _, _) => {
             tell(err, &[config.as_slice(), b" or ", listen.as_slice()])
         }
+        Command::Hash(_) => tell(err, &[b"the hash"]),
     }
 }
 
@@ -100,8 +103,8 @@ fn tell_refusal<E: Sink>(err: &mut E, command: &Command) {
                 b" is refused for what was printed\n",
             ],
         ),
-        // Nothing that it reads is refused.
-        Command::As(_, _, _, _) => {}
+        // Nothing that they read is refused.
+        Command::As(_, _, _, _) | Command::Hash(_) => {}
     }
 }
 

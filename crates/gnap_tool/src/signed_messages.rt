@@ -1,30 +1,20 @@
 //! Messages that are signed or verified, printed.
-ghost use Rattle.std.specs.Prelude.{◌≡◌, ◌≢◌, ◌<◌, ◌^◌, ◌⊎◌, [], ◌++◌, IfOk};
+ghost use Rattle.std.specs.Prelude.{◌≡◌, ◌≢◌, ◌<◌, ◌^◌, [], ◌++◌, IfOk};
 ghost use Rattle.gnap_io.specs.Outside.{IsAtEnd, IsRest, Leaves};
 ghost use Rattle.gnap_objects.specs.Setups.{IsSetup};
 ghost use Rattle.signed_files.specs.SignedText.{SignsFile};
 ghost use Rattle.signed_files.specs.Verdicts.{VerifiesFile};
 ghost use Rattle.gnap_tool.specs.Ends.{CountsReads, CountsWrites};
-ghost use Rattle.gnap_tool.specs.Printing.{PrintsAnswer, PrintsFault, PrintsFor, refused_line};
+ghost use Rattle.gnap_tool.specs.Printing.{PrintsFault, PrintsFor, refused_line};
 
 use crate::ended::Ended;
+use crate::printed_text::print_text;
 use gnap_io::bytes::Bytes;
 use gnap_io::device::{Sink, Source, write_all};
 use gnap_io::memory::Mem;
 use gnap_model::objects::Setup;
 use signed_files::{FileFault, sign_file, verify_file};
 use std::alloc::Global;
-
-fn print_text<O: Sink>(text: &Bytes, out: &mut O) -> Ended
-    ensures prints { PrintsAnswer (λ line. line ≡ text.now) (λ line. ⊥) (O.told out.old) (O.told out.new) result }
-    ensures ended { (result ≡ Ended.Done) ⊎ (result ≡ Ended.WriteFault) }
-    ensures writes { CountsWrites result (O.faults out.old) (O.faults out.new) }
-{
-    match write_all(out, text.as_slice()) {
-        Ok(()) => Ended::Done,
-        Err(_) => Ended::WriteFault,
-    }
-}
 
 fn refused_line(alloc: Global, name: &[u8]) -> Result<Bytes, Mem>
     ensures { IfOk result (λ line. line ≡ refused_line name.now) }

@@ -53,7 +53,7 @@ fn words(alloc: Global, parts: &[&str]) -> Result<Vec<String>, Mem> {
 }
 
 // The status of a command over the text, where this is printed.
-fn ran<R: Threads + Wait + Sync>(
+pub(crate) fn ran<R: Threads + Wait + Sync>(
     rt: &R,
     alloc: Global,
     parts: &[&str],

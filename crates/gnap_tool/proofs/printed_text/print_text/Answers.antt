@@ -1,6 +1,6 @@
 use Rattle.std.proofs.Common.{ℕ, List, refl, subst, inl}
 use Rattle.gnap_io.specs.Outside.{IsPrefix}
-use Rattle.gnap_tool.proofs.signed_messages.print_text.Goals as goal
+use Rattle.gnap_tool.proofs.printed_text.print_text.Goals as goal
 
 pub returns-in-Err-clause-prints : goal.returns-in-Err-clause-prints
 returns-in-Err-clause-prints g c =
