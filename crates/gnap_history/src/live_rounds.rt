@@ -1,8 +1,8 @@
 //! The interactions in which the user may still decide (RFC 9635, section 3.3).
-ghost use Rattle.std.specs.Prelude.{◌≡◌, not, ◌&&◌, reverse, option_map};
-ghost use Rattle.std.specs.List.{list_any, filter_map};
+ghost use Rattle.std.specs.Prelude.{◌≡◌, reverse, option_map};
+ghost use Rattle.std.specs.List.{list_any};
 ghost use Rattle.std.specs.Option.{unwrap_or, option_and_then};
-ghost use Rattle.gnap_model.specs.Common.{first_of, some_if};
+ghost use Rattle.gnap_model.specs.Common.{first_of};
 ghost use Rattle.gnap_model.specs.Standing.{grant_state, live_round as round_by_state, live_rounds, round_by_handle as round_with_handle, round_by_code as round_with_code};
 ghost use Rattle.gnap_history.specs.Interactions.{goes_by as is_called, round_where, grant_in, is_round_elsewhere};
 

@@ -1,12 +1,10 @@
-use Rattle.std.proofs.Common.{◌≡◌, ◌∙◌, ap, List, [], ◌∷◌}
+use Rattle.std.proofs.Common.{◌≡◌, ◌∙◌, ap}
 use Rattle.std.specs.Prelude.{is_some, option_map}
 use Rattle.std.specs.declared.option.Option.{Option}
 use Rattle.std.proofs.lemmas.Result.{IfOk-weaker}
 use Rattle.gnap_model.specs.Common.{some_if}
 use Rattle.gnap_model.specs.declared.calls.FinishOut.{FinishOut}
 use Rattle.gnap_model.specs.Actions.{drawn_value}
-use Rattle.gnap_model.specs.declared.calls.Reply.TheVariants.{Decided}
-use Rattle.gnap_model.specs.declared.notes.Note.TheVariants.{DecidedAs}
 use Rattle.gnap_history.specs.Drawings.{supply}
 use Rattle.gnap_history.proofs.Decisions.{reference_told}
 use Rattle.gnap_history.proofs.consent_front.take_decision.Goals as goal
