@@ -77,4 +77,7 @@ methods_fit route.Grants = refl
 methods_fit route.Continuation = refl
 methods_fit route.TokenManagement = refl
 methods_fit route.Introspection = refl
+methods_fit route.FrontLook = refl
+methods_fit route.FrontCode = refl
+methods_fit route.FrontDecide = refl
 methods_fit route.RsDiscovery = refl

@@ -2,7 +2,7 @@
 //!
 //! `desk_call` answers exactly what the definition of that name gives (`specs/DeskCalls.antt`), for every message, or that memory ran out: the route and
 //! its method (`specs/Routes.antt`), the signature (`message_signature`), and the call that the body is (`gnap_objects`), in this order. Nothing here
-//! keeps a state or knows how a message came and how an answer is printed. A call that is asked can be taken: its texts are UTF-8, and it has at most 8
+//! keeps a state or knows how a message came and how an answer is printed. A call that is asked can be taken: its texts can be shown, and it has at most 8
 //! asks.
 #![tactic(auto)]
 

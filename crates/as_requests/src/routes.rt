@@ -2,7 +2,7 @@
 ghost use Rattle.std.specs.Prelude.{◌≡◌, ◌≤◌, length};
 ghost use Rattle.structured_fields.specs.Named.{value_at};
 ghost use Rattle.message_signature.specs.Components.{until};
-ghost use Rattle.as_requests.specs.Routes.{path_of, route_at, methods_of, allowed_methods};
+ghost use Rattle.as_requests.specs.Routes.{path_of, route_at, posts, methods_of, allowed_methods};
 
 use gnap_objects::CallKind;
 
@@ -17,6 +17,12 @@ pub enum Route {
     TokenManagement,
     /// `/introspect`, where resource servers ask about tokens (RFC 9767, section 3.3).
     Introspection,
+    /// `/front/look`, where the consent front looks at an interaction (RFC 9635, section 4.1).
+    FrontLook,
+    /// `/front/code`, where it finds an interaction by its user code (RFC 9635, section 4.1.2).
+    FrontCode,
+    /// `/front/decide`, where it hands in what the user decided (RFC 9635, section 4).
+    FrontDecide,
     /// `/.well-known/gnap-as-rs`, where resource servers learn of the server (RFC 9767, section 3.1).
     RsDiscovery,
 }
@@ -47,6 +53,17 @@ pub fn path_of(target: &[u8]) -> &[u8]
     &target[..path_len(target)]
 }
 
+// What a method is for where `POST` alone is there, for this call.
+fn posted(method: &[u8], kind: CallKind) -> Option<Purpose>
+    ensures { result ≡ value_at (posts kind) method.now }
+{
+    if method == b"POST".as_slice() {
+        Some(Purpose::Calls(kind))
+    } else {
+        None
+    }
+}
+
 impl Route {
     /// The route with this path. None exactly where no route has it.
     pub fn at(path: &[u8]) -> Option<Route>
@@ -60,6 +77,12 @@ impl Route {
             Some(Route::TokenManagement)
         } else if path == b"/introspect".as_slice() {
             Some(Route::Introspection)
+        } else if path == b"/front/look".as_slice() {
+            Some(Route::FrontLook)
+        } else if path == b"/front/code".as_slice() {
+            Some(Route::FrontCode)
+        } else if path == b"/front/decide".as_slice() {
+            Some(Route::FrontDecide)
         } else if path == b"/.well-known/gnap-as-rs".as_slice() {
             Some(Route::RsDiscovery)
         } else {
@@ -95,11 +118,10 @@ impl Route {
             } else {
                 None
             },
-            Route::Introspection => if method == b"POST".as_slice() {
-                Some(Purpose::Calls(CallKind::Introspect))
-            } else {
-                None
-            },
+            Route::Introspection => posted(method, CallKind::Introspect),
+            Route::FrontLook => posted(method, CallKind::Look),
+            Route::FrontCode => posted(method, CallKind::FindCode),
+            Route::FrontDecide => posted(method, CallKind::Decide),
             Route::RsDiscovery => if method == b"GET".as_slice() {
                 Some(Purpose::RsDiscovery)
             } else {
@@ -116,7 +138,8 @@ impl Route {
             Route::Grants => "POST, OPTIONS",
             Route::Continuation => "POST, PATCH, DELETE",
             Route::TokenManagement => "POST, DELETE",
-            Route::Introspection => "POST",
+            Route::Introspection | Route::FrontLook | Route::FrontCode | Route::FrontDecide =>
+                "POST",
             Route::RsDiscovery => "GET",
         }
     }

@@ -31,6 +31,24 @@ fn routes_have_methods(rt: HostRuntime) -> Result<(), Fail> {
             Purpose::Calls(CallKind::Introspect),
         ),
         (
+            "/front/look",
+            "POST",
+            "POST",
+            Purpose::Calls(CallKind::Look),
+        ),
+        (
+            "/front/code",
+            "POST",
+            "POST",
+            Purpose::Calls(CallKind::FindCode),
+        ),
+        (
+            "/front/decide",
+            "POST",
+            "POST",
+            Purpose::Calls(CallKind::Decide),
+        ),
+        (
             "/.well-known/gnap-as-rs",
             "GET",
             "GET",
