@@ -2,7 +2,7 @@ use Rattle.std.proofs.Common.{◌≡◌, ◌∙◌, ◌+◌, ◌-◌, suc, true,
 use Rattle.std.specs.List.{list_any}
 use Rattle.std.proofs.Math.Nat.{mod-lt}
 use Rattle.gnap_model.specs.Common.{same_text}
-use Rattle.gnap_model.specs.Values.{code_text, code_count, free_code}
+use Rattle.gnap_model.specs.Values.{code_text, free_code}
 use Rattle.gnap_history.proofs.UserCodes.{free_code-mod, free_code-taken}
 use Rattle.gnap_history.proofs.user_codes.free_code.Goals as goal
 
