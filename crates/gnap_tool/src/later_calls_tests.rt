@@ -1,16 +1,18 @@
-//! Replays of grants that are continued, modified and cancelled, and of tokens that are rotated and revoked. The expected lines are written by hand: a
-//! value is the base64url text of its serial and of two random words, 8 bytes each, and all words are 0.
-use crate::tests::{NOT_A_CLIENT, NOT_A_REQUEST, NOT_BUILT, answers};
+//! Replays of grants that are continued, modified and cancelled, of tokens that are rotated and revoked, and of calls of the consent front. The expected
+//! lines are written by hand: a value is the base64url text of its serial and of two random words, 8 bytes each, and all words are 0.
+use crate::tests::{NOT_A_CLIENT, NOT_A_REQUEST, answers};
 use std::rt::HostRuntime;
 
 const NO_GRANT: &str = "401 {\"error\":{\"code\":\"invalid_continuation\"}}\n";
 
 const NO_TOKEN: &str = "400 {\"error\":{\"code\":\"invalid_rotation\"}}\n";
 
+const NO_INTERACTION: &str = "400 {\"error\":{\"code\":\"unknown_interaction\"}}\n";
+
 const FLAG_TWICE: &str = "400 {\"error\":{\"code\":\"invalid_flag\"}}\n";
 
 // Lines at which there is no grant and no token yet, and what is printed for each alone.
-const LINES_WITHOUT_A_GRANT: [(&str, &str); 27] = [
+const LINES_WITHOUT_A_GRANT: [(&str, &str); 34] = [
     (
         r#"{"at":1,"body":{"x":1.5},"call":"continue","key":"r1","value":"x"}"#,
         NOT_A_CLIENT,
@@ -74,7 +76,7 @@ const LINES_WITHOUT_A_GRANT: [(&str, &str); 27] = [
     ),
     (
         r#"{"at":1,"body":{"access_token":{"access":["photos"],"flags":["bearer","bearer"]},"interact":{"start":["redirect"]}},"call":"modify","key":"c1","value":"x"}"#,
-        NOT_A_REQUEST,
+        FLAG_TWICE,
     ),
     (
         r#"{"at":1,"body":{"access_token":{"access":["photos"],"flags":["bearer","bearer"]},"client":1,"user":1},"call":"modify","key":"c1","value":"x"}"#,
@@ -110,8 +112,33 @@ const LINES_WITHOUT_A_GRANT: [(&str, &str); 27] = [
         NOT_A_REQUEST,
     ),
     (
-        r#"{"at":1,"call":"look","key":"c1","value":"x"}"#,
-        NOT_BUILT,
+        r#"{"at":1,"body":{"handle":"x"},"call":"look","key":"c1"}"#,
+        NOT_A_CLIENT,
+    ),
+    (
+        r#"{"at":1,"body":{"code":"BCDFGHJK"},"call":"find_code","key":"r1"}"#,
+        NOT_A_CLIENT,
+    ),
+    (
+        r#"{"at":1,"body":{"access_token":{"access":["photos"]},"client":"f1"},"call":"begin","key":"f1"}"#,
+        NOT_A_CLIENT,
+    ),
+    (r#"{"at":1,"call":"look","key":"f1"}"#, NOT_A_REQUEST),
+    (
+        r#"{"at":1,"body":{"verdict":"deny"},"call":"decide","key":"f1"}"#,
+        NOT_A_REQUEST,
+    ),
+    (
+        r#"{"at":1,"body":{"handle":"x"},"call":"look","key":"f1"}"#,
+        NO_INTERACTION,
+    ),
+    (
+        r#"{"at":1,"body":{"code":"bcdf-ghjk"},"call":"find_code","key":"f1"}"#,
+        NO_INTERACTION,
+    ),
+    (
+        r#"{"at":1,"body":{"handle":"x","verdict":"grant"},"call":"decide","key":"f1"}"#,
+        NO_INTERACTION,
     ),
 ];
 

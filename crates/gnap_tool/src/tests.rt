@@ -11,7 +11,7 @@ use std::sync::Wait;
 use std::thread::Threads;
 
 pub const SETUP: &str =
-    r#"{"base":"https://as.example","front":"https://front.example","keys":[{"ask":["mail"],"auto":["photos"],"id":"c1","role":"client","secret":"c2VjcmV0LWtleS1vZi1jMQ=="},{"ask":[],"auto":["photos"],"id":"c2","role":"client","secret":"c2VjcmV0LWtleS1vZi1jMg=="},{"id":"r1","role":"server","secret":"c2VjcmV0LWtleS1vZi1yMQ==","serves":["photos","mail"]}]}"#;
+    r#"{"base":"https://as.example","front":"https://front.example","keys":[{"ask":["mail"],"auto":["photos"],"id":"c1","role":"client","secret":"c2VjcmV0LWtleS1vZi1jMQ=="},{"ask":[],"auto":["photos"],"id":"c2","role":"client","secret":"c2VjcmV0LWtleS1vZi1jMg=="},{"id":"r1","role":"server","secret":"c2VjcmV0LWtleS1vZi1yMQ==","serves":["photos","mail"]},{"id":"f1","role":"front","secret":"c2VjcmV0LWtleS1vZi1mMQ=="}]}"#;
 
 pub const NOT_A_REQUEST: &str = "400 {\"error\":{\"code\":\"invalid_request\"}}\n";
 
@@ -21,7 +21,7 @@ const NOT_A_SERVER: &str = "401 {\"error\":{\"code\":\"invalid_resource_server\"
 
 const TOO_LONG: &str = "413\n";
 
-pub const NOT_BUILT: &str = "404\n";
+const NO_SUCH_CALL: &str = "404\n";
 
 const BEGIN: &str =
     r#"{"at":1000,"body":{"access_token":{"access":["photos"]},"client":"c1"},"call":"begin","key":"c1"}"#;
@@ -130,10 +130,10 @@ fn lines_are_refused_in_order(rt: HostRuntime) {
             r#"{"at":1,"call":"begin","key":"c1","draw":[18446744073709551616]}"#,
             NOT_A_REQUEST,
         ),
-        (r#"{"at":1,"call":"dance","key":"c9"}"#, NOT_BUILT),
+        (r#"{"at":1,"call":"dance","key":"c9"}"#, NO_SUCH_CALL),
         (
-            r#"{"at":1,"call":"decide","key":"c1","value":"x"}"#,
-            NOT_BUILT,
+            r#"{"at":1,"call":"decide","key":"c1","body":{"x":1.5}}"#,
+            NOT_A_CLIENT,
         ),
         (
             r#"{"at":1,"call":"begin","key":"c9","body":{"x":1.5}}"#,
@@ -254,11 +254,11 @@ fn lines_are_in_utf8(rt: HostRuntime) {
     let alloc = rt.alloc();
     let text = b"{\"at\":1,\"call\":\"dance\",\"key\":\"\xc3\xa9\"}";
     let cut = b"{\"at\":1,\"call\":\"dance\",\"key\":\"\xc3\"}";
-    assert!(rt; answers(&rt, alloc, text, NOT_BUILT) == Ok(true));
+    assert!(rt; answers(&rt, alloc, text, NO_SUCH_CALL) == Ok(true));
     assert!(rt; answers(&rt, alloc, cut, NOT_A_REQUEST) == Ok(true));
 }
 
-// A call that isn't built, in a line of so many bytes.
+// A call of an unknown name, in a line of so many bytes.
 fn of_length<R: Threads + Wait + Sync>(
     rt: &R,
     alloc: Global,
@@ -274,7 +274,7 @@ fn of_length<R: Threads + Wait + Sync>(
 
 #[test]
 fn lines_have_131072_bytes(rt: HostRuntime) {
-    assert!(rt; of_length(&rt, rt.alloc(), 131_072, NOT_BUILT) == Ok(true));
+    assert!(rt; of_length(&rt, rt.alloc(), 131_072, NO_SUCH_CALL) == Ok(true));
     assert!(rt; of_length(&rt, rt.alloc(), 131_073, TOO_LONG) == Ok(true));
 }
 
