@@ -1,22 +1,21 @@
 -- The length of a right in full.
-use Rattle.std.proofs.Common.{◌≡◌, ◌∙◌, ℕ, zero, suc, ◌+◌, ◌-◌, ◌^◌, ◌<◌, ◌≤◌, min, List, [], ◌∷◌, length, map, sum, Bool, true, false, true≢false, Option, Some, None, option_map, Ordering, Less, Equal, Greater, nat_cmp, is_eq, codes, refl, ap, sym, arith}
+use Rattle.std.proofs.Common.{◌≡◌, ◌∙◌, ℕ, ◌+◌, ◌-◌, ◌<◌, List, [], ◌∷◌, length, map, sum, Bool, true, false, true≢false, Option, Some, None, option_map, Ordering, Less, Equal, Greater, nat_cmp, is_eq, codes, refl, ap, sym, arith}
 use Rattle.std.specs.Cmp.Lexicographic.{slice_cmp}
 use Rattle.std.specs.Ordering.{match_ordering}
 use Rattle.std.specs.Str.{bytes_eq}
 use Rattle.std.proofs.lemmas.Bool.Decides.{nat_tests}
-use Rattle.std.proofs.lemmas.List.Sums.{sum_by-cons}
 use Rattle.std.proofs.lemmas.Map.Text.{is_eq-slice_cmp}
 use Rattle.std.proofs.lemmas.Slice.Eq.{bytes_eq-Decides}
 use Rattle.json_objects.proofs.Fields.{field_of, get_member-members_onto}
 use Rattle.json_objects.proofs.Lengths.{AreNew, members_size-members_onto, capped-sum, capped-enclosed_size, length-object, length-quoted}
 use Rattle.json_objects.specs.Objects.{texts_data}
-use Rattle.json_objects.specs.Sizes.{quoted, capped, enclosed_size, member_size, members_size, field_size, fields_size}
+use Rattle.json_objects.specs.Sizes.{capped, enclosed_size, members_size, field_size}
 use Rattle.serde_json.specs.Data.{Data, string, object, Members, no_members, member}
 use Rattle.serde_json.specs.Find.{get_member}
 use Rattle.serde_json.specs.Read.{read}
 use Rattle.serde_json.specs.Written.{compact_text}
 use Rattle.gnap_model.specs.declared.rights.RightObject.{RightObject}
-use Rattle.access_rights.specs.Fits.{is_own, HasOthersOnly, IsFurther, FitsObject}
+use Rattle.access_rights.specs.Fits.{is_own, HasOthersOnly, FitsObject}
 use Rattle.access_rights.specs.Printing.{members_read, right_fields, right_members}
 
 -- ---- no further member has the name of a field

@@ -1,5 +1,5 @@
 -- Choices of values that share a bit are granted.
-use Rattle.std.proofs.Common.{◌≡◌, ◌∙◌, ℕ, ◌+◌, ◌*◌, ◌^◌, ◌/◌, ◌%◌, ◌==◌, ◌&&◌, ◌||◌, bit_and, not, cond, Bool, true, false, List, [], ◌∷◌, map, Option, refl, sym, ap, ap₂, arith}
+use Rattle.std.proofs.Common.{◌≡◌, ◌∙◌, ℕ, ◌+◌, ◌*◌, ◌/◌, ◌%◌, ◌==◌, ◌&&◌, ◌||◌, bit_and, not, cond, Bool, true, false, List, [], ◌∷◌, map, Option, refl, sym, ap, ap₂, arith}
 use Rattle.std.specs.List.{list_any, list_all}
 use Rattle.std.proofs.Math.Bool.{or-false, or_assoc}
 use Rattle.std.proofs.lemmas.Bool.Decides.{nat_tests}
@@ -10,7 +10,6 @@ use Rattle.gnap_model.specs.declared.rights.Right.{Right}
 use Rattle.gnap_model.specs.declared.rights.Right.TheVariants.{Reference, Object}
 use Rattle.gnap_model.specs.declared.rights.RightObject.{RightObject}
 use Rattle.gnap_model.specs.Rights.{right_atoms, values_of, same_atom}
-use Rattle.access_rights.specs.declared.masks.Dimension.{Dimension}
 use Rattle.access_rights.specs.declared.masks.Dimension.TheVariants.{Actions, Locations, Datatypes, Privileges}
 use Rattle.access_rights.specs.Inclusion.{has_atom, atom_at, covers_object}
 use Rattle.access_rights.specs.Masks.{is_alike, has_value, with_bit, bits_from, mask_of, privileges_meet, datatypes_meet, locations_meet, choices_meet}

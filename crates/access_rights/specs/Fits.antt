@@ -1,6 +1,5 @@
 -- Rights that JSON can show: texts of UTF-8, and further members that are the compact text of an object.
-use Rattle.std.specs.Prelude.{◌≡◌, ℕ, ◌||◌, List, Bool, false, Option, Some, None, codes}
-use Rattle.std.specs.List.{AllByRecursion}
+use Rattle.std.specs.Prelude.{◌≡◌, ℕ, ◌||◌, List, Bool, false, Some, codes}
 use Rattle.std.specs.Str.{bytes_eq, IsUtf8}
 use Rattle.serde_json.specs.Data.{object, Members, no_members, member}
 use Rattle.serde_json.specs.Read.{read}

@@ -1,16 +1,15 @@
 -- Sums of sizes, and the sizes of arrays and objects.
-use Rattle.std.proofs.Common.{◌≡◌, ◌∙◌, ℕ, zero, suc, ◌+◌, ◌-◌, ◌^◌, ◌<◌, ◌≤◌, min, List, [], ◌∷◌, ◌++◌, length, map, sum, Option, Some, None, Ordering, Less, Equal, Greater, nat_cmp, true, false, refl, ap, sym, arith, length-append}
+use Rattle.std.proofs.Common.{◌≡◌, ◌∙◌, ℕ, zero, suc, ◌+◌, ◌-◌, ◌^◌, ◌<◌, ◌≤◌, min, List, [], ◌∷◌, ◌++◌, length, map, sum, Option, Some, None, Ordering, Less, Equal, Greater, nat_cmp, true, refl, ap, sym, arith, length-append}
 use Rattle.std.specs.Cmp.Lexicographic.{slice_cmp}
-use Rattle.std.specs.List.{flat_map}
 use Rattle.std.specs.Ordering.{match_ordering}
 use Rattle.std.proofs.lemmas.Bool.Decides.{nat_tests}
 use Rattle.std.proofs.lemmas.List.Sums.{sum_by-cons}
-use Rattle.json.specs.Print.{escape, escape_byte, quoted}
-use Rattle.serde_json.specs.Data.{Data, string, array, object, Items, no_items, item, Members, no_members, member, put}
+use Rattle.json.specs.Print.{escape, quoted}
+use Rattle.serde_json.specs.Data.{Data, array, object, Items, no_items, item, Members, no_members, member, put}
 use Rattle.serde_json.specs.Find.{get_member}
 use Rattle.serde_json.specs.Written.{compact_text, items_text, members_text}
-use Rattle.json_objects.specs.Objects.{items, members_onto}
-use Rattle.json_objects.specs.Sizes.{capped, enclosed_size, items_size, member_size, members_size, field_size, fields_size}
+use Rattle.json_objects.specs.Objects.{members_onto}
+use Rattle.json_objects.specs.Sizes.{capped, enclosed_size, items_size, member_size, members_size, fields_size}
 
 -- ---- sums
 

@@ -1,5 +1,4 @@
 use Rattle.std.proofs.Common.{◌≡◌, ◌++◌, drop, map, Some}
-use Rattle.gnap_model.specs.Rights.{values_of}
 use Rattle.access_rights.specs.Masks.{mask_of}
 use Rattle.access_rights.proofs.masks.masks_of.Given as goal
 
