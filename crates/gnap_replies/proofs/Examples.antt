@@ -132,7 +132,7 @@ unfolding digits response_of token_data continue_data interact_data ask_data val
 lapsed = refl
 
 for_clients : compact_text (client_discovery (codes "https://as.example"))
-    ≡ codes "{\"grant_request_endpoint\":\"https://as.example/gnap\",\"interaction_finish_methods_supported\":[],\"interaction_start_modes_supported\":[],\"key_proofs_supported\":[\"httpsig\"],\"key_rotation_supported\":false,\"sub_id_formats_supported\":[]}"
+    ≡ codes "{\"grant_request_endpoint\":\"https://as.example/gnap\",\"interaction_finish_methods_supported\":[\"redirect\",\"push\"],\"interaction_start_modes_supported\":[\"redirect\",\"user_code\",\"user_code_uri\"],\"key_proofs_supported\":[\"httpsig\"],\"key_rotation_supported\":false,\"sub_id_formats_supported\":[\"opaque\"]}"
 unfolding client_discovery escape_byte
 for_clients = refl
 

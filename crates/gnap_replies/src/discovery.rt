@@ -28,7 +28,7 @@ fn client_discovery_value(alloc: Global, base: &[u8]) -> Result<Value, Mem>
     ensures { IfOk result (λ v. view v ≡ client_discovery base.now) }
 {
     let mut map = Map::new(alloc);
-    let formats = words_value(alloc, &[])?;
+    let formats = words_value(alloc, &["opaque"])?;
     put(&mut map, alloc, "sub_id_formats_supported", Some(formats))?;
     put(
         &mut map,
@@ -38,14 +38,14 @@ fn client_discovery_value(alloc: Global, base: &[u8]) -> Result<Value, Mem>
     )?;
     let proofs = words_value(alloc, &["httpsig"])?;
     put(&mut map, alloc, "key_proofs_supported", Some(proofs))?;
-    let modes = words_value(alloc, &[])?;
+    let modes = words_value(alloc, &["redirect", "user_code", "user_code_uri"])?;
     put(
         &mut map,
         alloc,
         "interaction_start_modes_supported",
         Some(modes),
     )?;
-    let methods = words_value(alloc, &[])?;
+    let methods = words_value(alloc, &["redirect", "push"])?;
     put(
         &mut map,
         alloc,

@@ -53,7 +53,7 @@ fn documents_name_the_endpoints(rt: HostRuntime) -> Result<(), Fail> {
     let document = print_client_discovery(rt.alloc(), b"https://as.example")?;
     assert_eq!(rt;
         document.as_slice(),
-        br#"{"grant_request_endpoint":"https://as.example/gnap","interaction_finish_methods_supported":[],"interaction_start_modes_supported":[],"key_proofs_supported":["httpsig"],"key_rotation_supported":false,"sub_id_formats_supported":[]}"#.as_slice()
+        br#"{"grant_request_endpoint":"https://as.example/gnap","interaction_finish_methods_supported":["redirect","push"],"interaction_start_modes_supported":["redirect","user_code","user_code_uri"],"key_proofs_supported":["httpsig"],"key_rotation_supported":false,"sub_id_formats_supported":["opaque"]}"#.as_slice()
     );
     let document = print_server_discovery(rt.alloc(), b"https://as.example")?;
     assert_eq!(rt;
