@@ -15,6 +15,7 @@ import rights_cases
 import run_cases
 import scripted_grants
 import scripted_interactions
+import stored_histories
 from checks import check_all
 from worlds import outcome
 
@@ -23,7 +24,7 @@ def cases():
     for module in (http_cases, edge_cases, outside_cases, rights_cases, line_cases):
         yield from module.cases()
     yield from run_cases.cases(scripted_grants.RUNS + scripted_interactions.RUNS)
-    yield from map(run_cases.replay_case, generated_histories.runs())
+    yield from map(run_cases.replay_case, generated_histories.runs() + stored_histories.runs())
 
 
 def lines_of(values):
