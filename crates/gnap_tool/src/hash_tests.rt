@@ -52,7 +52,10 @@ fn the_published_hash_is_printed(rt: HostRuntime) {
         ("", 2, ""),
     ] {
         let words = ["hash", method, CLIENT, SERVER, REFERENCE, ENDPOINT];
-        assert!(rt; status(&rt, rt.alloc(), &words, &[], printed) == Ok(Some(code)), "{method}");
+        assert!(rt;
+            status(&rt, rt.alloc(), &words, &[], printed) == Ok(Some(code)),
+            "{method}"
+        );
     }
 }
 
