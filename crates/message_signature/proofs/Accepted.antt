@@ -12,7 +12,7 @@ use Rattle.hmac_key.specs.Hmac.{hmac_sha256}
 use Rattle.message_signature.specs.declared.fault.SigFault.TheVariants.{NoField, NotAField, Malformed, Unsupported, Uncovered, Created, Expired, Alg, UnknownKey, Differs, Digest}
 use Rattle.message_signature.specs.Components.{field_value}
 use Rattle.message_signature.specs.Base.{is_string, signature_base}
-use Rattle.message_signature.specs.Verified.{with_tag, only_one, signature_under, absent_or, is_well_formed, covers_enough, is_in_window, is_not_expired, key_in, has_right_digest, signature_fields, tagged_in, tagged, judged, verified}
+use Rattle.message_signature.specs.Verified.{with_tag, only_one, signature_under, absent_or, is_well_formed, covers_enough, is_in_window, is_not_expired, key_in, has_right_digest, signature_fields, tagged_in, tagged, judged_over, judged, verified}
 use Rattle.message_signature.specs.Accepted.{IsDictionaryField, IsTheTagged, IsAccepted}
 use Rattle.message_signature.specs.Laws.{VerifiedIsAccepted, AcceptedIsVerified}
 use Rattle.message_signature.proofs.AcceptedSteps.{step_ok, need_ok, must_ok}
@@ -77,7 +77,7 @@ module _ (m : Message) (tag : List ℕ) where
 
   module _ (base : List ℕ) (ring : List (List ℕ × List ℕ)) (now : ℕ) (id : List ℕ) where
     accepted : (one : InnerList × List ℕ) → IsTagged m tag one.0 one.1 → judged m base ring now one ≡ Ok id → IsAccepted m base ring now tag id
-    unfolding judged
+    unfolding judged judged_over
     accepted one t e =
         let list = one.0 in
         let text = need_ok Unsupported (signature_base m base list) _ id e in
@@ -137,7 +137,7 @@ module _ (m : Message) (tag : List ℕ) where
       ) refl
 
       judged_found : judged m base ring now (a.list, bytes) ≡ Ok id
-      unfolding judged
+      unfolding judged judged_over
       judged_found =
           rw (
             a.text_is,

@@ -15,7 +15,7 @@ use Rattle.content_digest.specs.declared.fault.DigestFault.{DigestFault}
 use Rattle.content_digest.specs.Digest.{sequence_of}
 use Rattle.content_digest.specs.Judged.{checked}
 use Rattle.message_signature.specs.Components.{field_value}
-use Rattle.message_signature.specs.Base.{is_named, name_of, line_of, base_lines, signature_base}
+use Rattle.message_signature.specs.Base.{is_named, name_of, line_of, base_lines, base_by, signature_base}
 use Rattle.message_signature.specs.Verified.{signature_under, is_integer, is_any_string, absent_or, is_well_formed, has_body, has_field, covers_enough, has_right_digest}
 use Rattle.message_signature.proofs.SignedBase.{none_is}
 
@@ -56,18 +56,18 @@ line_is_of_string : (m : Message) (base : List ℕ) (item : Item) (others : List
 line_is_of_string m base item others line h = option_and_then_some _ (name_of item) line h (λ name named rest. name_is_string item name named)
 
 -- what is covered is a String each, where there is a base
-lines_are_strings : (m : Message) (base : List ℕ) (items : List Item) (lines : List ℕ) → base_lines m base items ≡ Some lines → list_all (λ i. is_any_string i.bare) items ≡ true
+lines_are_strings : (m : Message) (base : List ℕ) (items : List Item) (lines : List ℕ) → base_lines (line_of m base) items ≡ Some lines → list_all (λ i. is_any_string i.bare) items ≡ true
 unfolding base_lines
 lines_are_strings m base [] lines h = refl
 lines_are_strings m base (item ∷ items) lines h =
     option_and_then_some _ (line_of m base item items) lines h (λ line lined rest.
-    option_and_then_some _ (base_lines m base items) lines rest (λ more is last.
+    option_and_then_some _ (base_lines (line_of m base) items) lines rest (λ more is last.
     rw (line_is_of_string m base item items line lined, lines_are_strings m base items more is) refl))
 
 pub base_is_of_strings : (m : Message) (base : List ℕ) (list : InnerList) (text : List ℕ) → signature_base m base list ≡ Some text → list_all (λ i. is_any_string i.bare) list.items ≡ true
-unfolding signature_base
+unfolding signature_base base_by
 base_is_of_strings m base list text h =
-    option_and_then_some _ (base_lines m base list.items) text h (λ lines is rest. lines_are_strings m base list.items lines is)
+    option_and_then_some _ (base_lines (line_of m base) list.items) text h (λ lines is rest. lines_are_strings m base list.items lines is)
 
 pub expires_is_integer : (list : InnerList) → is_well_formed list ≡ true → absent_or is_integer (value_at list.params (codes "expires")) ≡ true
 expires_is_integer list h =

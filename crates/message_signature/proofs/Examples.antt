@@ -6,7 +6,7 @@ use Rattle.gnap_io.specs.declared.message.Message.{Message}
 use Rattle.structured_fields.specs.declared.bare.Bare.TheVariants.{Integer, Str}
 use Rattle.structured_fields.specs.declared.item.InnerList.{InnerList}
 use Rattle.message_signature.specs.Components.{component, field_value}
-use Rattle.message_signature.specs.Base.{base_lines, signature_base}
+use Rattle.message_signature.specs.Base.{base_lines, base_by, signature_base}
 use Rattle.message_signature.specs.Signed.{component_item, signature_input}
 
 abbrev field : List ℕ → List ℕ → Field
@@ -25,7 +25,7 @@ grant_request = record {
 
 pub grant_request_base : signature_base grant_request (codes "https://as.example") (signature_input grant_request (codes "c1") 1000 (codes "gnap")) ≡ Some (
     codes "\"@method\": POST\n\"@target-uri\": https://as.example/gnap\n\"content-digest\": sha-256=:X48E9qOokqqrvdts8nOJRJN3OWDUoyWxBf7kbu9DBPE=:\n\"@signature-params\": (\"@method\" \"@target-uri\" \"content-digest\");created=1000;keyid=\"c1\";tag=\"gnap\"")
-unfolding signature_base base_lines component field_value digits
+unfolding signature_base base_by base_lines component field_value digits
 grant_request_base = refl
 
 -- ---- the message of RFC 9421, appendix B.2
@@ -51,7 +51,7 @@ list = record {
 
 pub hmac_example_base : signature_base request (codes "https://example.com") list ≡ Some (
     codes "\"date\": Tue, 20 Apr 2021 02:07:55 GMT\n\"@authority\": example.com\n\"content-type\": application/json\n\"@signature-params\": (\"date\" \"@authority\" \"content-type\");created=1618884473;keyid=\"test-shared-secret\"")
-unfolding signature_base base_lines component field_value digits
+unfolding signature_base base_by base_lines component field_value digits
 hmac_example_base = refl
 
 -- ---- components of sections 2.1 and 2.2

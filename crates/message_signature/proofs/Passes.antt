@@ -15,12 +15,12 @@ use Rattle.content_digest.proofs.Judging.{fits_checked}
 use Rattle.hmac_key.specs.Hmac.{hmac_sha256}
 use Rattle.message_signature.specs.Components.{values_of, field_value}
 use Rattle.message_signature.specs.Base.{is_named, signature_base}
-use Rattle.message_signature.specs.Verified.{is_any_string, is_well_formed, has_body, has_field, covers_enough, is_in_window, has_right_digest, tagged, judged, verified}
-use Rattle.message_signature.specs.Signed.{component_item, with_fields, with_digest, signature_input, signature_lines}
+use Rattle.message_signature.specs.Verified.{is_any_string, is_well_formed, has_body, has_field, covers_enough, is_in_window, has_right_digest, tagged, judged_over, judged, verified}
+use Rattle.message_signature.specs.Signed.{component_item, with_fields, with_digest, params_of, signature_input, signature_lines, signed}
 use Rattle.message_signature.specs.Laws.{CanPass, SignedPasses}
 use Rattle.message_signature.proofs.Appended.{value_beside, value_added}
 use Rattle.message_signature.proofs.SignedFields.{input, input_trimmed, input_again, signature, signature_trimmed, signature_again, names}
-use Rattle.message_signature.proofs.SignedBase.{IsDigested, HasFitting, digested, base_same, there_is, none_is, always_based, signed_with}
+use Rattle.message_signature.proofs.SignedBase.{IsDigested, HasFitting, digested, base_same, there_is, none_is, always_based, signed_over}
 
 same : (s : List ℕ) → bytes_eq s s ≡ true
 same s = (bytes_eq-Decides s s).1 refl
@@ -53,18 +53,18 @@ module _ (w : Message) (id : List ℕ) (created : ℕ) (tag : List ℕ) (bytes :
   list = signature_input w id created tag
 
   abbrev after : Message
-  after = with_fields (signature_lines list bytes) w
+  after = with_fields (signature_lines (codes "sig1") list bytes) w
 
   -- ---- the fields of the signed message
 
-  value_kept : (name : List ℕ) → values_of name (signature_lines list bytes) ≡ [] → field_value name after.fields ≡ field_value name w.fields
-  value_kept name none = value_beside name w.fields (signature_lines list bytes) none
+  value_kept : (name : List ℕ) → values_of name (signature_lines (codes "sig1") list bytes) ≡ [] → field_value name after.fields ≡ field_value name w.fields
+  value_kept name none = value_beside name w.fields (signature_lines (codes "sig1") list bytes) none
 
   input_value : has_field (codes "signature-input") w ≡ false → field_value (codes "signature-input") after.fields ≡ Some (dictionary_text (input w id created tag))
-  input_value none = value_added (codes "signature-input") w.fields (signature_lines list bytes) _ (ap (λ (t : List ℕ). t ∷ []) (input_trimmed w id created tag)) (none_is _ none)
+  input_value none = value_added (codes "signature-input") w.fields (signature_lines (codes "sig1") list bytes) _ (ap (λ (t : List ℕ). t ∷ []) (input_trimmed w id created tag)) (none_is _ none)
 
   signature_value : has_field (codes "signature") w ≡ false → field_value (codes "signature") after.fields ≡ Some (dictionary_text (signature bytes))
-  signature_value none = value_added (codes "signature") w.fields (signature_lines list bytes) _ (ap (λ (t : List ℕ). t ∷ []) (signature_trimmed bytes)) (none_is _ none)
+  signature_value none = value_added (codes "signature") w.fields (signature_lines (codes "sig1") list bytes) _ (ap (λ (t : List ℕ). t ∷ []) (signature_trimmed bytes)) (none_is _ none)
 
   covers : covers_enough after list ≡ true
   covers = rw (value_kept (codes "authorization") refl) (by (has_body w) (has_field (codes "authorization") w))
@@ -88,7 +88,7 @@ module _ (m w : Message) (base : List ℕ) (ring : List (List ℕ × List ℕ)) 
   bytes = hmac_sha256 secret text
 
   abbrev signed_one : Message
-  signed_one = with_fields (signature_lines (signature_input w id created tag) bytes) w
+  signed_one = with_fields (signature_lines (codes "sig1") (signature_input w id created tag) bytes) w
 
   tagged_is : tagged signed_one tag ≡ Ok (signature_input w id created tag, bytes)
   unfolding tagged
@@ -99,7 +99,7 @@ module _ (m w : Message) (base : List ℕ) (ring : List (List ℕ × List ℕ)) 
       rw (input_value w id created tag bytes no_input, signature_value w id created tag bytes no_signature, input_again w id created tag can.created_size can.id_text can.tag_text, signature_again secret text, same tag, well_formed w id created tag) refl
 
   judged_is : judged signed_one base ring now (signature_input w id created tag, bytes) ≡ Ok id
-  unfolding judged
+  unfolding judged judged_over
   judged_is =
       let based : signature_base signed_one base (signature_input w id created tag) ≡ Some text =
       base_same w signed_one.fields base _ (has_body w) (has_field (codes "authorization") w)
@@ -111,9 +111,10 @@ module _ (m w : Message) (base : List ℕ) (ring : List (List ℕ × List ℕ)) 
   verified_is = rw tagged_is judged_is
 
 pub signed_passes : SignedPasses
+unfolding signed
 signed_passes m n base ring id secret created tag now is can =
     let w = with_digest m in
-    let text = there_is _ (always_based m base id created tag) in
-    let one : with_fields (signature_lines (signature_input w id created tag) (hmac_sha256 secret text.value)) w ≡ n =
-    some_is _ _ (sym (signed_with m w base id secret created tag (hmac_sha256 secret text.value) (signature_input w id created tag) _ _ refl refl (ap (option_map (hmac_sha256 secret)) text.is) refl refl) ∙ is) in
+    let text = there_is _ (always_based m base (params_of id created tag)) in
+    let one : with_fields (signature_lines (codes "sig1") (signature_input w id created tag) (hmac_sha256 secret text.value)) w ≡ n =
+    some_is _ _ (sym (signed_over m base secret (codes "sig1") (params_of id created tag) text.value text.is) ∙ is) in
     subst (λ (k : Message). verified k base ring now tag ≡ Ok id) one (verified_is m w base ring id secret created tag now text.value can (digested m) text.is)

@@ -13,9 +13,9 @@ use Rattle.content_digest.specs.Judged.{Fits}
 use Rattle.content_digest.proofs.LineFits.{line_fits}
 use Rattle.hmac_key.specs.Hmac.{hmac_sha256}
 use Rattle.message_signature.specs.Components.{component, field_value}
-use Rattle.message_signature.specs.Base.{base_lines, signature_base}
+use Rattle.message_signature.specs.Base.{base_lines, base_by, signature_base}
 use Rattle.message_signature.specs.Verified.{has_body, has_field}
-use Rattle.message_signature.specs.Signed.{field, with_fields, with_digest, component_item, signature_input, signature_lines, signed}
+use Rattle.message_signature.specs.Signed.{field, with_fields, with_digest, component_item, params_of, input_under, signature_lines, signed_under, signed}
 use Rattle.message_signature.specs.Laws.{IsAlwaysSigned}
 use Rattle.message_signature.proofs.Appended.{value_beside, value_added}
 use Rattle.message_signature.proofs.SignedFields.{digest_trimmed, names}
@@ -75,7 +75,7 @@ there_is None h = absurd cc
 -- where the digest of a body is there, and a token that is covered
 base_there : (m : Message) (base : List ℕ) (params : List (List ℕ × Bare)) (body token : Bool) → (body ≡ true → has_field (codes "content-digest") m ≡ true) → (token ≡ true → has_field (codes "authorization") m ≡ true)
     → IsSome (signature_base m base (list_of body token params))
-unfolding signature_base base_lines component
+unfolding signature_base base_by base_lines component
 base_there m base params false false d t = refl
 base_there m base params true false d t = rw ((there_is _ (d refl)).is) refl
 base_there m base params false true d t = rw ((there_is _ (t refl)).is) refl
@@ -85,34 +85,41 @@ base_there m base params true true d t = rw ((there_is _ (d refl)).is, (there_is
 pub base_same : (m : Message) (fields : List Field) (base : List ℕ) (params : List (List ℕ × Bare)) (body token : Bool)
     → field_value (codes "content-digest") fields ≡ field_value (codes "content-digest") m.fields → field_value (codes "authorization") fields ≡ field_value (codes "authorization") m.fields
     → signature_base (record m { fields = fields }) base (list_of body token params) ≡ signature_base m base (list_of body token params)
-unfolding signature_base base_lines component
+unfolding signature_base base_by base_lines component
 base_same m fields base params false false d t = refl
 base_same m fields base params true false d t = rw d refl
 base_same m fields base params false true d t = rw t refl
 base_same m fields base params true true d t = rw (d, t) refl
 
-pub always_based : (m : Message) (base id : List ℕ) (created : ℕ) (tag : List ℕ) → IsSome (signature_base (with_digest m) base (signature_input (with_digest m) id created tag))
-always_based m base id created tag =
+pub always_based : (m : Message) (base : List ℕ) (params : List (List ℕ × Bare)) → IsSome (signature_base (with_digest m) base (input_under (with_digest m) params))
+always_based m base params =
     let w = with_digest m in
-    base_there w base _ (has_body w) (has_field (codes "authorization") w) (digested m).there (λ h. h)
+    base_there w base params (has_body w) (has_field (codes "authorization") w) (digested m).there (λ h. h)
 
 -- the signed message, from the steps of signing
-pub signed_with : (m w : Message) (base id secret : List ℕ) (created : ℕ) (tag bytes : List ℕ) (list : InnerList) (fields more : List Field) → w ≡ with_digest m → list ≡ signature_input w id created tag
-    → option_map (hmac_sha256 secret) (signature_base w base list) ≡ Some bytes → more ≡ signature_lines list bytes → fields ≡ w.fields ++ more → signed m base id secret created tag ≡ Some (record w { fields = fields })
-unfolding signed
-signed_with m w base id secret created tag bytes list fields more a b c d e =
-    rw (sym a) (by (signature_base w base (signature_input w id created tag)) (subst (λ (l : InnerList). option_map (hmac_sha256 secret) (signature_base w base l) ≡ Some bytes) b c))
+pub signed_with : (m w : Message) (base secret label : List ℕ) (params : List (List ℕ × Bare)) (bytes : List ℕ) (list : InnerList) (fields more : List Field) → w ≡ with_digest m → list ≡ input_under w params
+    → option_map (hmac_sha256 secret) (signature_base w base list) ≡ Some bytes → more ≡ signature_lines label list bytes → fields ≡ w.fields ++ more → signed_under label params m base secret ≡ Some (record w { fields = fields })
+unfolding signed_under
+signed_with m w base secret label params bytes list fields more a b c d e =
+    rw (sym a) (by (signature_base w base (input_under w params)) (subst (λ (l : InnerList). option_map (hmac_sha256 secret) (signature_base w base l) ≡ Some bytes) b c))
   where
     by : (text : Option (List ℕ)) → option_map (hmac_sha256 secret) text ≡ Some bytes
-        → (text >>= λ t. Some (with_fields (signature_lines (signature_input w id created tag) (hmac_sha256 secret t)) w)) ≡ Some (record w { fields = fields })
+        → (text >>= λ t. Some (with_fields (signature_lines label (input_under w params) (hmac_sha256 secret t)) w)) ≡ Some (record w { fields = fields })
     by (Some text) h =
-        let same : signature_lines (signature_input w id created tag) (hmac_sha256 secret text) ≡ more =
-        ap (signature_lines (signature_input w id created tag)) (some_is _ _ h) ∙ ap (λ (l : InnerList). signature_lines l bytes) (sym b) ∙ sym d in
+        let same : signature_lines label (input_under w params) (hmac_sha256 secret text) ≡ more =
+        ap (signature_lines label (input_under w params)) (some_is _ _ h) ∙ ap (λ (l : InnerList). signature_lines label l bytes) (sym b) ∙ sym d in
         ap (λ (fs : List Field). Some (record w { fields = fs })) (ap (λ (fs : List Field). w.fields ++ fs) same ∙ sym e)
     by None h = absurd cc
 
+-- the same where the text of the base is known
+pub signed_over : (m : Message) (base secret label : List ℕ) (params : List (List ℕ × Bare)) (text : List ℕ) → signature_base (with_digest m) base (input_under (with_digest m) params) ≡ Some text
+    → signed_under label params m base secret ≡ Some (with_fields (signature_lines label (input_under (with_digest m) params) (hmac_sha256 secret text)) (with_digest m))
+unfolding signed_under
+signed_over m base secret label params text e = rw e refl
+
 pub always_signed : IsAlwaysSigned
+unfolding signed
 always_signed m base id secret created tag =
-    let w = with_digest m in
-    let text = there_is _ (always_based m base id created tag) in
-    ap is_some (signed_with m w base id secret created tag (hmac_sha256 secret text.value) (signature_input w id created tag) _ _ refl refl (ap (option_map (hmac_sha256 secret)) text.is) refl refl)
+    let params = params_of id created tag in
+    let text = there_is _ (always_based m base params) in
+    ap is_some (signed_over m base secret (codes "sig1") params text.value text.is)

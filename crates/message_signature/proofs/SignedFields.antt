@@ -37,7 +37,7 @@ digest_trimmed body = trimmed_same (digest_text body) 58 (digest_ends body) refl
 -- ---- the signature
 
 abbrev pub signature : List ℕ → List (List ℕ × Member)
-signature bytes = under_label (Single (record { bare = Binary bytes; params = [] }))
+signature bytes = under_label (codes "sig1") (Single (record { bare = Binary bytes; params = [] }))
 
 pub signature_trimmed : (bytes : List ℕ) → trimmed (dictionary_text (signature bytes)) ≡ dictionary_text (signature bytes)
 signature_trimmed bytes = trimmed_same (dictionary_text (signature bytes)) 58 (ends_nil (ends_more (codes "sig1=") (ends_nil (binary_ends bytes)))) refl refl
@@ -63,7 +63,7 @@ names body token = codes "@method" ∷ codes "@target-uri" ∷ (cond body (codes
 name_range : (name : List ℕ) → list_all is_string_byte name ≡ true → IsItemInRange (component_item name)
 name_range name h = record { bare = h; params = tt; distinct = tt }
 
-names_range : (body token : Bool) → AllByRecursion IsItemInRange (map component_item (names body token))
+pub names_range : (body token : Bool) → AllByRecursion IsItemInRange (map component_item (names body token))
 names_range false false = (name_range _ refl, (name_range _ refl, tt))
 names_range false true = (name_range _ refl, (name_range _ refl, (name_range _ refl, tt)))
 names_range true false = (name_range _ refl, (name_range _ refl, (name_range _ refl, tt)))
@@ -79,7 +79,7 @@ inner_ends items id created tag =
 
 module _ (m : Message) (id : List ℕ) (created : ℕ) (tag : List ℕ) where
   abbrev pub input : List (List ℕ × Member)
-  input = under_label (Inner (signature_input m id created tag))
+  input = under_label (codes "sig1") (Inner (signature_input m id created tag))
 
   pub input_trimmed : trimmed (dictionary_text input) ≡ dictionary_text input
   input_trimmed = trimmed_same (dictionary_text input) 34 (ends_nil (ends_more (codes "sig1=") (inner_ends (signature_input m id created tag).items id created tag))) refl refl

@@ -5,14 +5,16 @@ use Rattle.std.proofs.Math.Seq.{take-append_seam, take-length}
 use Rattle.gnap_io.specs.declared.message.Field.{Field}
 use Rattle.gnap_io.specs.declared.message.Message.{Message}
 use Rattle.structured_fields.specs.declared.item.Item.{Item}
+use Rattle.structured_fields.specs.declared.bare.Bare.{Bare}
 use Rattle.structured_fields.specs.declared.bare.Bare.TheVariants.{Binary}
-use Rattle.structured_fields.specs.Canonical.{IsInRange}
+use Rattle.structured_fields.specs.Named.{IsDistinct}
+use Rattle.structured_fields.specs.Canonical.{IsInRange, AreInRange, IsInnerInRange}
 use Rattle.structured_fields.proofs.Fronts.{some_is}
 use Rattle.content_digest.specs.Digest.{digest_text}
 use Rattle.hmac_key.specs.Hmac.{hmac_sha256}
 use Rattle.message_signature.specs.Verified.{has_body, has_field}
-use Rattle.message_signature.specs.Signed.{field, with_fields, with_digest, covered, component_item, cut}
-use Rattle.message_signature.proofs.SignedFields.{hmac_range, names}
+use Rattle.message_signature.specs.Signed.{field, with_fields, with_digest, covered, component_item, input_under, cut}
+use Rattle.message_signature.proofs.SignedFields.{hmac_range, names, names_range}
 
 pub digest_added : (m : Message) (fields : List Field) → has_body m ≡ true → has_field (codes "content-digest") m ≡ false
     → fields ≡ m.fields ++ field (codes "content-digest") (digest_text m.body) ∷ [] → record m { fields = fields } ≡ with_digest m
@@ -44,3 +46,6 @@ cut_digest m = by (has_body m && not (has_field (codes "content-digest") m))
 pub signature_range : (secret : List ℕ) (text : Option (List ℕ)) (bytes : List ℕ) → option_map (hmac_sha256 secret) text ≡ Some bytes → IsInRange (Binary bytes)
 signature_range secret (Some text) bytes e = subst (λ (b : List ℕ). IsInRange (Binary b)) (some_is _ _ e) (hmac_range secret text)
 signature_range secret None bytes e = absurd cc
+
+pub input_range : (m : Message) (params : List (List ℕ × Bare)) → AreInRange params → IsDistinct params → IsInnerInRange (input_under m params)
+input_range m params in_range distinct = record { items = names_range (has_body m) (has_field (codes "authorization") m); params = in_range; distinct = distinct }

@@ -12,14 +12,22 @@ use Rattle.structured_fields.specs.Reading.{◌>>=◌}
 use Rattle.structured_fields.specs.Canonical.{bare_text, inner_text}
 use Rattle.message_signature.specs.Components.{component}
 
+-- the text of a String
+abbrev pub string_in : Bare → Option (List ℕ)
+string_in (Str s) = Some s
+string_in (Integer n) = None
+string_in (Decimal n) = None
+string_in (Token s) = None
+string_in (Binary b) = None
+string_in (Boolean b) = None
+
 -- the bare item is this String
 abbrev pub is_string : List ℕ → Bare → Bool
-is_string s (Str t) = bytes_eq t s
-is_string s (Integer n) = false
-is_string s (Decimal n) = false
-is_string s (Token t) = false
-is_string s (Binary b) = false
-is_string s (Boolean b) = false
+is_string s v = is_text (string_in v)
+  where
+    is_text : Option (List ℕ) → Bool
+    is_text (Some t) = bytes_eq t s
+    is_text None = false
 
 -- an item names the component
 abbrev pub is_named : List ℕ → List Item → Bool
@@ -27,11 +35,12 @@ is_named name items = list_any (λ i. is_string name i.bare) items
 
 -- the name of a component that has no parameters
 abbrev pub name_of : Item → Option (List ℕ)
-name_of item = plain item.bare item.params
+name_of item = plain (string_in item.bare) item.params
   where
-    plain : Bare → List (List ℕ × Bare) → Option (List ℕ)
-    plain (Str name) [] = Some name
-    plain _ _ = None
+    plain : Option (List ℕ) → List (List ℕ × Bare) → Option (List ℕ)
+    plain None params = None
+    plain (Some name) [] = Some name
+    plain (Some name) (param ∷ params) = None
 
 -- the name as a String, `: `, and the value
 abbrev pub base_line : List ℕ → List ℕ → List ℕ
@@ -44,20 +53,24 @@ line_of m base item others = do
   value ← if is_named name others then None else component m base name
   Some (base_line name value ++ 10 ∷ [])
 
--- the lines of the covered components
-unfoldable pub base_lines : Message → List ℕ → List Item → Option (List ℕ)
-base_lines m base [] = Some []
-base_lines m base (item ∷ items) = do
-  line ← line_of m base item items
-  lines ← base_lines m base items
-  Some (line ++ lines)
-
 -- the line of the signature's parameters: the canonical text of the whole inner list
 abbrev pub params_line : InnerList → List ℕ
 params_line list = base_line (codes "@signature-params") (inner_text list)
 
--- The signature base of a message to the server with this base, under this list of covered components. None where it isn't supported.
+-- the base whose lines `line` makes, each of a component and of those behind it
+module _ (line : Item → List Item → Option (List ℕ)) where
+  unfoldable pub base_lines : List Item → Option (List ℕ)
+  base_lines [] = Some []
+  base_lines (item ∷ items) = do
+    first ← line item items
+    others ← base_lines items
+    Some (first ++ others)
+
+  unfoldable pub base_by : InnerList → Option (List ℕ)
+  base_by list = do
+    lines ← base_lines list.items
+    Some (lines ++ params_line list)
+
+-- The signature base of a message to the server with this base. None where the line of a covered component isn't there.
 unfoldable pub signature_base : Message → List ℕ → InnerList → Option (List ℕ)
-signature_base m base list = do
-  lines ← base_lines m base list.items
-  Some (lines ++ params_line list)
+signature_base m base list = base_by (line_of m base) list

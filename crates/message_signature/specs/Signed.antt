@@ -46,25 +46,32 @@ component_item name = record { bare = Str name; params = [] }
 abbrev pub params_of : List ℕ → ℕ → List ℕ → List (List ℕ × Bare)
 params_of id created tag = (codes "created", Integer (pos created)) ∷ (codes "keyid", Str id) ∷ (codes "tag", Str tag) ∷ []
 
--- the covered components, with the parameters
-abbrev pub signature_input : Message → List ℕ → ℕ → List ℕ → InnerList
-signature_input m id created tag = record { items = map component_item (covered m); params = params_of id created tag }
+-- the covered components, under these parameters
+abbrev pub input_under : Message → List (List ℕ × Bare) → InnerList
+input_under m params = record { items = map component_item (covered m); params = params }
 
--- one member, under the label of the one signature
-abbrev pub under_label : Member → List (List ℕ × Member)
-under_label member = (codes "sig1", member) ∷ []
+abbrev pub signature_input : Message → List ℕ → ℕ → List ℕ → InnerList
+signature_input m id created tag = input_under m (params_of id created tag)
+
+-- one member, under the label of the signature
+abbrev pub under_label : List ℕ → Member → List (List ℕ × Member)
+under_label label member = (label, member) ∷ []
 
 -- the two field lines of a signature
-abbrev pub signature_lines : InnerList → List ℕ → List Field
-signature_lines list bytes =
-    field (codes "signature-input") (dictionary_text (under_label (Inner list)))
-    ∷ field (codes "signature") (dictionary_text (under_label (Single (record { bare = Binary bytes; params = [] })))) ∷ []
+abbrev pub signature_lines : List ℕ → InnerList → List ℕ → List Field
+signature_lines label list bytes =
+    field (codes "signature-input") (dictionary_text (under_label label (Inner list)))
+    ∷ field (codes "signature") (dictionary_text (under_label label (Single (record { bare = Binary bytes; params = [] })))) ∷ []
+
+-- the message with a signature under this label and these parameters
+unfoldable pub signed_under : List ℕ → List (List ℕ × Bare) → Message → List ℕ → List ℕ → Option Message
+signed_under label params m base secret = do
+  text ← signature_base (with_digest m) base (input_under (with_digest m) params)
+  Some (with_fields (signature_lines label (input_under (with_digest m) params) (hmac_sha256 secret text)) (with_digest m))
 
 -- The signed message. Its base is always there (`laws`).
 unfoldable pub signed : Message → List ℕ → List ℕ → List ℕ → ℕ → List ℕ → Option Message
-signed m base id secret created tag = do
-  text ← signature_base (with_digest m) base (signature_input (with_digest m) id created tag)
-  Some (with_fields (signature_lines (signature_input (with_digest m) id created tag) (hmac_sha256 secret text)) (with_digest m))
+signed m base id secret created tag = signed_under (codes "sig1") (params_of id created tag) m base secret
 
 -- ---- on the way to it
 

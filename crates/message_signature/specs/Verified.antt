@@ -1,5 +1,5 @@
 -- What the verifying of a message's signature answers (RFC 9421, section 3.2, with this project's limits): the id of the key, or the first fault.
-use Rattle.std.specs.Prelude.{ℕ, ◌+◌, nat_le, Bool, true, false, not, ◌&&◌, ◌||◌, if◌then◌else◌, List, [], ◌∷◌, Option, Some, None, is_some, Result, Ok, Err, pos, negsuc, codes}
+use Rattle.std.specs.Prelude.{ℕ, ◌+◌, nat_le, Bool, true, false, not, ◌&&◌, ◌||◌, if◌then◌else◌, List, [], ◌∷◌, Option, Some, None, is_some, Result, Ok, Err, ℤ, pos, negsuc, codes}
 use Rattle.std.specs.List.{list_all}
 use Rattle.std.specs.Str.{bytes_eq}
 use Rattle.gnap_io.specs.declared.message.Message.{Message}
@@ -17,7 +17,7 @@ use Rattle.hmac_key.specs.Hmac.{hmac_sha256}
 use Rattle.message_signature.specs.declared.fault.SigFault.{SigFault}
 use Rattle.message_signature.specs.declared.fault.SigFault.TheVariants.{NoField, NotAField, NoTag, SeveralTags, Malformed, Unsupported, Uncovered, Created, Expired, Alg, UnknownKey, Differs, Digest}
 use Rattle.message_signature.specs.Components.{field_value}
-use Rattle.message_signature.specs.Base.{is_string, is_named, signature_base}
+use Rattle.message_signature.specs.Base.{string_in, is_string, is_named, signature_base}
 use Rattle.message_signature.specs.Faults.{◌>>=◌, need, must}
 
 -- ---- the one signature with the tag
@@ -56,21 +56,20 @@ signature_under label signatures = bytes_of (value_at signatures label)
     bytes_of (Some member) = sequence_of member
     bytes_of None = None
 
+-- the number of an Integer
+abbrev pub integer_in : Bare → Option ℤ
+integer_in (Integer n) = Some n
+integer_in (Decimal n) = None
+integer_in (Str s) = None
+integer_in (Token s) = None
+integer_in (Binary b) = None
+integer_in (Boolean b) = None
+
 abbrev pub is_integer : Bare → Bool
-is_integer (Integer n) = true
-is_integer (Decimal n) = false
-is_integer (Str s) = false
-is_integer (Token s) = false
-is_integer (Binary b) = false
-is_integer (Boolean b) = false
+is_integer v = is_some (integer_in v)
 
 abbrev pub is_any_string : Bare → Bool
-is_any_string (Integer n) = false
-is_any_string (Decimal n) = false
-is_any_string (Str s) = true
-is_any_string (Token s) = false
-is_any_string (Binary b) = false
-is_any_string (Boolean b) = false
+is_any_string v = is_some (string_in v)
 
 -- the parameter isn't there, or passes
 abbrev pub absent_or : (Bare → Bool) → Option Bare → Bool
@@ -107,26 +106,38 @@ covers_enough m list =
 
 -- `created` is there, and at most 300 from now
 abbrev pub is_in_window : ℕ → Option Bare → Bool
-is_in_window now (Some (Integer (pos created))) = nat_le created (now + 300) && nat_le now (created + 300)
-is_in_window now (Some (Integer (negsuc before))) = nat_le (now + (before + 1)) 300
-is_in_window now _ = false
+is_in_window now None = false
+is_in_window now (Some v) = is_near (integer_in v)
+  where
+    is_near : Option ℤ → Bool
+    is_near (Some (pos created)) = nat_le created (now + 300) && nat_le now (created + 300)
+    is_near (Some (negsuc before)) = nat_le (now + (before + 1)) 300
+    is_near None = false
 
 -- now isn't past `expires`, where that is there
 abbrev pub is_not_expired : ℕ → Option Bare → Bool
-is_not_expired now (Some (Integer (pos expires))) = nat_le now expires
-is_not_expired now (Some (Integer (negsuc before))) = false
-is_not_expired now _ = true
+is_not_expired now None = true
+is_not_expired now (Some v) = is_up_to (integer_in v)
+  where
+    is_up_to : Option ℤ → Bool
+    is_up_to (Some (pos expires)) = nat_le now expires
+    is_up_to (Some (negsuc before)) = false
+    is_up_to None = true
 
 -- ---- its key, and the digest of the body
 
 -- the id and the secret, where the ring has the id
 abbrev pub key_in : List (List ℕ × List ℕ) → Option Bare → Option (List ℕ × List ℕ)
-key_in ring (Some (Str id)) = with_id (value_at ring id)
+key_in ring None = None
+key_in ring (Some v) = under (string_in v)
   where
-    with_id : Option (List ℕ) → Option (List ℕ × List ℕ)
-    with_id (Some secret) = Some (id, secret)
-    with_id None = None
-key_in ring _ = None
+    with_secret : List ℕ → Option (List ℕ) → Option (List ℕ × List ℕ)
+    with_secret id (Some secret) = Some (id, secret)
+    with_secret id None = None
+
+    under : Option (List ℕ) → Option (List ℕ × List ℕ)
+    under (Some id) = with_secret id (value_at ring id)
+    under None = None
 
 -- A Content-Digest field that is there passes, and where there is a body it is there.
 abbrev pub has_right_digest : Message → Bool
@@ -165,10 +176,9 @@ tagged m tag = do
   both ← signature_fields m
   tagged_in tag both.0 both.1
 
--- the id of the key that signed the message to the server with this base, under this list and at this time
-unfoldable pub judged : Message → List ℕ → List (List ℕ × List ℕ) → ℕ → InnerList × List ℕ → Result (List ℕ) SigFault
-judged m base ring now one = do
-  text ← need Unsupported (signature_base m base one.0)
+-- the id of the key that signed this base, the one of the message under the list, at this time
+unfoldable pub judged_over : Message → List (List ℕ × List ℕ) → ℕ → InnerList × List ℕ → List ℕ → Result (List ℕ) SigFault
+judged_over m ring now one text = do
   _ ← must Uncovered (covers_enough m one.0)
   _ ← must Created (is_in_window now (value_at one.0.params (codes "created")))
   _ ← must Expired (is_not_expired now (value_at one.0.params (codes "expires")))
@@ -177,6 +187,12 @@ judged m base ring now one = do
   _ ← must Differs (bytes_eq one.1 (hmac_sha256 key.1 text))
   _ ← must Digest (has_right_digest m)
   Ok key.0
+
+-- the same of the message to the server with this base
+unfoldable pub judged : Message → List ℕ → List (List ℕ × List ℕ) → ℕ → InnerList × List ℕ → Result (List ℕ) SigFault
+judged m base ring now one = do
+  text ← need Unsupported (signature_base m base one.0)
+  judged_over m ring now one text
 
 -- The id of the key, or the first fault.
 unfoldable pub verified : Message → List ℕ → List (List ℕ × List ℕ) → ℕ → List ℕ → Result (List ℕ) SigFault

@@ -1,10 +1,11 @@
 //! The signature base (RFC 9421, section 2.5).
-ghost use Rattle.std.specs.Prelude.{◌≡◌, ◌+◌, ◌<◌, ◌++◌, length, drop, Some};
+ghost use Rattle.std.specs.Prelude.{◌≡◌, ℕ, ◌+◌, ◌<◌, List, ◌++◌, length, drop, Option, Some};
 ghost use Rattle.std.specs.Option.{option_copied, option_map};
 ghost use Rattle.structured_fields.specs.Canonical.{bare_text};
 ghost use Rattle.structured_fields.specs.declared.bare.Bare.TheVariants.{Str};
+ghost use Rattle.structured_fields.specs.declared.item.Item.{Item as ItemValue};
 ghost use Rattle.message_signature.specs.Faults.{GivesBase};
-ghost use Rattle.message_signature.specs.Base.{is_string, is_named, name_of, line_of, base_lines, params_line, signature_base};
+ghost use Rattle.message_signature.specs.Base.{is_string, is_named, name_of, line_of, base_lines, params_line, base_by, signature_base};
 
 use crate::components::{append_component, appended};
 use crate::fault::BaseFault;
@@ -50,6 +51,43 @@ fn append_name(alloc: Global, text: Bytes, item: &Item) -> Result<Bytes, BaseFau
     Ok(append_item(alloc, text, item)?)
 }
 
+/// How the lines of a signature base are made, each of a covered component.
+pub(crate) trait ComponentLines {
+    // The line of an item, with its LF, where those items stand behind it.
+    ghost line: { Self → ItemValue → List ItemValue → Option (List ℕ) };
+
+    /// The text with the line of the item behind it. Unsupported exactly where the item has none.
+    fn append_line(
+        &self,
+        alloc: Global,
+        text: Bytes,
+        item: &Item,
+        others: &[Item],
+    ) -> Result<Bytes, BaseFault>
+        ensures { GivesBase (λ b. b) result (option_map (λ l. text ++ l) (line self.now item.now others.now)) };
+}
+
+/// The lines of a message to the server with this base.
+#[derive(Clone, Copy)]
+pub(crate) struct MessageLines<'a> {
+    pub(crate) message: &'a Message,
+    pub(crate) base: &'a Bytes,
+}
+
+impl ComponentLines for MessageLines<'_> {
+    ghost line = { λ s. line_of s.message.now s.base.now };
+
+    fn append_line(
+        &self,
+        alloc: Global,
+        text: Bytes,
+        item: &Item,
+        others: &[Item],
+    ) -> Result<Bytes, BaseFault> {
+        append_line(alloc, text, self.message, self.base, item, others)
+    }
+}
+
 fn append_line(
     alloc: Global,
     text: Bytes,
@@ -81,24 +119,12 @@ fn others_behind(items: &Items, i: usize) -> &[Item]
     &items.as_slice()[i + 1..]
 }
 
-fn lines_of(
-    alloc: Global,
-    message: &Message,
-    base: &Bytes,
-    items: &Items,
-) -> Result<Bytes, BaseFault>
-    ensures { GivesBase (λ b. b) result (base_lines message.now base.now items.now) }
+fn lines_of<L: ComponentLines>(alloc: Global, lines: &L, items: &Items) -> Result<Bytes, BaseFault>
+    ensures { GivesBase (λ b. b) result (base_lines (L.line lines.now) items.now) }
 {
     let mut text = Bytes::new(alloc);
     for i in 0..items.len() {
-        text = append_line(
-            alloc,
-            text,
-            message,
-            base,
-            items.at(i),
-            others_behind(items, i),
-        )?;
+        text = lines.append_line(alloc, text, items.at(i), others_behind(items, i))?;
     }
     Ok(text)
 }
@@ -108,6 +134,19 @@ fn append_params_line(alloc: Global, text: Bytes, list: &InnerList) -> Result<By
 {
     let text = appended(text, b"\"@signature-params\": ")?;
     Ok(append_inner(alloc, text, list)?)
+}
+
+/// The base that has these lines, then that of the list with its parameters. Unsupported exactly where an item has no line. OutOfMemory may come in place of any answer.
+#[tactic(auto, unfolding(crate::specs::Base::base_by))]
+pub(crate) fn base_by<L: ComponentLines>(
+    alloc: Global,
+    lines: &L,
+    list: &InnerList,
+) -> Result<Bytes, BaseFault>
+    ensures { GivesBase (λ b. b) result (base_by (L.line lines.now) list.now) }
+{
+    let text = lines_of(alloc, lines, &list.items)?;
+    append_params_line(alloc, text, list)
 }
 
 /// The signature base of a message to the server with this base, under a list of covered components (RFC 9421, section 2.5). The base is scheme, `://` and authority, without a `/` at its end.
@@ -122,6 +161,5 @@ pub fn base_of(
 ) -> Result<Bytes, BaseFault>
     ensures { GivesBase (λ b. b) result (signature_base message.now base.now list.now) }
 {
-    let lines = lines_of(alloc, message, base, &list.items)?;
-    append_params_line(alloc, lines, list)
+    base_by(alloc, &MessageLines { message, base }, list)
 }

@@ -2,12 +2,13 @@
 ghost use Rattle.std.specs.Prelude.{◌≡◌, ◌↔◌, ◌<◌, ◌^◌, true, if◌then◌else◌, [], ◌∷◌, ◌++◌, map, length, Some, option_map, Err, IsSome, IfOk, OnOk, OnErr};
 ghost use Rattle.std.specs.List.{list_all};
 ghost use Rattle.structured_fields.specs.declared.bare.Bare.TheVariants.{Binary};
-ghost use Rattle.structured_fields.specs.Letters.{is_string_byte};
-ghost use Rattle.structured_fields.specs.Canonical.{dictionary_text, IsInRange, IsInnerInRange, IsMemberInRange};
+ghost use Rattle.structured_fields.specs.Named.{IsDistinct};
+ghost use Rattle.structured_fields.specs.Letters.{is_key, is_string_byte};
+ghost use Rattle.structured_fields.specs.Canonical.{dictionary_text, IsInRange, AreInRange, IsInnerInRange, IsMemberInRange};
 ghost use Rattle.hmac_key.specs.Hmac.{hmac_sha256};
 ghost use Rattle.message_signature.specs.declared.fault.SignFault.TheVariants.{HasSignature};
 ghost use Rattle.message_signature.specs.Base.{signature_base};
-ghost use Rattle.message_signature.specs.Signed.{field, has_signature, with_digest, covered, component_item, params_of, signature_input, under_label, signature_lines, signed, cut};
+ghost use Rattle.message_signature.specs.Signed.{field, has_signature, with_digest, covered, component_item, params_of, input_under, under_label, signature_lines, signed_under, signed, cut};
 
 use crate::base::base_of;
 use crate::components::{has_body, has_field};
@@ -98,43 +99,43 @@ fn params_of(alloc: Global, id: &Bytes, created: u64, tag: &Bytes) -> Result<Par
     Ok(params)
 }
 
-fn signature_input(
-    alloc: Global,
-    message: &Message,
-    id: &Bytes,
-    created: u64,
-    tag: &Bytes,
-) -> Result<InnerList, Mem>
-    requires { created < 10 ^ 15 }
-    ensures { IfOk result (λ list. list ≡ signature_input message.now id.now created tag.now) }
+fn input_under(alloc: Global, message: &Message, params: Params) -> Result<InnerList, Mem>
+    ensures { IfOk result (λ list. list ≡ input_under message.now params) }
 {
     Ok(InnerList {
         items: covered_by(alloc, message)?,
-        params: params_of(alloc, id, created, tag)?,
+        params,
     })
 }
 
-// The dictionary of one member, under the label of the one signature.
-fn labelled(alloc: Global, member: Member) -> Result<Bytes, Mem>
-    requires { IsMemberInRange member }
-    ensures { IfOk result (λ text. text ≡ dictionary_text (under_label member)) }
+// The dictionary of one member.
+fn labelled(alloc: Global, label: &[u8], member: Member) -> Result<Bytes, Mem>
+    requires label { is_key label.now ≡ true }
+    requires member { IsMemberInRange member }
+    ensures { IfOk result (λ text. text ≡ dictionary_text (under_label label.now member)) }
 {
     let mut entries = Dictionary::new(alloc);
-    entries.set(Bytes::from_slice(alloc, b"sig1")?, member)?;
+    entries.set(Bytes::from_slice(alloc, label)?, member)?;
     write_dictionary(alloc, &entries)
 }
 
-fn signature_lines(alloc: Global, list: InnerList, bytes: Bytes) -> Result<Fields, Mem>
+fn signature_lines(
+    alloc: Global,
+    label: &[u8],
+    list: InnerList,
+    bytes: Bytes,
+) -> Result<Fields, Mem>
+    requires label { is_key label.now ≡ true }
     requires list { IsInnerInRange list }
     requires bytes { IsInRange (Binary bytes) }
-    ensures { IfOk result (λ lines. lines ≡ signature_lines list bytes) }
+    ensures { IfOk result (λ lines. lines ≡ signature_lines label.now list bytes) }
 {
     let signature = Item {
         bare: Bare::Binary(bytes),
         params: Params::new(alloc),
     };
-    let input = labelled(alloc, Member::Inner(list))?;
-    let signature = labelled(alloc, Member::Item(signature))?;
+    let input = labelled(alloc, label, Member::Inner(list))?;
+    let signature = labelled(alloc, label, Member::Item(signature))?;
     let mut lines = Fields::new(alloc);
     lines.push(field(alloc, b"signature-input", input)?)?;
     lines.push(field(alloc, b"signature", signature)?)?;
@@ -159,27 +160,26 @@ fn signature_of(
     }
 }
 
-// Adds the fields of a signature. At an `Err` the digest may stand behind the fields that were there.
+// Adds the fields of a signature under a label and parameters. At an `Err` the digest may stand behind the fields that were there.
 #[tactic(auto, using(crate::proofs::SigningSteps::cut_digest))]
 fn add_signature(
     alloc: Global,
     message: &mut Message,
     base: &Bytes,
-    id: &Bytes,
+    label: &[u8],
+    params: Params,
     secret: &Bytes,
-    created: u64,
-    tag: &Bytes,
 ) -> Result<(), Mem>
-    requires created { created < 10 ^ 15 }
-    requires id { list_all is_string_byte id.now ≡ true }
-    requires tag { list_all is_string_byte tag.now ≡ true }
-    ensures ok { OnOk result (signed message.old base.now id.now secret.now created tag.now ≡ Some message.new) }
+    requires label { is_key label.now ≡ true }
+    requires params { AreInRange params }
+    requires distinct { IsDistinct params }
+    ensures ok { OnOk result (signed_under label.now params message.old base.now secret.now ≡ Some message.new) }
     ensures err { OnErr result (cut (length message.old.fields) message.new ≡ message.old) }
 {
     add_digest(alloc, message)?;
-    let list = signature_input(alloc, message, id, created, tag)?;
+    let list = input_under(alloc, message, params)?;
     let bytes = signature_of(alloc, message, base, &list, secret)?;
-    let lines = signature_lines(alloc, list, bytes)?;
+    let lines = signature_lines(alloc, label, list, bytes)?;
     message.fields.append(lines)
 }
 
@@ -197,6 +197,7 @@ fn cut(alloc: Global, message: &mut Message, kept: usize)
 /// The base is scheme, `://` and authority, without a `/` at its end. `created` is in seconds since 1970. The id and the tag hold characters from SP to `~`.
 /// Fields are added behind the others: `content-digest` (RFC 9530) where there is a body and no such field, then `signature-input` and `signature`, each with one member under the label `sig1`. The parameters are `created`, `keyid` and `tag`.
 /// HasSignature comes exactly where a `signature-input` or a `signature` field is there already. An `Err` changes nothing.
+#[tactic(auto, unfolding(crate::specs::Signed::signed))]
 pub fn sign(
     alloc: Global,
     message: &mut Message,
@@ -216,8 +217,11 @@ pub fn sign(
     if has_signature(message) {
         return Err(SignFault::HasSignature);
     }
+    let Ok(params) = params_of(alloc, id, created, tag) else {
+        return Err(SignFault::OutOfMemory);
+    };
     let kept = message.fields.len();
-    if add_signature(alloc, message, base, id, secret, created, tag).is_err() {
+    if add_signature(alloc, message, base, b"sig1", params, secret).is_err() {
         cut(alloc, message, kept);
         return Err(SignFault::OutOfMemory);
     }

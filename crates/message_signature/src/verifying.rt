@@ -11,7 +11,7 @@ ghost use Rattle.message_signature.specs.declared.fault.SigFault.TheVariants.{No
 ghost use Rattle.message_signature.specs.Components.{field_value, text_of};
 ghost use Rattle.message_signature.specs.Base.{is_string, signature_base};
 ghost use Rattle.message_signature.specs.Faults.{Gives, need, must};
-ghost use Rattle.message_signature.specs.Verified.{is_text, tagged_list, with_tag, only_one, signature_under, is_integer, is_any_string, absent_or, is_well_formed, covers_enough, is_in_window, is_not_expired, key_in, has_right_digest, signature_fields, tagged_in, judged, verified};
+ghost use Rattle.message_signature.specs.Verified.{is_text, tagged_list, with_tag, only_one, signature_under, is_integer, is_any_string, absent_or, is_well_formed, covers_enough, is_in_window, is_not_expired, key_in, has_right_digest, signature_fields, tagged_in, judged_over, judged, verified};
 
 use crate::base::{base_of, is_named, is_string};
 use crate::components::{FieldValue, field_value, has_body, has_field};
@@ -268,6 +268,35 @@ fn has_right_digest(alloc: Global, message: &Message) -> Result<bool, Mem>
     }
 }
 
+// Judges a signature whose base is made.
+#[tactic(auto, unfolding(crate::specs::Verified::judged_over))]
+fn judged_over(
+    alloc: Global,
+    message: &Message,
+    ring: &Keyring,
+    now: u64,
+    list: &InnerList,
+    bytes: &Bytes,
+    text: &Bytes,
+) -> Result<Bytes, SigFault>
+    ensures { Gives (λ id. id) result (judged_over message.now ring.now now (list.now, bytes.now) text.now) }
+{
+    must(SigFault::Uncovered, covers_enough(message, list))?;
+    must(
+        SigFault::Created,
+        is_in_window(now, list.params.get(b"created")),
+    )?;
+    must(
+        SigFault::Expired,
+        is_not_expired(now, list.params.get(b"expires")),
+    )?;
+    must(SigFault::Alg, is_right_alg(list.params.get(b"alg")))?;
+    let (id, secret) = key_of(ring, list)?;
+    must(SigFault::Differs, is_hmac(bytes, secret, text))?;
+    must(SigFault::Digest, has_right_digest(alloc, message)?)?;
+    Ok(id.copy()?)
+}
+
 #[tactic(auto, unfolding(crate::specs::Verified::judged))]
 fn judged(
     alloc: Global,
@@ -281,20 +310,7 @@ fn judged(
     ensures { Gives (λ id. id) result (judged message.now base.now ring.now now (list.now, bytes.now)) }
 {
     let text = base_under(alloc, message, base, list)?;
-    must(SigFault::Uncovered, covers_enough(message, list))?;
-    must(
-        SigFault::Created,
-        is_in_window(now, list.params.get(b"created")),
-    )?;
-    must(
-        SigFault::Expired,
-        is_not_expired(now, list.params.get(b"expires")),
-    )?;
-    must(SigFault::Alg, is_right_alg(list.params.get(b"alg")))?;
-    let (id, secret) = key_of(ring, list)?;
-    must(SigFault::Differs, is_hmac(bytes, secret, &text))?;
-    must(SigFault::Digest, has_right_digest(alloc, message)?)?;
-    Ok(id.copy()?)
+    judged_over(alloc, message, ring, now, list, bytes, &text)
 }
 
 /// The id of the key that signed a message which came to the server with this base (RFC 9421, section 3.2). The signature is the one whose parameter `tag` is this tag, and others are passed over; it is the HMAC-SHA-256 (section 3.3.3) of the signature base (section 2.5) under a key of the ring.

@@ -7,18 +7,18 @@ use Rattle.message_signature.proofs.Lines.{lines_start, lines_more, lines_failed
 use Rattle.message_signature.proofs.base.lines_of.Goals as goal
 
 pub loop-i-init : goal.loop-i-init
-loop-i-init c = rw c.new-text.ensures (lines_start (base_lines c.args.message.now c.args.base.now c.args.items.now))
+loop-i-init g c = rw c.new-text.ensures (lines_start (base_lines (g.L.ComponentLines.line c.args.lines.now) c.args.items.now))
 
 pub loop-i-preserved : goal.loop-i-preserved
-loop-i-preserved c = lines_more c.args.message.now c.args.base.now c.args.items.now c.loop-i.i c.at.result.now c.loop-i.text c.at.ensures c.loop-i.invariant c.in_ok-text.text
+loop-i-preserved g c = lines_more (g.L.ComponentLines.line c.args.lines.now) c.args.items.now c.loop-i.i c.at.result.now c.loop-i.text c.at.ensures c.loop-i.invariant c.in_ok-text.text
     (rw c.others_behind.ensures at c.in_ok-text.ensures)
 
 pub returns-in_err-text : goal.returns-in_err-text
-returns-in_err-text c = let p = err_from_is_err_and c.from_residual.result c.from_residual.ensures.1 in rw (p.1, p.2)
-    (lines_failed c.args.message.now c.args.base.now c.args.items.now c.loop-i.i c.at.result.now c.loop-i.text c.at.ensures c.loop-i.invariant c.in_err-text.field-0.0
+returns-in_err-text g c = let p = err_from_is_err_and c.from_residual.result c.from_residual.ensures.1 in rw (p.1, p.2)
+    (lines_failed (g.L.ComponentLines.line c.args.lines.now) c.args.items.now c.loop-i.i c.at.result.now c.loop-i.text c.at.ensures c.loop-i.invariant c.in_err-text.field-0.0
     (rw c.others_behind.ensures at c.in_err-text.ensures))
 
 pub returns : goal.returns
-returns c =
+returns g c =
     let none = drop_all c.loop-i.i c.args.items.now (omega arith) in
-    sym c.loop-i.invariant ∙ ap (λ items. option_map (λ t. c.loop-i.text ++ t) (base_lines c.args.message.now c.args.base.now items)) none ∙ lines_end c.args.message.now c.args.base.now c.loop-i.text
+    sym c.loop-i.invariant ∙ ap (λ items. option_map (λ t. c.loop-i.text ++ t) (base_lines (g.L.ComponentLines.line c.args.lines.now) items)) none ∙ lines_end (g.L.ComponentLines.line c.args.lines.now) c.loop-i.text
