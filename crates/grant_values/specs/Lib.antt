@@ -1,0 +1,3 @@
+pub mod TokenRequests
+pub mod Interactions
+pub mod Grants
