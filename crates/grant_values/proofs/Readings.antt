@@ -18,6 +18,13 @@ bind_ok (Err e) f y is = absurd cc
 pub same_ok : {E A : Type 0} (x y : A) → ◌≡◌ {A = Result A E} (Ok x) (Ok y) → x ≡ y
 same_ok x y is = cc
 
+-- what follows from an equation, of values whose type goes without a name here
+pub along : {A B : Type 0} {x y : A} → x ≡ y → (f : A → B) → f x ≡ f y
+along is f = ap f is
+
+pub carried : {A : Type 0} {x y : A} → x ≡ y → (P : A → Type 0) → P x → P y
+carried is P p = subst P is p
+
 -- ---- tests
 
 -- a test that refuses

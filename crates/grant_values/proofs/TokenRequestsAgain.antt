@@ -16,13 +16,11 @@ use Rattle.gnap_model.specs.declared.rights.Right.{Right}
 use Rattle.gnap_model.specs.declared.objects.Ask.{Ask}
 use Rattle.gnap_objects.specs.declared.fault.ObjectFault.{ObjectFault}
 use Rattle.gnap_objects.specs.declared.fault.ObjectFault.TheVariants as faults
-use Rattle.gnap_objects.specs.declared.token_requests.TokenRequest.{TokenRequest}
-use Rattle.gnap_objects.specs.declared.token_requests.TokenRequests.{TokenRequests}
 use Rattle.gnap_objects.specs.Fits.{AskFits}
 use Rattle.gnap_objects.specs.Reading.{required, under, rights_under, counted_rights, text_of, sized, checked}
 use Rattle.gnap_objects.specs.TokenRequests.{access_of, has_label, label_in, label_of, flags_in, flags_of, token_request_of, object_request, token_requests_from, counted_requests, single_request, requests_in, requests_under, token_requests_of}
 use Rattle.grant_values.specs.TokenRequests.{asked_flags, token_request_fields, token_request_data, token_requests_data}
-use Rattle.grant_values.proofs.Readings.{bind_ok, same_ok, twice_not, sized_again, checked_again, text_again, or_none, found}
+use Rattle.grant_values.proofs.Readings.{bind_ok, same_ok, along, carried, twice_not, sized_again, checked_again, text_again, or_none, found}
 use Rattle.grant_values.proofs.RightsAgain.{rights_again}
 
 -- ---- access
@@ -88,19 +86,16 @@ flags_again e bearer there = ap flags_in there ∙ flags_in_again bearer
 
 -- ---- a token request
 
-abbrev once : Ask → TokenRequest
-once ask = record { ask = ask; repeats_flag = false }
-
 taken : {E A : Type 0} (b : Bool) (e : E) (r : Result A E) (y : A) → (if b then r else Err e) ≡ Ok y → r ≡ Ok y
 taken true e r y is = is
 taken false e r y is = absurd cc
 
 request_parts : (needed : Bool) (before : List Ask) (ask : Ask) (d : Data) → access_of d ≡ Ok ask.rights → label_of needed before d ≡ Ok ask.label
-    → flags_of d ≡ Ok (record { bearer = ask.bearer; repeated = false }) → object_request needed before d ≡ Ok (once ask)
+    → flags_of d ≡ Ok (record { bearer = ask.bearer; repeated = false }) → object_request needed before d ≡ Ok (record { ask = ask; repeats_flag = false })
 request_parts needed before ask d access label flags = rw (access, label, flags) refl
 
 printed_request : (needed : Bool) (before : List Ask) (d : Data) (ask : Ask) → access_of d ≡ Ok ask.rights → label_of needed before d ≡ Ok ask.label → AskFits ask
-    → token_request_of needed before (token_request_data ask) ≡ Ok (once ask)
+    → token_request_of needed before (token_request_data ask) ≡ Ok (record { ask = ask; repeats_flag = false })
 unfolding token_request_of token_request_data
 printed_request needed before d ask access label fits =
     let e = object_of (token_request_fields ask) in
@@ -110,38 +105,33 @@ printed_request needed before d ask access label fits =
     (label_again needed before d e ask.label label (found (codes "label") fs ∙ or_none _))
     (flags_again e ask.bearer (found (codes "flags") fs ∙ or_none _))
 
-request_again : (needed : Bool) (before : List Ask) (d : Data) (t : TokenRequest) → token_request_of needed before d ≡ Ok t → AskFits t.ask
-    → token_request_of needed before (token_request_data t.ask) ≡ Ok (once t.ask)
+request_again : (needed : Bool) (before : List Ask) (d : Data) (t : _) → token_request_of needed before d ≡ Ok t → AskFits t.ask
+    → token_request_of needed before (token_request_data t.ask) ≡ Ok (record { ask = t.ask; repeats_flag = false })
 unfolding token_request_of
 request_again needed before d t is fits =
     let whole = taken (is_some (as_object d)) _ (object_request needed before d) t is in
     let access = bind_ok (access_of d) _ t whole in
     let label = bind_ok (label_of needed before d) _ t access.2 in
     let flags = bind_ok (flags_of d) _ t label.2 in
-    let made : TokenRequest = record { ask = record { label = label.0; rights = access.0; bearer = flags.0.bearer }; repeats_flag = flags.0.repeated } in
-    let same = same_ok made t flags.2 in
-    printed_request needed before d t.ask (access.1 ∙ ap (λ (x : TokenRequest). Ok x.ask.rights) same) (label.1 ∙ ap (λ (x : TokenRequest). Ok x.ask.label) same) fits
+    let same = same_ok _ t flags.2 in
+    printed_request needed before d t.ask (access.1 ∙ ap Ok (along same (λ x. x.ask.rights))) (label.1 ∙ ap Ok (along same (λ x. x.ask.label))) fits
 
 -- ---- several of them
 
-abbrev array_of : List Ask → TokenRequests
-array_of asks = record { asks = asks; single = false; repeats_flag = false }
-
--- the requests that were read after those before, and how they are read again
-record Follows (before : List Ask) (ts : TokenRequests) : Type 0 where
+-- All these requests are those before and further ones, which are in an array. The further ones are read again behind those before.
+record Follows (before all : List Ask) (single : Bool) : Type 0 where
   asks : List Ask
-  all : ts.asks ≡ before ++ asks
-  listed : ts.single ≡ false
-  again : AllByRecursion AskFits asks → token_requests_from before false (items (map token_request_data asks)) ≡ Ok (array_of (before ++ asks))
+  all_are : all ≡ before ++ asks
+  listed : single ≡ false
+  again : AllByRecursion AskFits asks → token_requests_from before false (items (map token_request_data asks)) ≡ token_requests_from (before ++ asks) false no_items
 
-follows : (before : List Ask) (repeats : Bool) (ds : Items) (ts : TokenRequests) → token_requests_from before repeats ds ≡ Ok ts → Follows before ts
+follows : (before : List Ask) (repeats : Bool) (ds : Items) (ts : _) → token_requests_from before repeats ds ≡ Ok ts → Follows before ts.asks ts.single
 follows before repeats no_items ts is =
-    let none : TokenRequests = record { asks = before; single = false; repeats_flag = repeats } in
-    subst (Follows before) (same_ok none ts is) (record {
+    carried (same_ok _ ts is) (λ x. Follows before x.asks x.single) (record {
       asks = [];
-      all = sym (append-nil before);
+      all_are = sym (append-nil before);
       listed = refl;
-      again = λ fits. ap (λ (xs : List Ask). Ok (array_of xs)) (sym (append-nil before));
+      again = λ fits. ap (λ (xs : List Ask). token_requests_from xs false no_items) (sym (append-nil before));
     })
 follows before repeats (item d ds) ts is =
     let first = bind_ok (token_request_of true before d) _ ts is in
@@ -149,52 +139,51 @@ follows before repeats (item d ds) ts is =
     let joined = append_assoc before (first.0.ask ∷ []) rest.asks in
     record {
       asks = first.0.ask ∷ rest.asks;
-      all = rest.all ∙ joined;
+      all_are = rest.all_are ∙ joined;
       listed = rest.listed;
-      again = λ fits. rw (request_again true before d first.0 first.1 fits.0) (rest.again fits.1 ∙ ap (λ (xs : List Ask). Ok (array_of xs)) joined);
+      again = λ fits. rw (request_again true before d first.0 first.1 fits.0) (rest.again fits.1 ∙ ap (λ (xs : List Ask). token_requests_from xs false no_items) joined);
     }
 
 -- ---- `access_token`
-
-abbrev pub unrepeated : TokenRequests → TokenRequests
-unrepeated ts = record { asks = ts.asks; single = ts.single; repeats_flag = false }
 
 no_array : (ask : Ask) → as_array (token_request_data ask) ≡ None
 unfolding token_request_data
 no_array ask = refl
 
 counted_array : (asks : List Ask) → (length asks == 0) ≡ false → nat_lt 8 (length asks) ≡ false
-    → token_requests_from [] false (items (map token_request_data asks)) ≡ Ok (array_of asks) → requests_under (token_requests_data false asks) ≡ Ok (array_of asks)
+    → token_requests_from [] false (items (map token_request_data asks)) ≡ token_requests_from asks false no_items
+    → requests_under (token_requests_data false asks) ≡ Ok (record { asks = asks; single = false; repeats_flag = false })
 counted_array [] some few read = absurd cc
 counted_array (ask ∷ asks) some few read = rw (read, some, few) refl
 
-requests_in_again : (d : Data) (o : Option Items) (ts : TokenRequests) → requests_in d o ≡ Ok ts → AllByRecursion AskFits ts.asks
-    → requests_under (token_requests_data ts.single ts.asks) ≡ Ok (unrepeated ts)
+requests_in_again : (d : Data) (o : Option Items) (ts : _) → requests_in d o ≡ Ok ts → AllByRecursion AskFits ts.asks
+    → requests_under (token_requests_data ts.single ts.asks) ≡ Ok (record { asks = ts.asks; single = ts.single; repeats_flag = false })
 requests_in_again d None ts is fits =
     let t = bind_ok (token_request_of false [] d) _ ts is in
-    let alone : TokenRequests = record { asks = t.0.ask ∷ []; single = true; repeats_flag = t.0.repeats_flag } in
-    let same = same_ok alone ts t.2 in
-    let fit = subst (λ (x : TokenRequests). AllByRecursion AskFits x.asks) (sym same) fits in
-    subst (λ (x : TokenRequests). requests_under (token_requests_data x.single x.asks) ≡ Ok (unrepeated x)) same
+    let same = same_ok _ ts t.2 in
+    let fit = carried (sym same) (λ x. AllByRecursion AskFits x.asks) fits in
+    carried same (λ x. requests_under (token_requests_data x.single x.asks) ≡ Ok (record { asks = x.asks; single = x.single; repeats_flag = false }))
     (rw (no_array t.0.ask, request_again false [] d t.0 t.1 fit.0) refl)
 requests_in_again d (Some ds) ts is fits =
     let us = bind_ok (token_requests_from [] false ds) counted_requests ts is in
     let counts = twice_not (length us.0.asks == 0) (nat_lt 8 (length us.0.asks)) _ _ us.0 ts us.2 in
     let rest = follows [] false ds us.0 us.1 in
-    let asks : us.0.asks ≡ ts.asks = ap (λ (x : TokenRequests). x.asks) counts.2 in
-    let own : rest.asks ≡ ts.asks = sym rest.all ∙ asks in
-    let array : ts.single ≡ false = ap (λ (x : TokenRequests). x.single) (sym counts.2) ∙ rest.listed in
-    let some : (length ts.asks == 0) ≡ false = subst (λ (xs : List Ask). (length xs == 0) ≡ false) asks counts.0 in
-    let few : nat_lt 8 (length ts.asks) ≡ false = subst (λ (xs : List Ask). nat_lt 8 (length xs) ≡ false) asks counts.1 in
-    let read = subst (λ (xs : List Ask). AllByRecursion AskFits xs → token_requests_from [] false (items (map token_request_data xs)) ≡ Ok (array_of xs)) own rest.again fits in
-    rw array (counted_array ts.asks some few read)
+    let asks : us.0.asks ≡ ts.asks = along counts.2 (λ x. x.asks) in
+    let own : rest.asks ≡ ts.asks = sym rest.all_are ∙ asks in
+    let listed : ts.single ≡ false = along (sym counts.2) (λ x. x.single) ∙ rest.listed in
+    let some : (length ts.asks == 0) ≡ false = carried asks (λ xs. (length xs == 0) ≡ false) counts.0 in
+    let few : nat_lt 8 (length ts.asks) ≡ false = carried asks (λ xs. nat_lt 8 (length xs) ≡ false) counts.1 in
+    let again = λ (xs : List Ask). AllByRecursion AskFits xs → token_requests_from [] false (items (map token_request_data xs)) ≡ token_requests_from xs false no_items in
+    let read = carried own again rest.again fits in
+    rw listed (counted_array ts.asks some few read)
 
-requests_under_again : (o : Option Data) (ts : TokenRequests) → requests_under o ≡ Ok ts → AllByRecursion AskFits ts.asks → requests_under (token_requests_data ts.single ts.asks) ≡ Ok (unrepeated ts)
+requests_under_again : (o : Option Data) (ts : _) → requests_under o ≡ Ok ts → AllByRecursion AskFits ts.asks
+    → requests_under (token_requests_data ts.single ts.asks) ≡ Ok (record { asks = ts.asks; single = ts.single; repeats_flag = false })
 requests_under_again None ts is fits =
-    subst (λ (x : TokenRequests). requests_under (token_requests_data x.single x.asks) ≡ Ok (unrepeated x)) (same_ok (array_of []) ts is) refl
+    carried (same_ok _ ts is) (λ x. requests_under (token_requests_data x.single x.asks) ≡ Ok (record { asks = x.asks; single = x.single; repeats_flag = false })) refl
 requests_under_again (Some d) ts is fits = requests_in_again d (as_array d) ts is fits
 
-pub requests_again : (d e : Data) (ts : TokenRequests) → token_requests_of d ≡ Ok ts → AllByRecursion AskFits ts.asks → get (codes "access_token") e ≡ token_requests_data ts.single ts.asks
-    → token_requests_of e ≡ Ok (unrepeated ts)
+pub requests_again : (d e : Data) (ts : _) → token_requests_of d ≡ Ok ts → AllByRecursion AskFits ts.asks → get (codes "access_token") e ≡ token_requests_data ts.single ts.asks
+    → token_requests_of e ≡ Ok (record { asks = ts.asks; single = ts.single; repeats_flag = false })
 unfolding token_requests_of
 requests_again d e ts is fits there = ap requests_under there ∙ requests_under_again (get (codes "access_token") d) ts is fits
