@@ -1,5 +1,5 @@
 -- Requests that were read and printed are read again.
-use Rattle.std.proofs.Common.{◌≡◌, ◌∙◌, ℕ, List, [], ◌∷◌, length, Bool, true, false, not, Option, Some, None, option_map, Result, Ok, Err, codes, refl, sym, ap, subst}
+use Rattle.std.proofs.Common.{◌≡◌, ◌∙◌, ℕ, List, length, Bool, true, false, not, Option, Some, None, option_map, Ok, codes, refl, sym, ap, subst}
 use Rattle.std.specs.Prelude.{◌==◌, ◌&&◌, is_some}
 use Rattle.serde_json.specs.Data.{Data, string}
 use Rattle.serde_json.specs.Find.{get, as_str, as_object}
@@ -8,7 +8,6 @@ use Rattle.json_objects.specs.Reading.{◌>>=◌, or_fault}
 use Rattle.gnap_model.specs.declared.objects.Ask.{Ask}
 use Rattle.gnap_model.specs.declared.objects.Modes.{Modes}
 use Rattle.gnap_model.specs.declared.objects.GrantRequest.{GrantRequest}
-use Rattle.gnap_objects.specs.declared.fault.ObjectFault.{ObjectFault}
 use Rattle.gnap_objects.specs.declared.fault.ObjectFault.TheVariants as faults
 use Rattle.gnap_objects.specs.Fits.{RequestFits}
 use Rattle.gnap_objects.specs.Forms.{is_id}
@@ -18,7 +17,7 @@ use Rattle.gnap_objects.specs.Users.{subject_in, subject_request_of, first_opaqu
 use Rattle.gnap_objects.specs.Interactions.{interact_of}
 use Rattle.gnap_objects.specs.Grants.{some_asked, client_of, named_user_of, asks_too_much, checked_size, grant_body_of, checked_flags, request_of}
 use Rattle.grant_values.specs.Grants.{subject_request_data, client_data, grant_fields, grant_data}
-use Rattle.grant_values.specs.Laws.{IsRead, ReadsBack}
+use Rattle.grant_values.specs.Laws.{ReadsBack}
 use Rattle.grant_values.proofs.Readings.{bind_ok, same_ok, along, carried, refused_not, accepted, sized_again, optional_again, or_none, found}
 use Rattle.grant_values.proofs.TokenRequestsAgain.{requests_again}
 use Rattle.grant_values.proofs.InteractionsAgain.{interact_again}

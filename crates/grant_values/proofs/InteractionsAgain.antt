@@ -1,19 +1,18 @@
 -- Ways to interact that were read and printed are read again.
-use Rattle.std.proofs.Common.{◌≡◌, ◌∙◌, ℕ, List, [], ◌∷◌, ◌++◌, map, Bool, true, false, Option, Some, None, option_map, Result, Ok, Err, codes, refl, sym, ap, subst}
+use Rattle.std.proofs.Common.{◌≡◌, ◌∙◌, ℕ, List, map, Bool, true, false, Option, Some, option_map, Ok, codes, refl, ap}
 use Rattle.std.specs.List.{list_any}
 use Rattle.std.specs.Str.{bytes_eq}
 use Rattle.serde_json.specs.Data.{Data, string, Items}
-use Rattle.serde_json.specs.Find.{get, as_array}
+use Rattle.serde_json.specs.Find.{get}
 use Rattle.json_objects.specs.Objects.{items, object_of, texts_data}
-use Rattle.json_objects.specs.Reading.{◌>>=◌, or_fault}
+use Rattle.json_objects.specs.Reading.{◌>>=◌}
 use Rattle.interaction.specs.Uris.{uri_fits}
 use Rattle.gnap_model.specs.declared.objects.Finish.{Finish}
 use Rattle.gnap_model.specs.declared.objects.Modes.{Modes}
-use Rattle.gnap_objects.specs.declared.fault.ObjectFault.{ObjectFault}
 use Rattle.gnap_objects.specs.declared.fault.ObjectFault.TheVariants as faults
-use Rattle.gnap_objects.specs.Reading.{optional, checked_object, required, required_items, required_text, has_string, text_of, sized, checked}
+use Rattle.gnap_objects.specs.Reading.{optional, checked_object, required_items, required_text, has_string, text_of, sized, checked}
 use Rattle.gnap_objects.specs.Interactions.{push_in, push_of, finish_uri_of, nonce_of, hash_in, long_of, asked_finish_of, optional_finish_of, offered_modes_of, interact_of}
-use Rattle.grant_values.specs.Interactions.{finish_method, hash_method_data, finish_fields, finish_data, listed_if, starts_of, modes_fields, modes_data}
+use Rattle.grant_values.specs.Interactions.{finish_method, hash_method_data, finish_fields, finish_data, starts_of, modes_fields, modes_data}
 use Rattle.grant_values.proofs.Readings.{bind_ok, same_ok, sized_again, checked_again, texts_again, required_text_again, optional_again, or_none, found}
 
 -- ---- finish

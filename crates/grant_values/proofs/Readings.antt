@@ -1,5 +1,5 @@
 -- What was read passes the tests that it has passed once more, and a member that was printed is found.
-use Rattle.std.proofs.Common.{◌≡◌, ◌∙◌, ℕ, List, [], ◌∷◌, length, map, Bool, true, false, not, Option, Some, None, option_map, Result, Ok, Err, nat_lt, refl, sym, ap, subst}
+use Rattle.std.proofs.Common.{◌≡◌, ℕ, List, [], ◌∷◌, length, map, Bool, true, false, Option, Some, None, option_map, Result, Ok, Err, nat_lt, refl, ap, subst}
 use Rattle.std.specs.Prelude.{if◌then◌else◌, ◌==◌}
 use Rattle.serde_json.specs.Data.{Data, string, no_members}
 use Rattle.serde_json.specs.Find.{get}
@@ -18,7 +18,7 @@ bind_ok (Err e) f y is = absurd cc
 pub same_ok : {E A : Type 0} (x y : A) → ◌≡◌ {A = Result A E} (Ok x) (Ok y) → x ≡ y
 same_ok x y is = cc
 
--- what follows from an equation, of values whose type goes without a name here
+-- what follows from an equation between values of a type that has no name outside its crate
 pub along : {A B : Type 0} {x y : A} → x ≡ y → (f : A → B) → f x ≡ f y
 along is f = ap f is
 
@@ -43,10 +43,7 @@ pub accepted : {E A : Type 0} (b : Bool) (e : E) (x y : A) → (if b then Ok x e
 accepted true e x y is = (refl, cc)
 accepted false e x y is = absurd cc
 
--- a text of its length is one, whatever the member's name
-pub sized_same : (most : ℕ) (name s t : List ℕ) → sized most name s ≡ Ok t → s ≡ t
-sized_same most name s t is = (twice_not (length s == 0) (nat_lt most (length s)) _ _ s t is).2
-
+-- a text of its length is one under whatever member
 pub sized_again : (most : ℕ) (name other s t : List ℕ) → sized most name s ≡ Ok t → sized most other t ≡ Ok t
 sized_again most name other s t is =
     let parts = twice_not (length s == 0) (nat_lt most (length s)) _ _ s t is in

@@ -1,5 +1,5 @@
 -- Rights that were read and printed are read again.
-use Rattle.std.proofs.Common.{◌≡◌, ◌∙◌, ℕ, List, [], ◌∷◌, length, map, Bool, true, false, cond, Option, Some, None, option_map, Result, Ok, Err, Ordering, Less, Equal, Greater, nat_cmp, nat_lt, codes, is_eq, refl, sym, ap, subst}
+use Rattle.std.proofs.Common.{◌≡◌, ◌∙◌, ℕ, List, [], ◌∷◌, length, map, true, cond, Option, Some, None, option_map, Result, Ok, Ordering, Less, Equal, Greater, nat_cmp, nat_lt, codes, is_eq, refl, sym, ap, subst}
 use Rattle.std.specs.Prelude.{◌==◌}
 use Rattle.std.specs.Cmp.Lexicographic.{slice_cmp}
 use Rattle.std.specs.List.{AllByRecursion}
@@ -7,7 +7,7 @@ use Rattle.std.specs.Ordering.{match_ordering}
 use Rattle.std.proofs.lemmas.Slice.Eq.{bytes_eq-Decides}
 use Rattle.std.proofs.lemmas.Map.Text.{is_eq-slice_cmp}
 use Rattle.serde_json.specs.Data.{Data, string, object, Items, no_items, item, Members, no_members, member, put}
-use Rattle.serde_json.specs.Find.{get, get_member, as_str, as_array, as_object}
+use Rattle.serde_json.specs.Find.{get, as_str, as_array, as_object}
 use Rattle.serde_json.specs.Read as json
 use Rattle.serde_json.specs.Written.{compact_text}
 use Rattle.json_objects.specs.Objects.{members_onto, items, texts_data}
@@ -17,7 +17,7 @@ use Rattle.access_rights.specs.declared.reading.RightsFault.{RightsFault}
 use Rattle.access_rights.specs.declared.reading.RightsFault.TheVariants as faults
 use Rattle.access_rights.specs.Fits.{is_own, HasOthersOnly, FitsObject, Fits}
 use Rattle.access_rights.specs.Printing.{members_read, right_fields, right_members, right_data, rights_data}
-use Rattle.access_rights.specs.Reading.{any_text, sized, type_of, counted, dimension_in, dimension_of, identifier_in, identifier_of, others, further_of, extent, few_atoms, atom_count, right_object_of, object_in, right_in, right_of, rights_of}
+use Rattle.access_rights.specs.Reading.{any_text, sized, type_of, counted, dimension_in, dimension_of, identifier_in, identifier_of, others, further_of, few_atoms, atom_count, right_object_of, object_in, right_in, right_of, rights_of}
 use Rattle.access_rights.proofs.Lengths.{get_member-others}
 use Rattle.gnap_model.specs.declared.rights.RightObject.{RightObject}
 use Rattle.gnap_model.specs.declared.rights.Right.{Right}

@@ -3,10 +3,10 @@ use Rattle.std.proofs.Common.{◌≡◌, ◌∙◌, ℕ, List, [], ◌∷◌, �
 use Rattle.std.specs.Prelude.{◌==◌, ◌||◌, is_some, if◌then◌else◌}
 use Rattle.std.proofs.lemmas.List.{append-nil}
 use Rattle.std.specs.List.{AllByRecursion, list_any}
-use Rattle.serde_json.specs.Data.{Data, string, array, object, Items, no_items, item}
+use Rattle.serde_json.specs.Data.{Data, string, array, Items, no_items, item}
 use Rattle.serde_json.specs.Find.{get, as_array, as_object}
 use Rattle.json_objects.specs.Objects.{items, object_of}
-use Rattle.json_objects.specs.Reading.{◌>>=◌, or_fault}
+use Rattle.json_objects.specs.Reading.{◌>>=◌}
 use Rattle.access_rights.specs.Fits.{Fits}
 use Rattle.access_rights.specs.Printing.{rights_data}
 use Rattle.access_rights.specs.Reading.{rights_of}
@@ -14,11 +14,10 @@ use Rattle.access_rights.specs.declared.reading.RightsFault.{RightsFault}
 use Rattle.access_rights.specs.declared.reading.RightsFault.TheVariants as rights_faults
 use Rattle.gnap_model.specs.declared.rights.Right.{Right}
 use Rattle.gnap_model.specs.declared.objects.Ask.{Ask}
-use Rattle.gnap_objects.specs.declared.fault.ObjectFault.{ObjectFault}
 use Rattle.gnap_objects.specs.declared.fault.ObjectFault.TheVariants as faults
 use Rattle.gnap_objects.specs.Fits.{AskFits}
 use Rattle.gnap_objects.specs.Reading.{required, under, rights_under, counted_rights, text_of, sized, checked}
-use Rattle.gnap_objects.specs.TokenRequests.{access_of, has_label, label_in, label_of, flags_in, flags_of, token_request_of, object_request, token_requests_from, counted_requests, single_request, requests_in, requests_under, token_requests_of}
+use Rattle.gnap_objects.specs.TokenRequests.{access_of, has_label, label_in, label_of, flags_in, flags_of, token_request_of, object_request, token_requests_from, counted_requests, requests_in, requests_under, token_requests_of}
 use Rattle.grant_values.specs.TokenRequests.{asked_flags, token_request_fields, token_request_data, token_requests_data}
 use Rattle.grant_values.proofs.Readings.{bind_ok, same_ok, along, carried, twice_not, sized_again, checked_again, text_again, or_none, found}
 use Rattle.grant_values.proofs.RightsAgain.{rights_again}

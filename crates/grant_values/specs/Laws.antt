@@ -1,5 +1,5 @@
 -- What holds of requests that are printed.
-use Rattle.std.specs.Prelude.{◌≡◌, Bool, Result, Ok}
+use Rattle.std.specs.Prelude.{◌≡◌, Bool, Ok}
 use Rattle.serde_json.specs.Data.{Data}
 use Rattle.gnap_model.specs.declared.objects.GrantRequest.{GrantRequest}
 use Rattle.gnap_objects.specs.Fits.{RequestFits}

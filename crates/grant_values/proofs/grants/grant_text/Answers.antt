@@ -1,4 +1,4 @@
-use Rattle.std.proofs.Common.{◌≡◌, ◌∙◌, ap}
+use Rattle.std.proofs.Common.{◌∙◌}
 use Rattle.serde_json.specs.View.{view}
 use Rattle.grant_values.proofs.WholeRequests.{text_is, text_read}
 use Rattle.grant_values.proofs.grants.grant_text.Goals as goal
