@@ -44,7 +44,7 @@ fn world(alloc: Global, text: Bytes, bad_reads: &[u64]) -> Result<MemWorld, Mem>
     Ok(MemWorld::new(files, Vec::new(alloc), Vec::new(alloc), Vec::new(alloc)))
 }
 
-fn words(alloc: Global, parts: &[&str]) -> Result<Vec<String>, Mem> {
+pub(crate) fn words(alloc: Global, parts: &[&str]) -> Result<Vec<String>, Mem> {
     let mut words = Vec::new(alloc);
     for part in parts {
         words.push(String::from_str(alloc, part)?)?;

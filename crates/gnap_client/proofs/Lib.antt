@@ -1,0 +1,4 @@
+pub mod Taken
+pub mod Fold
+pub mod Doors
+pub mod References
