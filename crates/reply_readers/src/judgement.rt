@@ -1,0 +1,15 @@
+//! What a resource server is told.
+use gnap_io::bytes::Bytes;
+use gnap_model::rights::Rights;
+
+/// What an introspection says of a token (RFC 9767, section 3.3).
+#[derive(Drop)]
+pub enum Judgement {
+    /// It is live, and has these rights.
+    Active {
+        access: Rights,
+        /// The key to which it is bound; a bearer token has none.
+        key: Option<Bytes>,
+    },
+    Inactive,
+}

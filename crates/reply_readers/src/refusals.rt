@@ -1,0 +1,96 @@
+//! Errors in replies (RFC 9635, section 3.6).
+ghost use Rattle.std.specs.Prelude.{◌≡◌};
+ghost use Rattle.std.specs.Str.{bytes_eq};
+ghost use Rattle.serde_json.specs.View.{view};
+ghost use Rattle.json_objects.specs.Reading.{Gives};
+ghost use Rattle.gnap_model.specs.Codes.{error_text};
+ghost use Rattle.gnap_replies.specs.Errors.{error_status};
+ghost use Rattle.reply_readers.specs.declared.members.FormFault.TheVariants.{OutOfMemory};
+ghost use Rattle.reply_readers.specs.Grants.{code_named, refused_of};
+
+use crate::grant_reply::GrantReply;
+use crate::members::{FormFault, needed, needed_text};
+use gnap_model::objects::ErrorCode;
+use serde_json::Value;
+use std::alloc::Global;
+
+fn is_code(text: &[u8], code: ErrorCode) -> bool
+    ensures { result ≡ bytes_eq text.now (error_text code) }
+{
+    text == code.text().as_bytes()
+}
+
+#[tactic(auto, unfolding(crate::specs::Grants::code_named))]
+fn code_named(text: &[u8]) -> Result<ErrorCode, FormFault>
+    ensures { Gives OutOfMemory (λ c. c) result (code_named text.now) }
+{
+    if is_code(text, ErrorCode::InvalidRequest) {
+        Ok(ErrorCode::InvalidRequest)
+    } else if is_code(text, ErrorCode::InvalidClient) {
+        Ok(ErrorCode::InvalidClient)
+    } else if is_code(text, ErrorCode::InvalidInteraction) {
+        Ok(ErrorCode::InvalidInteraction)
+    } else if is_code(text, ErrorCode::InvalidFlag) {
+        Ok(ErrorCode::InvalidFlag)
+    } else if is_code(text, ErrorCode::InvalidRotation) {
+        Ok(ErrorCode::InvalidRotation)
+    } else if is_code(text, ErrorCode::KeyRotationNotSupported) {
+        Ok(ErrorCode::KeyRotationNotSupported)
+    } else if is_code(text, ErrorCode::InvalidContinuation) {
+        Ok(ErrorCode::InvalidContinuation)
+    } else if is_code(text, ErrorCode::UserDenied) {
+        Ok(ErrorCode::UserDenied)
+    } else if is_code(text, ErrorCode::RequestDenied) {
+        Ok(ErrorCode::RequestDenied)
+    } else if is_code(text, ErrorCode::UnknownUser) {
+        Ok(ErrorCode::UnknownUser)
+    } else if is_code(text, ErrorCode::UnknownInteraction) {
+        Ok(ErrorCode::UnknownInteraction)
+    } else if is_code(text, ErrorCode::TooFast) {
+        Ok(ErrorCode::TooFast)
+    } else if is_code(text, ErrorCode::TooManyAttempts) {
+        Ok(ErrorCode::TooManyAttempts)
+    } else if is_code(text, ErrorCode::InvalidResourceServer) {
+        Ok(ErrorCode::InvalidResourceServer)
+    } else if is_code(text, ErrorCode::InvalidAccess) {
+        Ok(ErrorCode::InvalidAccess)
+    } else {
+        Err(FormFault::NotOfForm)
+    }
+}
+
+fn status_of(code: ErrorCode) -> u16
+    ensures { result ≡ error_status code }
+{
+    match code {
+        ErrorCode::InvalidClient
+        | ErrorCode::InvalidContinuation
+        | ErrorCode::InvalidResourceServer => 401,
+        ErrorCode::InvalidRequest
+        | ErrorCode::InvalidInteraction
+        | ErrorCode::InvalidFlag
+        | ErrorCode::InvalidRotation
+        | ErrorCode::KeyRotationNotSupported
+        | ErrorCode::UserDenied
+        | ErrorCode::RequestDenied
+        | ErrorCode::UnknownUser
+        | ErrorCode::UnknownInteraction
+        | ErrorCode::TooFast
+        | ErrorCode::TooManyAttempts
+        | ErrorCode::InvalidAccess => 400,
+    }
+}
+
+#[tactic(auto, unfolding(crate::specs::Grants::refused_of))]
+pub(crate) fn refused_of(alloc: Global, status: u16, value: &Value) -> Result<GrantReply, FormFault>
+    ensures { Gives OutOfMemory (λ r. r) result (refused_of status (view value.now)) }
+{
+    let error = needed(value, "error")?;
+    let text = needed_text(alloc, error, "code")?;
+    let code = code_named(text.as_slice())?;
+    if status == status_of(code) {
+        Ok(GrantReply::Refused { code })
+    } else {
+        Err(FormFault::NotOfForm)
+    }
+}
