@@ -31,5 +31,5 @@ client_config_of text = do
   resource ← in_setup (base_of (codes "resource") d)
   id ← in_setup (client_id_of d)
   secret ← in_setup (secret_of d)
-  no_others ← in_setup (without_others config_members d tt)
+  no_others ← in_setup (without_others config_members d (tt {0}))
   Ok (server, resource, id, secret)
