@@ -17,7 +17,7 @@ use Rattle.gnap_client.specs.declared.client.Client.{Client}
 use Rattle.gnap_client.specs.Received.{nothing_received, is_end, after_reply, after_read, received_after, ClientFits}
 use Rattle.gnap_client.specs.Calls.{HasAsked}
 use Rattle.gnap_client.specs.Taking.{Takes, HasTaken}
-use Rattle.gnap_client.specs.Laws.{CallsFit, RepliesFit, TakesMore, one, none, door_in, newest, DoorIsLast}
+use Rattle.gnap_client.specs.Laws.{CallsFit, RepliesFit, IsUntaken, TakesMore, one, none, door_in, newest, DoorIsLast}
 
 -- a client that holds the same
 kept : (config : ClientConfig) (taken : List (Asked × ReadReply)) (old new : Client) → ClientFits config taken old
@@ -49,11 +49,11 @@ with_one config taken old new bytes result fits t = (
 )
 
 with_none : (config : ClientConfig) (taken : List (Asked × ReadReply)) (old new : Client) (bytes : List ℕ) (result : Result Took ClientFault)
-    → ClientFits config taken old → new ≡ old → More config taken old new bytes result
+    → IsUntaken result → ClientFits config taken old → new ≡ old → More config taken old new bytes result
 unfolding More
-with_none config taken old new bytes result fits same = (
+with_none config taken old new bytes result untaken fits same = (
   [],
-  none,
+  none untaken,
   subst (λ (ts : List (Asked × ReadReply)). ClientFits config ts new) (sym (append-nil taken)) (unchanged config taken old new fits same),
 )
 
@@ -61,9 +61,9 @@ by_answer : (config : ClientConfig) (taken : List (Asked × ReadReply)) (old new
     → ClientFits config taken old → HasTaken old bytes new result → More config taken old new bytes result
 by_answer config taken old new bytes (Ok took) fits t = with_one config taken old new bytes (Ok took) fits t
 by_answer config taken old new bytes (Err (faults.Refused code)) fits t = with_one config taken old new bytes (Err (faults.Refused code)) fits t
-by_answer config taken old new bytes (Err faults.NotInGrammar) fits t = with_none config taken old new bytes _ fits t.same
-by_answer config taken old new bytes (Err (faults.WrongState state)) fits t = with_none config taken old new bytes _ fits t.2
-by_answer config taken old new bytes (Err faults.OutOfMemory) fits t = with_none config taken old new bytes _ fits t
+by_answer config taken old new bytes (Err faults.NotInGrammar) fits t = with_none config taken old new bytes (Err faults.NotInGrammar) tt fits t.same
+by_answer config taken old new bytes (Err (faults.WrongState state)) fits t = with_none config taken old new bytes (Err (faults.WrongState state)) tt fits t.2
+by_answer config taken old new bytes (Err faults.OutOfMemory) fits t = with_none config taken old new bytes (Err faults.OutOfMemory) tt fits t
 by_answer config taken old new bytes (Err (faults.HashDiffers wanted found)) fits t = absurd t
 by_answer config taken old new bytes (Err (faults.NoToken held)) fits t = absurd t
 by_answer config taken old new bytes (Err faults.LinkFault) fits t = absurd t

@@ -21,11 +21,17 @@ abbrev pub CallsFit : Type 0
 CallsFit = (config : ClientConfig) (taken : List (Asked × ReadReply)) (old new : Client) (due : Result DueRequest ClientFault) (now : ℕ)
     (result : Result (List ℕ) ClientFault) → ClientFits config taken old → HasAsked due now old new result → ClientFits config taken new
 
+-- the answer tells that no reply was taken
+abbrev pub IsUntaken : Result Took ClientFault → Type 0
+IsUntaken (Ok took) = ⊥
+IsUntaken (Err (faults.Refused code)) = ⊥
+IsUntaken (Err fault) = Unit {0}
+
 -- the one reply that was taken, with the outstanding request; none where none was
 pub data TakesMore (old : Client) (bytes : List ℕ) (result : Result Took ClientFault) : List (Asked × ReadReply) → Type 0 where
   one : (asked : Asked) → (reading : ReadReply) → old.asked ≡ Some asked → Reads asked bytes reading → result ≡ took_of reading
       → TakesMore old bytes result ((asked, reading) ∷ [])
-  none : TakesMore old bytes result []
+  none : IsUntaken result → TakesMore old bytes result []
 
 -- a reply that is taken stands behind those before it
 abbrev pub RepliesFit : Type 0

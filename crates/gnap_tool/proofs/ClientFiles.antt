@@ -40,17 +40,12 @@ chained_next first (one ∷ entries) entry last chained same = (chained.0, chain
 none-had : (first : Client) (asked : List Exchange) → ScriptHad first asked first asked []
 none-had first asked = record { each = tt; chained = refl; adds = sym (append-nil asked) }
 
-script-start : (first : Client) (asked : List Exchange) (held : List ℕ) (taken : ℕ) (source out : Told) → length held ≤ taken
+pub script-start : (first : Client) (asked : List Exchange) (held : List ℕ) (taken : ℕ) (source out : Told) → length held ≤ taken
     → ScriptGoes first asked first asked true held held taken taken source source out out
 script-start first asked held taken source out few = record {
   goes = goes-start (ScriptHad first asked first asked) held taken source out (none-had first asked) few;
   fine_is = refl;
 }
-
--- before the first line
-pub script-begin : (first : Client) (asked : List Exchange) (held : List ℕ) (taken : ℕ) (source out : Told) → asked ≡ [] → held ≡ [] → taken ≡ 0
-    → ScriptGoes first [] first asked true [] held 0 taken source source out out
-script-begin first asked held taken source out unasked none zero = rw (unasked, none, zero) (script-start first [] [] 0 source out (omega arith))
 
 -- the endings that a script has as all lines have them
 module _ (Had : List ScriptTurn → Type 0) (held : List ℕ) (taken taken2 : ℕ) (s s2 o o2 : Told) where
@@ -185,10 +180,11 @@ module _ (first : Client) (asked : List Exchange) (last : Client) (asked1 : List
         ))
 
 -- what that is of the whole script, of which nothing was read before
-pub script_account : (first last : Client) (asked : List Exchange) (held : List ℕ) (taken2 : ℕ) (s s2 o o2 : Told) (ended : Ended) → held ≡ [] → s.taken ≡ []
-    → RunsLines (ScriptHad first [] last asked) EndsScript held 0 taken2 s s2 o o2 ended → (rest : List ℕ) → IsRest s2 rest
-    → RunsScript first s2.taken rest asked o o2 ended
-script_account first last asked held taken2 s s2 o o2 ended none fresh r rest known =
+pub script_account : (first last : Client) (asked asked2 : List Exchange) (held : List ℕ) (taken taken2 : ℕ) (s s2 o o2 : Told) (ended : Ended)
+    → asked ≡ [] → held ≡ [] → s.taken ≡ []
+    → RunsLines (ScriptHad first asked last asked2) EndsScript held taken taken2 s s2 o o2 ended → (rest : List ℕ) → IsRest s2 rest
+    → RunsScript first s2.taken rest asked2 o o2 ended
+script_account first last asked asked2 held taken taken2 s s2 o o2 ended unasked none fresh r rest known =
     let l = r.lines rest known in
     let text : s2.taken ≡ r.bytes = r.came.takes.taken ∙ ap (λ (t : List ℕ). t ++ r.bytes) fresh in
     let front : held ++ r.bytes ≡ s2.taken = ap (λ (t : List ℕ). t ++ r.bytes) none ∙ sym text in
@@ -200,7 +196,7 @@ script_account first last asked held taken2 s s2 o o2 ended none fresh r rest kn
       each = r.had.each;
       last = last;
       chained = r.had.chained;
-      exchanges_are = r.had.adds;
+      exchanges_are = r.had.adds ∙ ap (λ (es : List Exchange). es ++ exchanges_in (entries_in r.turns)) unasked;
       sent = r.sent;
       told = r.prints;
       later = l.0;
@@ -209,12 +205,15 @@ script_account first last asked held taken2 s s2 o o2 ended none fresh r rest kn
     }
 
 -- as many bytes were counted as were taken
-pub script_took : (taken2 : ℕ) (s s2 : Told) (ended : Ended) → s.taken ≡ []
-    → (came : (bytes : List ℕ) × Came bytes 0 taken2 s s2) → EndsAt ended taken2 s2 → Took ended s2
-script_took taken2 s s2 ended fresh came at =
-    let text : s2.taken ≡ came.0 = came.1.takes.taken ∙ ap (λ (t : List ℕ). t ++ came.0) fresh in
-    let count : taken2 ≡ length s2.taken = came.1.counted ∙ (let size = ap length text in omega (arith, size)) in
+pub script_took : (bytes : List ℕ) (taken taken2 : ℕ) (s s2 : Told) (ended : Ended) → s.taken ≡ [] → taken ≡ 0 → Came bytes taken taken2 s s2 → EndsAt ended taken2 s2
+    → Took ended s2
+script_took bytes taken taken2 s s2 ended fresh zero came at =
+    let text : s2.taken ≡ bytes = came.takes.taken ∙ ap (λ (t : List ℕ). t ++ bytes) fresh in
+    let count : taken2 ≡ length s2.taken = (let size = ap length text in let counted = came.counted in omega (arith, size, counted, zero)) in
     subst (λ (n : ℕ). EndsAt ended n s2) count at
+
+pub script_done : (ended : Ended) (taken : ℕ) (told : Told) → EndsAt ended taken told → ended ≡ Done → IsAtEnd told
+script_done ended taken told at is = (subst (λ (e : Ended). EndsAt e taken told) is at).1
 
 -- the bytes of a line are among those that were taken
 pub line_short : (full held1 bytes held2 : List ℕ) (taken1 taken2 : ℕ) → held1 ++ bytes ≡ full ++ held2 → length held1 ≤ taken1 → taken2 ≡ taken1 + length bytes

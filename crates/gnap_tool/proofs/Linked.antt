@@ -4,7 +4,7 @@ use Rattle.std.specs.Prelude.{Option, Some, None, IsSome, All, Any, drop, slice_
 use Rattle.std.proofs.Math.Seq.{drop-append_seam}
 use Rattle.gnap_io.specs.declared.world.Opening.{Opening}
 use Rattle.gnap_io.specs.declared.world.Opening.TheVariants.{Link}
-use Rattle.gnap_io.specs.Outside.{Served, IsAtEnd, Rose}
+use Rattle.gnap_io.specs.Outside.{Told, Served, IsAtEnd, Rose}
 use Rattle.gnap_io.specs.Gears.{GearState}
 use Rattle.gnap_io.specs.Links.{LinkState}
 use Rattle.gnap_io.specs.Worlds.{WorldState, with_opening, with_link}
@@ -12,7 +12,10 @@ use Rattle.gnap_io.specs.Openings.{gears_in, new_files}
 use Rattle.gnap_io.proofs.OpeningLemmas.{gives-around, back-around}
 use Rattle.gnap_tool.specs.declared.ended.Ended.{Ended}
 use Rattle.gnap_tool.specs.Ends.{Took}
-use Rattle.gnap_tool.specs.Runs.{HasFailed, NothingFailed, UsesWorld, new_openings}
+use Rattle.gnap_client.specs.declared.client.Client.{Client}
+use Rattle.gnap_client.specs.Configs.{Parts}
+use Rattle.gnap_tool.specs.ClientFiles.{IsNewClient, RunsScript, RunsClient}
+use Rattle.gnap_tool.specs.Runs.{Over, Unopened, Linked, HasFailed, NothingFailed, UsesWorld, new_openings}
 
 module _ (address : List ℕ) (link : LinkState) (more : List Opening) (input : Option ℕ) (before open_now middle after : WorldState) (ended : Ended)
     (open_is : open_now ≡ with_opening (Link address) before) (inside : UsesWorld more input open_now middle ended) (back : after ≡ with_link link middle) where
@@ -75,3 +78,25 @@ module _ (address : List ℕ) (link : LinkState) (more : List Opening) (input : 
 -- the place of an input that is the first file
 pub first_place : (place : ℕ) → Some 0 ≡ Some place → place ≡ 0
 first_place place is = cc
+
+-- what was carried out over a file stands while nothing but the link is taken back
+pub over_back : (text : Option (List ℕ)) (link : LinkState) (before middle after : WorldState) (Unopened : Type 0) (P : List ℕ → List ℕ → Type 0)
+    → after ≡ with_link link middle → Over text before middle Unopened P → Over text before after Unopened P
+over_back text link before middle after Unopened P back (inl missing) = inl (ap (λ (s : WorldState). s.files) back ∙ missing.0, missing.1)
+over_back text link before middle after Unopened P back (inr is) = inr (is.0, ap (λ (s : WorldState). s.files) back ∙ is.1, is.2, is.3)
+
+-- a script that was carried out by a new client of a configuration
+module _ (parts : Parts) (client : Client) (new : IsNewClient parts client) (text : Option (List ℕ)) (after : WorldState) (out out_now : Told) (ended : Ended) where
+  over_client : (link : LinkState) (opened : WorldState)
+      → Over text opened after (Unopened out out_now ended × (link.asked ≡ [])) (λ taken rest. RunsScript client taken rest link.asked out out_now ended)
+      → Over text opened after (Unopened out out_now ended × (link.asked ≡ [])) (λ taken rest. RunsClient parts taken rest link.asked out out_now ended)
+  over_client link opened (inl missing) = inl missing
+  over_client link opened (inr is) = inr (is.0, is.1, is.2, λ rest known. (client, new, is.3 rest known))
+
+  pub client_carried : (before : WorldState)
+      → Linked before after (Unopened out out_now ended) (λ link opened.
+      Over text opened after (Unopened out out_now ended × (link.asked ≡ [])) (λ taken rest. RunsScript client taken rest link.asked out out_now ended))
+      → Linked before after (Unopened out out_now ended) (λ link opened.
+      Over text opened after (Unopened out out_now ended × (link.asked ≡ [])) (λ taken rest. RunsClient parts taken rest link.asked out out_now ended))
+  client_carried before (inl missing) = inl missing
+  client_carried before (inr is) = inr (is.0, is.1, is.2, is.3, over_client is.0 is.1 is.4)

@@ -39,18 +39,19 @@ abbrev pub AreLines : List (List ℕ) → Type 0
 AreLines [] = Unit {0}
 AreLines (line ∷ lines) = IsLine line × AreLines lines
 
--- How lines ended, by their turns, the lines that were read whole, the lines that had no turn, and what was printed. Memory ran out at the last
--- of the turns, or at none. Where the reading failed, or came to the limit, all lines that were read whole had had their turns.
-abbrev pub EndsAs : {E : Type 0} → Ended → List (Turn (List ℕ) E) → List (List ℕ) → List (List ℕ) → List ℕ → Type 0
-EndsAs Done turns whole later sent = AllOn turns × (later ≡ []) × (sent ≡ bytes_in turns)
-EndsAs (NoSetup why) turns whole later sent = ⊥
-EndsAs Refused turns whole later sent = ⊥
-EndsAs {E = E} WriteFault turns whole later sent =
-    (front : List (Turn (List ℕ) E)) × (last : Turn (List ℕ) E) × OneMore AllOn turns front last × Cut sent (bytes_in front) last.bytes
-EndsAs {E = E} Memory turns whole later sent = (sent ≡ bytes_in turns)
-    × (AllOn turns ⊎ ((front : List (Turn (List ℕ) E)) × (last : Turn (List ℕ) E) × OneMore AllOn turns front last))
-EndsAs Failed turns whole later sent = AllOn turns × (sent ≡ bytes_in turns) × (whole ≡ messages_in turns)
-EndsAs TooLong turns whole later sent = AllOn turns × (sent ≡ bytes_in turns) × (whole ≡ messages_in turns)
+module _ {E : Type 0} where
+  -- How lines ended, by their turns, the lines that were read whole, the lines that had no turn, and what was printed. Memory ran out at the last
+  -- of the turns, or at none. Where the reading failed, or came to the limit, all lines that were read whole had had their turns.
+  abbrev pub EndsAs : Ended → List (Turn (List ℕ) E) → List (List ℕ) → List (List ℕ) → List ℕ → Type 0
+  EndsAs Done turns whole later sent = AllOn turns × (later ≡ []) × (sent ≡ bytes_in turns)
+  EndsAs (NoSetup why) turns whole later sent = ⊥
+  EndsAs Refused turns whole later sent = ⊥
+  EndsAs WriteFault turns whole later sent =
+      (front : List (Turn (List ℕ) E)) × (last : Turn (List ℕ) E) × OneMore AllOn turns front last × Cut sent (bytes_in front) last.bytes
+  EndsAs Memory turns whole later sent = (sent ≡ bytes_in turns)
+      × (AllOn turns ⊎ ((front : List (Turn (List ℕ) E)) × (last : Turn (List ℕ) E) × OneMore AllOn turns front last))
+  EndsAs Failed turns whole later sent = AllOn turns × (sent ≡ bytes_in turns) × (whole ≡ messages_in turns)
+  EndsAs TooLong turns whole later sent = AllOn turns × (sent ≡ bytes_in turns) × (whole ≡ messages_in turns)
 
 -- All lines so far were ended by an LF, and had their turns. `Had` says what is known of the turns.
 pub record GoesOn {E : Type 0} (Had : List (Turn (List ℕ) E) → Type 0) (held held_now : List ℕ) (taken taken_now : ℕ)

@@ -1,9 +1,10 @@
 //! The lines of a client's script, carried out over a link, and what is printed for them.
-ghost use Rattle.std.specs.Prelude.{◌≡◌, ◌&&◌, []};
+ghost use Rattle.std.specs.Prelude.{◌≡◌, ◌≤◌, ◌&&◌, [], length};
 ghost use Rattle.gnap_io.specs.Outside.{IsAtEnd, IsRest, Leaves};
-ghost use Rattle.gnap_tool.specs.ClientFiles.{SaysLine, RunsScript, ended_script};
-ghost use Rattle.gnap_tool.specs.LineRuns.{CountsPrint};
-ghost use Rattle.gnap_tool.specs.Ends.{CountsReads, CountsWrites, Took};
+ghost use Rattle.gnap_tool.specs.ClientFiles.{SaysLine, ScriptHad, EndsScript, RunsScript, ended_script};
+ghost use Rattle.gnap_tool.specs.LineRuns.{CountsPrint, RunsLines};
+ghost use Rattle.gnap_tool.specs.Reading.{held_by};
+ghost use Rattle.gnap_tool.specs.Ends.{CountsReads, CountsWrites, EndsAt, Took};
 
 use crate::answering::{After, say};
 use crate::ended::Ended;
@@ -56,26 +57,22 @@ fn ended_script(fine: bool) -> Ended
     if fine { Ended::Done } else { Ended::Refused }
 }
 
-/// Has the client carry out the lines of a source of which nothing was read, over the link, and prints a line for each. What stands behind the last LF
-/// is a line where it isn't empty.
-pub(crate) fn run_script<L: Link, S: Source, O: Sink>(
+// Has the client carry out the lines that the source has left.
+fn run_lines<L: Link, S: Source, O: Sink>(
     alloc: Global,
     client: &mut Client,
     link: &mut L,
+    reader: &mut LineReader,
     source: &mut S,
     out: &mut O,
 ) -> Ended
-    requires fresh { (S.told source.old).taken ≡ [] }
-    requires unasked { (L.link link.old).asked ≡ [] }
-    ensures script { (rest : _) → IsRest (S.told source.new) rest
-        → RunsScript client.old (S.told source.new).taken rest (L.link link.new).asked (O.told out.old) (O.told out.new) result }
-    ensures leaves { Leaves (S.told source.new).taken (S.told source.old).left (S.told source.new).left }
+    requires held { length (held_by reader.old) ≤ reader.old.taken }
+    ensures runs { RunsLines (ScriptHad client.old (L.link link.old).asked client.new (L.link link.new).asked) EndsScript (held_by reader.old)
+        reader.old.taken reader.new.taken (S.told source.old) (S.told source.new) (O.told out.old) (O.told out.new) result }
     ensures reads { CountsReads result (S.faults source.old) (S.faults source.new) }
     ensures writes { CountsWrites result (O.faults out.old) (O.faults out.new) }
-    ensures took { Took result (S.told source.new) }
-    ensures end { result ≡ Ended.Done → IsAtEnd (S.told source.new) }
+    ensures took { EndsAt result reader.new.taken (S.told source.new) }
 {
-    let mut reader = LineReader::new(alloc);
     let mut line = Bytes::new(alloc);
     let mut fine = true;
     'lines: loop {
@@ -102,4 +99,27 @@ pub(crate) fn run_script<L: Link, S: Source, O: Sink>(
             LineEnd::Memory => return Ended::Memory,
         }
     }
+}
+
+/// Has the client carry out the lines of a source of which nothing was read, over a link that nothing was asked through, and prints a line for each.
+/// What stands behind the last LF is a line where it isn't empty.
+pub(crate) fn run_script<L: Link, S: Source, O: Sink>(
+    alloc: Global,
+    client: &mut Client,
+    link: &mut L,
+    source: &mut S,
+    out: &mut O,
+) -> Ended
+    requires fresh { (S.told source.old).taken ≡ [] }
+    requires unasked { (L.link link.old).asked ≡ [] }
+    ensures script { (rest : _) → IsRest (S.told source.new) rest
+        → RunsScript client.old (S.told source.new).taken rest (L.link link.new).asked (O.told out.old) (O.told out.new) result }
+    ensures leaves { Leaves (S.told source.new).taken (S.told source.old).left (S.told source.new).left }
+    ensures reads { CountsReads result (S.faults source.old) (S.faults source.new) }
+    ensures writes { CountsWrites result (O.faults out.old) (O.faults out.new) }
+    ensures took { Took result (S.told source.new) }
+    ensures end { result ≡ Ended.Done → IsAtEnd (S.told source.new) }
+{
+    let mut reader = LineReader::new(alloc);
+    run_lines(alloc, client, link, &mut reader, source, out)
 }

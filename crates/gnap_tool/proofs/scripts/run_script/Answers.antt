@@ -1,41 +1,17 @@
-use Rattle.std.proofs.Common.{◌≡◌, ◌≢◌, ◌∙◌, ℕ, ◌+◌, ◌≤◌, List, [], ◌∷◌, ◌++◌, ap, sym, subst, refl, arith, length, length-append}
-use Rattle.std.specs.Prelude.{Bool}
-use Rattle.std.proofs.lemmas.List.{append-nil}
-use Rattle.gnap_tool.specs.declared.answering.After.TheVariants as after
-use Rattle.gnap_tool.specs.Reading.{held_by}
-use Rattle.gnap_tool.specs.ClientFiles.{SaysLine, ScriptHad}
 use Rattle.gnap_tool.proofs.Files.{leaves_taken}
-use Rattle.gnap_tool.proofs.LineRuns.{stops-failed, stops-full, stops-starved}
-use Rattle.gnap_tool.proofs.ClientFiles.{script-begin, script-next, script-behind, script-last, script-whole, script-end, script-starved, script-cut, as_failed, as_full, as_starved, script_account, script_took, kept_whole, line_short}
+use Rattle.gnap_tool.proofs.ClientFiles.{script_account, script_took, script_done}
 use Rattle.gnap_tool.proofs.scripts.run_script.Goals as goal
 
-pub lines-init : goal.lines-init
-lines-init g c = record {
-  empty = c.new-line.ensures;
-  goes = script-begin _ _ _ _ _ _ c.requires.unasked c.new-reader.ensures.held c.new-reader.ensures.taken;
-  reads = refl;
-  writes = refl;
-}
+pub returns-clause-script : goal.returns-clause-script
+returns-clause-script g c = λ rest known.
+    script_account _ _ _ _ _ _ _ _ _ _ _ c.run_lines.result c.requires.unasked c.new-reader.ensures.held c.requires.fresh c.run_lines.ensures.runs rest known
 
-pub lines-smaller : goal.lines-smaller
-lines-smaller g c =
-    let read = c.in-Whole.ensures.read in
-    let most = c.next_line-end.new.self.limited in
-    omega (arith, most, read.came.counted, ap length read.ends, length-append (held_by c.lines.reader) read.bytes, length-append read.full (10 ∷ held_by c.next_line-end.new.self))
+pub returns-clause-leaves : goal.returns-clause-leaves
+returns-clause-leaves g c = leaves_taken _ _ _ c.requires.fresh c.run_lines.ensures.runs.came.takes
 
-pub lines-preserved : goal.lines-preserved
-lines-preserved g c =
-    let inv = c.lines.invariant in
-    let read = c.in-Whole.ensures.read in
-    let few : length (held_by c.lines.reader) ≤ c.lines.reader.taken = (let all = inv.goes.goes.few in omega (arith, all)) in
-    let short = line_short read.full (held_by c.lines.reader) read.bytes (10 ∷ held_by c.next_line-end.new.self) _ _ read.ends few read.came.counted in
-    let same = read.kept (λ no. cc) ∙ kept_whole read.full _ short c.next_line-end.new.self.limited in
-    let S : List ℕ → Type 0 = λ line. SaysLine line c.lines.client c.say_line.new.client (g.L.Link.link c.lines.link).asked (g.L.Link.link c.say_line.new.link).asked
-    (g.O.Device.told c.lines.out) (g.O.Device.told c.say_line.new.out) after.On c.lines.fine c.say_line.new.fine in
-    let says = subst S same c.in-On.ensures.says in
-    record {
-      empty = c.emptied-line.ensures;
-      goes = script-next _ _ _ _ _ _ _ _ _ _ _ _ _ inv.goes read.full read.bytes _ _ _ _ _ says _ _ _ read.came read.is_line read.ends says.goes says.prints;
-      reads = c.in-Whole.ensures.cause ∙ inv.reads;
-      writes = c.in-On.ensures.counts ∙ inv.writes;
-    }
+pub returns-clause-took : goal.returns-clause-took
+returns-clause-took g c =
+    script_took _ _ _ _ _ c.run_lines.result c.requires.fresh c.new-reader.ensures.taken c.run_lines.ensures.runs.came c.run_lines.ensures.took
+
+pub returns-clause-end : goal.returns-clause-end
+returns-clause-end g c = λ is. script_done c.run_lines.result _ _ c.run_lines.ensures.took is
