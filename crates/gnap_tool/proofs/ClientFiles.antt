@@ -42,6 +42,7 @@ none-had first asked = record { each = tt; chained = refl; adds = sym (append-ni
 
 pub script-start : (first : Client) (asked : List Exchange) (held : List ℕ) (taken : ℕ) (source out : Told) → length held ≤ taken
     → ScriptGoes first asked first asked true held held taken taken source source out out
+unfolding goes-start
 script-start first asked held taken source out few = record {
   goes = goes-start (ScriptHad first asked first asked) held taken source out (none-had first asked) few;
   fine_is = refl;
@@ -101,6 +102,7 @@ module _ (first : Client) (asked : List Exchange) (last : Client) (asked1 : List
     pub script-next : (held2 : List ℕ) (taken2 : ℕ) (s2 : Told) → Came bytes taken1 taken2 s1 s2 → IsLine full → held1 ++ bytes ≡ full ++ 10 ∷ held2
         → was_said says.said ≡ true → Writes (bytes_said says.said) o1 o2
         → ScriptGoes first asked new asked2 fine2 held held2 taken taken2 s s2 o o2
+    unfolding goes-next
     script-next held2 taken2 s2 came is_line whole on prints = record {
       goes = goes-next (ScriptHad first asked last asked1) held held1 taken taken1 s s1 o o1 goes.goes full bytes taken2 s2 came is_line o2
           (ScriptHad first asked new asked2) line_turn script-had refl held2 whole on prints;
@@ -189,7 +191,7 @@ script_account first last asked asked2 held taken taken2 s s2 o o2 ended unasked
     let text : s2.taken ≡ r.bytes = r.came.takes.taken ∙ ap (λ (t : List ℕ). t ++ r.bytes) fresh in
     let front : held ++ r.bytes ≡ s2.taken = ap (λ (t : List ℕ). t ++ r.bytes) none ∙ sym text in
     let lines : lines_of (s2.taken ++ rest) ≡ messages_in r.turns ++ l.0 =
-    ap (λ (t : List ℕ). lines_of (t ++ rest)) (sym front) ∙ ap lines_of (append_assoc held r.bytes rest) ∙ l.1 in
+    ap (λ (t : List ℕ). lines_of (t ++ rest)) (sym front) ∙ l.1 in
     let E : List (List ℕ) → Type 0 = λ w. EndsScript ended r.turns w l.0 r.sent in
     record {
       turns = r.turns;
@@ -219,3 +221,7 @@ script_done ended taken told at is = (subst (λ (e : Ended). EndsAt e taken told
 pub line_short : (full held1 bytes held2 : List ℕ) (taken1 taken2 : ℕ) → held1 ++ bytes ≡ full ++ held2 → length held1 ≤ taken1 → taken2 ≡ taken1 + length bytes
     → length full ≤ taken2
 line_short full held1 bytes held2 taken1 taken2 parts few counted = omega (arith, ap length parts, length-append held1 bytes, length-append full held2, few, counted)
+
+pub empty_line : (full : List ℕ) → length full ≡ 0 → full ≡ []
+empty_line [] none = refl
+empty_line (byte ∷ text) none = absurd (omega (arith, none))

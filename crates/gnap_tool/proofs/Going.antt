@@ -1,5 +1,5 @@
 -- A replay that goes on.
-use Rattle.std.proofs.Common.{◌≡◌, ◌∙◌, ℕ, ◌<◌, ◌≤◌, ◌^◌, List, [], ◌∷◌, ◌++◌, length, ap, sym, arith, length-append}
+use Rattle.std.proofs.Common.{◌≡◌, ◌∙◌, ℕ, ◌<◌, ◌≤◌, ◌^◌, List, [], ◌∷◌, ◌++◌, length, false, refl, ap, sym, arith, length-append}
 use Rattle.gnap_io.specs.Outside.{Told}
 use Rattle.histories.specs.History.{places}
 use Rattle.histories.specs.Turns.{Each, entries_in}

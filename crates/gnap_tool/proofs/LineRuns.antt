@@ -18,7 +18,7 @@ pub none_left : (s : Told) (rest : List ℕ) → IsRest s rest → IsAtEnd s →
 none_left s rest known end = subst (λ (left : Option (List ℕ)). IfSome left (λ l. rest ≡ l)) end known
 
 module _ {E : Type 0} where
-  pub goes-start : (Had : List (Turn (List ℕ) E) → Type 0) (held : List ℕ) (taken : ℕ) (source out : Told)
+  unfoldable pub goes-start : (Had : List (Turn (List ℕ) E) → Type 0) (held : List ℕ) (taken : ℕ) (source out : Told)
       → Had [] → length held ≤ taken → GoesOn Had held held taken taken source source out out
   goes-start Had held taken source out had few = record {
     turns = [];
@@ -130,7 +130,7 @@ module _ {E : Type 0} where
           (writes_then (bytes_in goes.turns) turn.bytes o o1 o2 goes.prints prints)
 
       -- more lines may follow
-      pub goes-next : (held2 : List ℕ) → held1 ++ bytes ≡ full ++ 10 ∷ held2 → turn.on ≡ true → Writes turn.bytes o1 o2
+      unfoldable pub goes-next : (held2 : List ℕ) → held1 ++ bytes ≡ full ++ 10 ∷ held2 → turn.on ≡ true → Writes turn.bytes o1 o2
           → GoesOn Now held held2 taken taken2 s s2 o o2
       goes-next held2 whole on prints = record {
         turns = goes.turns ++ turn ∷ [];

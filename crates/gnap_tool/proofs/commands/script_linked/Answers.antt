@@ -45,5 +45,5 @@ returns-in-Ok-clause-linked g c =
       opened,
       ap (λ s. s.files) c.in-Ok.ensures.state,
       ap (λ s. s.link) c.close_link.ensures.state,
-      over_back _ link opened _ _ U P c.close_link.ensures.state over,
+      over_back _ link opened (g.W.World.state c.script_over-ended.new.world) (g.W.World.state c.close_link.new.self) U P c.close_link.ensures.state over,
     )

@@ -3,9 +3,11 @@ use Rattle.std.specs.Prelude.{Bool}
 use Rattle.std.proofs.lemmas.List.{append-nil}
 use Rattle.gnap_tool.specs.declared.answering.After.TheVariants as after
 use Rattle.gnap_tool.specs.Reading.{held_by}
-use Rattle.gnap_tool.specs.ClientFiles.{SaysLine, ScriptHad}
+use Rattle.gnap_tool.specs.declared.ended.Ended.{Ended}
+use Rattle.gnap_tool.specs.LineRuns.{RunsLines}
+use Rattle.gnap_tool.specs.ClientFiles.{SaysLine, ScriptHad, EndsScript}
 use Rattle.gnap_tool.proofs.LineRuns.{stops-failed, stops-full, stops-starved}
-use Rattle.gnap_tool.proofs.ClientFiles.{script-start, script-next, script-behind, script-last, script-whole, script-end, script-starved, script-cut, as_failed, as_full, as_starved, kept_whole, line_short}
+use Rattle.gnap_tool.proofs.ClientFiles.{script-start, script-next, script-behind, script-last, script-whole, script-end, script-starved, script-cut, as_failed, as_full, as_starved, kept_whole, line_short, empty_line}
 use Rattle.gnap_tool.proofs.scripts.run_lines.Goals as goal
 
 pub lines-init : goal.lines-init
@@ -67,7 +69,14 @@ pub returns-then-len-eq0-clause-runs : goal.returns-then-len-eq0-clause-runs
 returns-then-len-eq0-clause-runs g c =
     let inv = c.lines.invariant in
     let read = c.in-Last.ensures.read in
-    ?
+    let few : length (held_by c.lines.reader) ≤ c.lines.reader.taken = (let all = inv.goes.goes.few in omega (arith, all)) in
+    let short = line_short read.full (held_by c.lines.reader) read.bytes [] _ _ (read.ends.0 ∙ sym (append-nil read.full)) few read.came.counted in
+    let same = read.kept (λ no. cc) ∙ kept_whole read.full _ short c.next_line-end.new.self.limited in
+    let none = empty_line read.full (sym (ap length same) ∙ sym c.len.ensures.len ∙ c.if-len-eq0.true) in
+    let R : Ended → Type 0 = λ ended. RunsLines (ScriptHad c.args.client.now (g.L.Link.link c.args.link.now).asked c.lines.client (g.L.Link.link c.lines.link).asked) EndsScript
+    (held_by c.args.reader.now) c.args.reader.now.taken c.next_line-end.new.self.taken
+    (g.S.Device.told c.args.source.now) (g.S.Device.told c.next_line-end.new.source) (g.O.Device.told c.args.out.now) (g.O.Device.told c.lines.out) ended in
+    subst R (sym c.ended_script.ensures) (script-behind _ _ _ _ _ _ _ _ _ _ _ _ _ inv.goes read.bytes _ _ read.came (read.ends.0 ∙ none) read.ends.2)
 
 pub returns-in-On-say_line-clause-runs : goal.returns-in-On-say_line-clause-runs
 returns-in-On-say_line-clause-runs g c =
