@@ -1,14 +1,26 @@
 //! A client over replies in memory.
-use crate::{Client, ClientConfig, ClientFault, State, Took, read_client_config};
+ghost use Rattle.std.specs.Prelude.{IfSome};
+ghost use Rattle.gnap_objects.specs.Fits.{RequestFits};
+ghost use Rattle.gnap_objects.specs.CallsFit.{ModesFitOr};
+
+use crate::{Client, ClientFault, State, Took, read_client_config};
 use gnap_io::bytes::Bytes;
 use gnap_io::memory::Mem;
 use gnap_io::memory_link::MemLink;
-use gnap_io::seq::Seq;
-use gnap_model::objects::{Ask, Finish, GrantRequest, Modes};
-use gnap_model::rights::Right;
+use gnap_model::objects::GrantRequest;
+use gnap_objects::read_grant;
 use interaction::interaction_hash;
+use json_objects::read_body;
 use std::alloc::Global;
 use std::test::Fail;
+
+const CONFIG: &[u8] =
+    b"{\"server\":\"https://as.example\",\"resource\":\"https://rs.example\",\"id\":\"c1\",\"secret\":\"c2VjcmV0LWtleS1vZi1jMQ==\"}";
+
+const ASKED: &[u8] = b"{\"access_token\":{\"access\":[\"photos\"]},\"client\":\"c1\"}";
+
+const WITH_FINISH: &[u8] =
+    b"{\"access_token\":{\"access\":[\"photos\"]},\"client\":\"c1\",\"interact\":{\"start\":[\"redirect\"],\"finish\":{\"method\":\"redirect\",\"uri\":\"https://client.example/cb\",\"nonce\":\"VJLO6A4CATR0KRO\"}}}";
 
 const GRANTED: &[u8] =
     b"HTTP/1.1 200 OK\r\nContent-Type: application/json\r\nCache-Control: no-store\r\nConnection: close\r\n\r\n{\"access_token\":{\"access\":[\"photos\"],\"expires_in\":3600,\"manage\":{\"access_token\":{\"value\":\"AAAAAAAAAAIAAAAAAAAAAAAAAAAAAAAA\"},\"uri\":\"https://as.example/token\"},\"value\":\"AAAAAAAAAAEAAAAAAAAAAAAAAAAAAAAA\"},\"continue\":{\"access_token\":{\"value\":\"AAAAAAAAAAMAAAAAAAAAAAAAAAAAAAAA\"},\"uri\":\"https://as.example/continue\",\"wait\":5}}";
@@ -23,43 +35,34 @@ fn text(alloc: Global, bytes: &[u8]) -> Result<Bytes, Mem> {
     Bytes::from_slice(alloc, bytes)
 }
 
-fn config(alloc: Global) -> Result<ClientConfig, Mem> {
-    Ok(ClientConfig {
-        server: text(alloc, b"https://as.example")?,
-        resource: text(alloc, b"https://rs.example")?,
-        id: text(alloc, b"c1")?,
-        secret: text(alloc, b"secret-key-of-c1")?,
-    })
+fn client(alloc: Global) -> Option<Client> {
+    match read_client_config(alloc, CONFIG) {
+        Ok(config) => Some(Client::new(alloc, config)),
+        Err(_) => None,
+    }
 }
 
-fn client(alloc: Global) -> Result<Client, Mem> {
-    Ok(Client::new(alloc, config(alloc)?))
-}
-
-fn request(alloc: Global, modes: Option<Modes>) -> Result<GrantRequest, Mem> {
-    let mut rights = Seq::new(alloc);
-    rights.push(Right::Reference(text(alloc, b"photos")?))?;
-    let mut asks = Seq::new(alloc);
-    asks.push(Ask {
-        label: None,
-        rights,
-        bearer: false,
-    })?;
-    Ok(GrantRequest {
-        asks,
-        single: true,
-        subject: false,
-        client: Some(text(alloc, b"c1")?),
-        by_object: false,
-        user: None,
-        modes,
-    })
+fn request(alloc: Global, text: &[u8]) -> Option<GrantRequest>
+    ensures fits { IfSome result RequestFits }
+    ensures modes { IfSome result (λ r. ModesFitOr r.modes) }
+{
+    let Ok(body) = read_body(alloc, text) else {
+        return None;
+    };
+    match read_grant(alloc, &body, false) {
+        Ok(request) => Some(request),
+        Err(_) => None,
+    }
 }
 
 #[test]
 fn tokens_come_and_are_named_by_place(rt: HostRuntime) -> Result<(), Fail> {
-    let mut c = client(rt.alloc())?;
-    let asked = request(rt.alloc(), None)?;
+    let Some(mut c) = client(rt.alloc()) else {
+        panic!(rt; "no client");
+    };
+    let Some(asked) = request(rt.alloc(), ASKED) else {
+        panic!(rt; "no request");
+    };
     assert!(rt;
         matches!(
             c.poll(1000),
@@ -112,19 +115,12 @@ fn tokens_come_and_are_named_by_place(rt: HostRuntime) -> Result<(), Fail> {
 
 #[test]
 fn finish_wants_the_hash(rt: HostRuntime) -> Result<(), Fail> {
-    let mut c = client(rt.alloc())?;
-    let modes = Modes {
-        redirect: true,
-        user_code: false,
-        user_code_uri: false,
-        finish: Some(Finish {
-            push: false,
-            uri: text(rt.alloc(), b"https://client.example/cb")?,
-            nonce: text(rt.alloc(), b"VJLO6A4CATR0KRO")?,
-            long: false,
-        }),
+    let Some(mut c) = client(rt.alloc()) else {
+        panic!(rt; "no client");
     };
-    let asked = request(rt.alloc(), Some(modes))?;
+    let Some(asked) = request(rt.alloc(), WITH_FINISH) else {
+        panic!(rt; "no request");
+    };
     assert!(rt; c.begin(1000, &asked).is_ok());
     assert!(rt; matches!(c.take_reply(PENDING), Ok(Took::Pending)));
     assert!(rt;
@@ -148,21 +144,13 @@ fn finish_wants_the_hash(rt: HostRuntime) -> Result<(), Fail> {
 }
 
 #[test]
-fn a_configuration_is_read(rt: HostRuntime) -> Result<(), Fail> {
-    let read = read_client_config(
-        rt.alloc(),
-        b"{\"server\":\"https://as.example\",\"resource\":\"https://rs.example\",\"id\":\"c1\",\"secret\":\"c2VjcmV0LWtleS1vZi1jMQ==\"}",
-    );
-    assert!(rt;
-        matches!(read, Ok(config) if config.secret.as_slice() == b"secret-key-of-c1".as_slice())
-    );
-    Ok(())
-}
-
-#[test]
 fn a_link_may_fail(rt: HostRuntime) -> Result<(), Fail> {
-    let mut c = client(rt.alloc())?;
-    let asked = request(rt.alloc(), None)?;
+    let Some(mut c) = client(rt.alloc()) else {
+        panic!(rt; "no client");
+    };
+    let Some(asked) = request(rt.alloc(), ASKED) else {
+        panic!(rt; "no request");
+    };
     let busy = text(
         rt.alloc(),
         b"HTTP/1.1 503 Service Unavailable\r\nContent-Length: 0\r\n\r\n",

@@ -87,11 +87,11 @@ fn run_lines<L: Link, S: Source, O: Sink>(
                 if line.len() == 0 {
                     return ended_script(fine);
                 }
-                return match say_line(alloc, client, link, out, &line, &mut fine) {
-                    After::On => ended_script(fine),
-                    After::Starved => Ended::Memory,
-                    After::Cut => Ended::WriteFault,
-                };
+                match say_line(alloc, client, link, out, &line, &mut fine) {
+                    After::On => return ended_script(fine),
+                    After::Starved => return Ended::Memory,
+                    After::Cut => return Ended::WriteFault,
+                }
             }
             LineEnd::Long => unreachable!(),
             LineEnd::Full => return Ended::TooLong,

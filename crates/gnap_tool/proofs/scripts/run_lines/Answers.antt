@@ -88,7 +88,7 @@ returns-in-On-say_line-clause-runs g c =
     let S : List ℕ → Type 0 = λ line. SaysLine line c.lines.client c.say_line-in-Last.new.client (g.L.Link.link c.lines.link).asked (g.L.Link.link c.say_line-in-Last.new.link).asked
     (g.O.Device.told c.lines.out) (g.O.Device.told c.say_line-in-Last.new.out) after.On c.lines.fine c.say_line-in-Last.new.fine in
     let says = subst S same c.in-On-say_line.ensures.says in
-    script-last _ _ _ _ _ _ _ _ _ _ _ _ _ inv.goes read.full read.bytes _ _ _ _ _ says _ _ read.came read.is_line read.ends.0 read.ends.2 ? says.goes says.prints
+    script-last _ _ _ _ _ _ _ _ _ _ _ _ _ inv.goes read.full read.bytes _ _ _ _ _ says _ _ read.came read.is_line read.ends.0 read.ends.2 (λ zero. c.if-len-eq0.false (c.len.ensures.len ∙ ap length same ∙ zero)) says.goes says.prints
 
 pub returns-in-Starved-say_line-clause-runs : goal.returns-in-Starved-say_line-clause-runs
 returns-in-Starved-say_line-clause-runs g c =
