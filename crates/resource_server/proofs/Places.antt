@@ -1,8 +1,8 @@
 -- A route at a place, and a token that is presented.
-use Rattle.std.proofs.Common.{◌≡◌, ℕ, List, [], ◌∷◌, Bool, true, false, refl, sym, ap, arith, take, drop}
+use Rattle.std.proofs.Common.{◌≡◌, ℕ, List, [], ◌∷◌, Bool, true, false, refl, sym, ap, arith}
 use Rattle.std.specs.Prelude.{Option, Some, None, slice_get, ◌&&◌, nat_lt, zero, suc, length, slice_index, ◌<◌, if◌then◌else◌, codes}
 use Rattle.std.specs.List.{AllByRecursion, list_all}
-use Rattle.std.specs.Str.{IsUtf8, str_eq_ignore_ascii_case}
+use Rattle.std.specs.Str.{IsUtf8}
 use Rattle.std.proofs.lemmas.Str.{IsUtf8-from_ascii}
 use Rattle.std.proofs.lemmas.Bool.Decides.{nat_tests}
 use Rattle.access_rights.specs.Fits.{Fits}
@@ -11,7 +11,7 @@ use Rattle.signed_requests.specs.declared.unsigned.Scheme.{Scheme}
 use Rattle.signed_requests.specs.declared.unsigned.Scheme.TheVariants.{Gnap, Bearer}
 use Rattle.resource_server.specs.declared.setup.Route.{Route}
 use Rattle.resource_server.specs.Fits.{RouteFits}
-use Rattle.resource_server.specs.Routing.{with_scheme, presented_at}
+use Rattle.resource_server.specs.Routing.{behind_word, presented_by, presented_at}
 
 pub right_fits : (routes : List Route) (i : ℕ) (route : Route) → AllByRecursion RouteFits routes → slice_get routes i ≡ Some route → Fits route.right
 right_fits [] i route fits e = absurd (cc)
@@ -46,13 +46,11 @@ by_value true scheme other text value e h =
     rw (← same) (text_of_value (nat_lt 0 (length text)) text e)
 by_value false scheme other text value e h = absurd (cc)
 
-by_words : (a b : Bool) (five seven value : List ℕ) (scheme : Scheme)
-    → ◌≡◌ {A = Option (Scheme × List ℕ)} (if a then with_scheme Gnap five else (if b then with_scheme Bearer seven else None)) (Some (scheme, value)) → IsUtf8 value
-by_words true b five seven value scheme e = by_value (is_value five) Gnap scheme five value refl e
-by_words false true five seven value scheme e = by_value (is_value seven) Bearer scheme seven value refl e
-by_words false false five seven value scheme e = absurd (cc)
+by_parts : (gnap bearer : Option (List ℕ)) (scheme : Scheme) (value : List ℕ) → presented_by gnap bearer ≡ Some (scheme, value) → IsUtf8 value
+by_parts (Some text) bearer scheme value e = by_value (is_value text) Gnap scheme text value refl e
+by_parts None (Some text) scheme value e = by_value (is_value text) Bearer scheme text value refl e
+by_parts None None scheme value e = absurd (cc)
 
 pub value_is_text : (o : Option (List ℕ)) (scheme : Scheme) (value : List ℕ) → presented_at o ≡ Some (scheme, value) → IsUtf8 value
 value_is_text None scheme value e = absurd (cc)
-value_is_text (Some text) scheme value e =
-    by_words (str_eq_ignore_ascii_case (take 5 text) (codes "GNAP ")) (str_eq_ignore_ascii_case (take 7 text) (codes "Bearer ")) (drop 5 text) (drop 7 text) value scheme e
+value_is_text (Some text) scheme value e = by_parts (behind_word 5 (codes "GNAP ") text) (behind_word 7 (codes "Bearer ") text) scheme value e

@@ -55,10 +55,18 @@ one_more (Some value) (f ∷ fs) = None
 abbrev pub with_scheme : Scheme → List ℕ → Option (Scheme × List ℕ)
 with_scheme scheme value = if is_value value then Some (scheme, value) else None
 
+-- what stands behind a word of so many letters, in any case
+abbrev pub behind_word : ℕ → List ℕ → List ℕ → Option (List ℕ)
+behind_word n word text = if str_eq_ignore_ascii_case (take n text) word then Some (drop n text) else None
+
+abbrev pub presented_by : Option (List ℕ) → Option (List ℕ) → Option (Scheme × List ℕ)
+presented_by (Some value) other = with_scheme Gnap value
+presented_by None (Some value) = with_scheme Bearer value
+presented_by None None = None
+
 -- the scheme `GNAP` or `Bearer`, in any case, one SP, and the token's value
 abbrev pub presented_in : List ℕ → Option (Scheme × List ℕ)
-presented_in text = if str_eq_ignore_ascii_case (take 5 text) (codes "GNAP ") then with_scheme Gnap (drop 5 text)
-    else (if str_eq_ignore_ascii_case (take 7 text) (codes "Bearer ") then with_scheme Bearer (drop 7 text) else None)
+presented_in text = presented_by (behind_word 5 (codes "GNAP ") text) (behind_word 7 (codes "Bearer ") text)
 
 abbrev pub presented_at : Option (List ℕ) → Option (Scheme × List ℕ)
 presented_at None = None

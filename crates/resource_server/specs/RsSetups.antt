@@ -1,5 +1,5 @@
 -- The setup of a resource server: what bytes read as.
-use Rattle.std.specs.Prelude.{◌≡◌, ℕ, List, [], ◌∷◌, ◌++◌, length, not, is_none, Result, Ok, Err, nat_lt, if◌then◌else◌, codes}
+use Rattle.std.specs.Prelude.{◌≡◌, ℕ, ◌+◌, List, [], ◌∷◌, ◌++◌, length, not, is_none, Result, Ok, Err, nat_lt, if◌then◌else◌, codes}
 use Rattle.std.specs.List.{list_any}
 use Rattle.serde_json.specs.Data.{Data, array, Items, no_items, item}
 use Rattle.json_objects.specs.Bodies.{body_of}

@@ -1,9 +1,9 @@
 //! The route and the token of a request.
-ghost use Rattle.std.specs.Prelude.{◌≡◌, ◌<◌, IfOk, IfErr, IfSome, length, filter, position, option_map};
+ghost use Rattle.std.specs.Prelude.{◌≡◌, ◌<◌, IfOk, IfErr, IfSome, length, filter, position, option_map, codes};
 ghost use Rattle.std.specs.List.{list_any};
 ghost use Rattle.resource_server.specs.declared.setup.RsSetup.{RsSetup};
 ghost use Rattle.resource_server.specs.Guarding.{IsAnswer};
-ghost use Rattle.resource_server.specs.Routing.{has_path, is_route, route_of, is_authorization, only_value, with_scheme, presented_in, presented_at};
+ghost use Rattle.resource_server.specs.Routing.{has_path, is_route, route_of, is_authorization, only_value, with_scheme, behind_word, presented_by, presented_in, presented_at};
 
 use crate::guarded::{Guarded, Why};
 use crate::setup::{Route, Routes};
@@ -88,18 +88,42 @@ fn with_scheme(scheme: Scheme, value: &[u8]) -> Option<(Scheme, &[u8])>
     }
 }
 
-fn presented_in(text: &[u8]) -> Option<(Scheme, &[u8])>
-    ensures { option_map (λ p. (p.0, p.1.now)) result ≡ presented_in text.now }
+fn behind_gnap(text: &[u8]) -> Option<&[u8]>
+    ensures { option_map (λ v. v.now) result ≡ behind_word 5 (codes "GNAP ") text.now }
 {
     let (scheme, value) = text.split_at(text.len().min(5));
     if scheme.eq_ignore_ascii_case(b"GNAP ") {
-        return with_scheme(Scheme::Gnap, value);
+        Some(value)
+    } else {
+        None
     }
+}
+
+fn behind_bearer(text: &[u8]) -> Option<&[u8]>
+    ensures { option_map (λ v. v.now) result ≡ behind_word 7 (codes "Bearer ") text.now }
+{
     let (scheme, value) = text.split_at(text.len().min(7));
     if scheme.eq_ignore_ascii_case(b"Bearer ") {
-        return with_scheme(Scheme::Bearer, value);
+        Some(value)
+    } else {
+        None
     }
-    None
+}
+
+fn presented_by<'t>(gnap: Option<&'t [u8]>, bearer: Option<&'t [u8]>) -> Option<(Scheme, &'t [u8])>
+    ensures { option_map (λ p. (p.0, p.1.now)) result ≡ presented_by (option_map (λ v. v.now) gnap) (option_map (λ v. v.now) bearer) }
+{
+    match (gnap, bearer) {
+        (Some(value), _) => with_scheme(Scheme::Gnap, value),
+        (None, Some(value)) => with_scheme(Scheme::Bearer, value),
+        (None, None) => None,
+    }
+}
+
+fn presented_in(text: &[u8]) -> Option<(Scheme, &[u8])>
+    ensures { option_map (λ p. (p.0, p.1.now)) result ≡ presented_in text.now }
+{
+    presented_by(behind_gnap(text), behind_bearer(text))
 }
 
 /// The token that is presented, and how.
