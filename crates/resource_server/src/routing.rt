@@ -111,7 +111,7 @@ fn behind_bearer(text: &[u8]) -> Option<&[u8]>
 }
 
 fn presented_by<'t>(gnap: Option<&'t [u8]>, bearer: Option<&'t [u8]>) -> Option<(Scheme, &'t [u8])>
-    ensures { option_map (λ p. (p.0, p.1.now)) result ≡ presented_by (option_map (λ v. v.now) gnap) (option_map (λ v. v.now) bearer) }
+    ensures { option_map (λ p. (p.0, p.1.now)) result ≡ presented_by (option_map (λ v. v.now) gnap.entry) (option_map (λ v. v.now) bearer.entry) }
 {
     match (gnap, bearer) {
         (Some(value), _) => with_scheme(Scheme::Gnap, value),

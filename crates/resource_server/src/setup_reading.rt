@@ -8,11 +8,12 @@ ghost use Rattle.json_objects.specs.Reading.{Gives};
 ghost use Rattle.access_rights.specs.Fits.{Fits};
 ghost use Rattle.gnap_objects.specs.declared.fault.ObjectFault.TheVariants as faults;
 ghost use Rattle.gnap_objects.specs.declared.setups.SetupFault.TheVariants.{OutOfMemory};
-ghost use Rattle.gnap_objects.specs.Reading.{required_items};
+ghost use Rattle.gnap_objects.specs.Reading.{required_items, without_others};
+ghost use Rattle.gnap_objects.specs.Setups.{in_setup};
 ghost use Rattle.signed_requests.specs.Forms.{begins_with_slash, is_method};
 ghost use Rattle.resource_server.specs.Fits.{RouteFits, RsSetupFits};
 ghost use Rattle.resource_server.specs.Routing.{is_route};
-ghost use Rattle.resource_server.specs.RsSetups.{with_key, ring_from, ring_of, method_of, route_path_of, first_of, one_right_of, route_from, routes_from, counted_items, routes_of, rs_setup_of};
+ghost use Rattle.resource_server.specs.RsSetups.{with_key, ring_from, ring_of, method_of, route_path_of, first_of, one_right_of, route_from, routes_from, counted_items, routes_of, rs_setup_members, rs_setup_of};
 
 use crate::routing::is_route;
 use crate::setup::{Route, Routes, RsSetup};
@@ -237,6 +238,14 @@ fn routes_of(alloc: Global, value: &Value) -> Result<Routes, ObjectFault>
     routes_from(alloc, items)
 }
 
+fn only_setup_members(alloc: Global, value: &Value, setup: RsSetup) -> Result<RsSetup, SetupFault>
+    ensures value { Gives OutOfMemory (λ s. s) result (in_setup (without_others rs_setup_members (view value.now) setup)) }
+    ensures same { IfOk result (λ s. s ≡ setup) }
+{
+    let names = ["base", "server", "id", "secret", "keys", "routes"];
+    Ok(only_members(alloc, value, &names, setup)?)
+}
+
 /// The setup of a resource server that the bytes are.
 ///
 /// It is a JSON object with exactly the members `base` and `server`, addresses of servers (`gnap_objects::forms::is_base`); `id`
@@ -264,6 +273,5 @@ pub fn read_rs_setup(alloc: Global, text: &[u8]) -> Result<RsSetup, SetupFault>
         ring,
         routes,
     };
-    let names = ["base", "server", "id", "secret", "keys", "routes"];
-    Ok(only_members(alloc, &value, &names, setup)?)
+    only_setup_members(alloc, &value, setup)
 }
