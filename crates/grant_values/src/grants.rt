@@ -1,0 +1,95 @@
+//! Grant requests and modifications as JSON (RFC 9635, sections 2 and 5.3).
+ghost use Rattle.std.specs.Prelude.{◌≡◌, ◌≤◌, Ok, IfOk, option_map};
+ghost use Rattle.serde_json.specs.Data.{depth};
+ghost use Rattle.serde_json.specs.Read.{max_depth};
+ghost use Rattle.serde_json.specs.View.{view};
+ghost use Rattle.json_objects.specs.Bodies.{body_of};
+ghost use Rattle.json_objects.specs.Texts.{IsUtf8Or};
+ghost use Rattle.gnap_objects.specs.Fits.{RequestFits};
+ghost use Rattle.gnap_objects.specs.CallsFit.{ModesFitOr};
+ghost use Rattle.grant_values.specs.Grants.{subject_request_data, client_data, grant_data, grant_text};
+
+use crate::interactions::optional_modes;
+use crate::token_requests::token_requests_value;
+use gnap_io::bytes::Bytes;
+use gnap_io::memory::Mem;
+use gnap_model::objects::GrantRequest;
+use json_objects::{optional_value, put, text_value};
+use serde_json::{Map, Value};
+use std::alloc::Global;
+
+fn subject_request_value(alloc: Global, subject: bool) -> Result<Option<Value>, Mem>
+    ensures { IfOk result (λ v. option_map view v ≡ subject_request_data subject) }
+{
+    if !subject {
+        return Ok(None);
+    }
+    let mut formats = Vec::new(alloc);
+    formats.push(Value::try_from_str(alloc, "opaque")?)?;
+    let mut map = Map::new(alloc);
+    put(
+        &mut map,
+        alloc,
+        "sub_id_formats",
+        Some(Value::Array(formats)),
+    )?;
+    Ok(Some(Value::Object(map)))
+}
+
+fn client_value(
+    alloc: Global,
+    by_object: bool,
+    client: &Option<Bytes>,
+) -> Result<Option<Value>, Mem>
+    requires { IsUtf8Or client.now }
+    ensures { IfOk result (λ v. option_map view v ≡ option_map (client_data by_object) client.now) }
+{
+    let Some(id) = client else {
+        return Ok(None);
+    };
+    let id = text_value(alloc, id.as_slice())?;
+    if !by_object {
+        return Ok(Some(id));
+    }
+    let mut map = Map::new(alloc);
+    put(&mut map, alloc, "key", Some(id))?;
+    Ok(Some(Value::Object(map)))
+}
+
+/// The object that a grant request or a modification is (RFC 9635, sections 2 and 5.3).
+///
+/// Its members are `access_token`, where tokens are asked for: a token request, or an array of them, each with `access`, for a bearer token `flags`,
+/// and where it has one `label`; `client`, the id of the client's key or an object with it under `key`; `interact`, with `start` and where it is asked
+/// for `finish`; `subject`, where an opaque identifier of the user is asked for; and where the user is named `user`, the identifier. `hash_method` is
+/// there for SHA-512 alone.
+#[tactic(auto, unfolding(crate::specs::Grants::grant_data))]
+pub fn grant_value(alloc: Global, request: &GrantRequest) -> Result<Value, Mem>
+    requires fits { RequestFits request.now }
+    requires modes { ModesFitOr request.now.modes }
+    ensures { IfOk result (λ v. view v ≡ grant_data request.now) }
+{
+    let mut map = Map::new(alloc);
+    let user = optional_value(alloc, &request.user)?;
+    put(&mut map, alloc, "user", user)?;
+    let subject = subject_request_value(alloc, request.subject)?;
+    put(&mut map, alloc, "subject", subject)?;
+    let interact = optional_modes(alloc, &request.modes)?;
+    put(&mut map, alloc, "interact", interact)?;
+    let client = client_value(alloc, request.by_object, &request.client)?;
+    put(&mut map, alloc, "client", client)?;
+    let tokens = token_requests_value(alloc, request.single, request.asks.as_slice())?;
+    put(&mut map, alloc, "access_token", tokens)?;
+    Ok(Value::Object(map))
+}
+
+/// The compact text of the object that a grant request or a modification is, with the members of each object in the ascending byte order of their names.
+/// Where the object has at most 127 levels, it is what `read_body` reads of the text.
+pub fn grant_text(alloc: Global, request: &GrantRequest) -> Result<Bytes, Mem>
+    requires fits { RequestFits request.now }
+    requires modes { ModesFitOr request.now.modes }
+    ensures value { IfOk result (λ text. text ≡ grant_text request.now) }
+    ensures read { IfOk result (λ text. depth (grant_data request.now) ≤ max_depth → body_of text ≡ Ok (grant_data request.now)) }
+{
+    let value = grant_value(alloc, request)?;
+    Ok(Bytes::from_vec(value.to_vec(alloc)?))
+}

@@ -1,0 +1,93 @@
+//! The ways to interact with the user that a client offers, as JSON (RFC 9635, section 2.5).
+ghost use Rattle.std.specs.Prelude.{◌≡◌, ◌++◌, IfOk, OnOk, option_map, map};
+ghost use Rattle.serde_json.specs.Data.{string};
+ghost use Rattle.serde_json.specs.View.{view};
+ghost use Rattle.json_objects.specs.Objects.{texts_data};
+ghost use Rattle.gnap_objects.specs.CallsFit.{FinishFits, FinishFitsOr, ModesFit, ModesFitOr};
+ghost use Rattle.grant_values.specs.Interactions.{hash_method_data, finish_data, listed_if, starts_of, modes_data};
+
+use gnap_io::memory::Mem;
+use gnap_model::objects::{Finish, Modes};
+use json_objects::{put, text_value};
+use serde_json::{Map, Value};
+use std::alloc::Global;
+
+fn hash_method_value(alloc: Global, long: bool) -> Result<Option<Value>, Mem>
+    ensures { IfOk result (λ v. option_map view v ≡ hash_method_data long) }
+{
+    if !long {
+        return Ok(None);
+    }
+    Ok(Some(Value::try_from_str(alloc, "sha-512")?))
+}
+
+#[tactic(auto, unfolding(crate::specs::Interactions::finish_data), using(interaction::proofs::WebUrls::uri_is_utf8))]
+fn finish_value(alloc: Global, finish: &Finish) -> Result<Value, Mem>
+    requires { FinishFits finish.now }
+    ensures { IfOk result (λ v. view v ≡ finish_data finish.now) }
+{
+    let mut map = Map::new(alloc);
+    let uri = text_value(alloc, finish.uri.as_slice())?;
+    put(&mut map, alloc, "uri", Some(uri))?;
+    let nonce = text_value(alloc, finish.nonce.as_slice())?;
+    put(&mut map, alloc, "nonce", Some(nonce))?;
+    let method = if finish.push { "push" } else { "redirect" };
+    let method = Value::try_from_str(alloc, method)?;
+    put(&mut map, alloc, "method", Some(method))?;
+    let hash_method = hash_method_value(alloc, finish.long)?;
+    put(&mut map, alloc, "hash_method", hash_method)?;
+    Ok(Value::Object(map))
+}
+
+fn optional_finish(alloc: Global, finish: &Option<Finish>) -> Result<Option<Value>, Mem>
+    requires { FinishFitsOr finish.now }
+    ensures { IfOk result (λ v. option_map view v ≡ option_map finish_data finish.now) }
+{
+    match finish {
+        None => Ok(None),
+        Some(finish) => Ok(Some(finish_value(alloc, finish)?)),
+    }
+}
+
+fn push_if(alloc: Global, starts: &mut Vec<Value>, offered: bool, mode: &str) -> Result<(), Mem>
+    ensures { OnOk result (map view starts.new.items
+        ≡ map view starts.old.items ++ map string (listed_if offered mode.now)) }
+{
+    if offered {
+        starts.push(Value::try_from_str(alloc, mode)?)?;
+    }
+    Ok(())
+}
+
+fn starts_value(alloc: Global, modes: &Modes) -> Result<Value, Mem>
+    ensures { IfOk result (λ v. view v ≡ texts_data (starts_of modes.now)) }
+{
+    let mut starts = Vec::new(alloc);
+    push_if(alloc, &mut starts, modes.redirect, "redirect")?;
+    push_if(alloc, &mut starts, modes.user_code, "user_code")?;
+    push_if(alloc, &mut starts, modes.user_code_uri, "user_code_uri")?;
+    Ok(Value::Array(starts))
+}
+
+#[tactic(auto, unfolding(crate::specs::Interactions::modes_data))]
+fn modes_value(alloc: Global, modes: &Modes) -> Result<Value, Mem>
+    requires { ModesFit modes.now }
+    ensures { IfOk result (λ v. view v ≡ modes_data modes.now) }
+{
+    let mut map = Map::new(alloc);
+    put(&mut map, alloc, "start", Some(starts_value(alloc, modes)?))?;
+    let finish = optional_finish(alloc, &modes.finish)?;
+    put(&mut map, alloc, "finish", finish)?;
+    Ok(Value::Object(map))
+}
+
+/// The value of the member `interact`, where ways to interact are offered.
+pub fn optional_modes(alloc: Global, modes: &Option<Modes>) -> Result<Option<Value>, Mem>
+    requires { ModesFitOr modes.now }
+    ensures { IfOk result (λ v. option_map view v ≡ option_map modes_data modes.now) }
+{
+    match modes {
+        None => Ok(None),
+        Some(modes) => Ok(Some(modes_value(alloc, modes)?)),
+    }
+}
