@@ -1,6 +1,6 @@
 -- The ids of a setup are distinct, so each key adds its secret to the ring.
 use Rattle.std.proofs.Common.{◌≡◌, ◌∙◌, ℕ, suc, ◌+◌, ◌<◌, Bool, true, false, not, ◌||◌, List, [], ◌∷◌, ◌++◌, length, map, drop, get_or, Result, Ok, Err, Option, Some, None, refl, sym, ap, subst, add-one, append_assoc}
-use Rattle.std.specs.Prelude.{if◌then◌else◌, nat_lt, codes}
+use Rattle.std.specs.Prelude.{nat_lt, codes}
 use Rattle.std.specs.List.{list_any}
 use Rattle.std.specs.Str.{bytes_eq}
 use Rattle.std.proofs.Math.Seq.{drop-cons}
@@ -13,46 +13,11 @@ use Rattle.hmac_key.specs.Keyring.{with_secret}
 use Rattle.gnap_model.specs.Common.{Text}
 use Rattle.gnap_model.specs.declared.objects.KeyRow.{KeyRow}
 use Rattle.gnap_model.specs.declared.objects.Setup.{Setup}
-use Rattle.gnap_objects.specs.declared.fault.ObjectFault.{ObjectFault}
-use Rattle.gnap_objects.specs.declared.fault.ObjectFault.TheVariants as faults
-use Rattle.gnap_objects.specs.declared.setups.SetupFault.TheVariants.{InSetup}
-use Rattle.gnap_objects.specs.Reading.{none_unknown, without_others, checked, required, id_of}
-use Rattle.gnap_objects.specs.Setups.{has_id, key_id_of, role_of, secret_of, client_rights, server_names, key_members, key_row_of, in_setup, in_key, keys_from, few_keys, key_items_of, keys_of, object_in, base_of, setup_of, IsSetup}
+use Rattle.gnap_objects.specs.Reading.{without_others, checked, required, required_items, id_of}
+use Rattle.gnap_objects.specs.Setups.{has_id, key_id_of, role_of, secret_of, client_rights, server_names, key_members, key_row_of, in_setup, in_key, keys_from, few_keys, keys_of, object_in, base_of, setup_of, IsSetup}
+use Rattle.gnap_objects.proofs.ReadParts.{bind_ok, chosen_ok, checked_ok, others_ok, setup_ok, key_ok}
 use Rattle.json_objects.specs.Bodies.{body_of}
 use Rattle.json_objects.specs.Members.{other_member}
-
--- ---- what it takes that a reader gives a value
-
-record IsRead {E A B : Type 0} (r : Result A E) (f : A → Result B E) (y : B) : Type 0 where
-  value : A
-  is : r ≡ Ok value
-  rest : f value ≡ Ok y
-
-read_ok : {E A B : Type 0} (r : Result A E) (f : A → Result B E) (y : B) → (r >>= f) ≡ Ok y → IsRead r f y
-read_ok (Ok x) f y e = record { value = x; is = refl; rest = e }
-read_ok (Err fault) f y e = absurd cc
-
-setup_ok : {A : Type 0} (r : Result A ObjectFault) (y : A) → in_setup r ≡ Ok y → r ≡ Ok y
-setup_ok (Ok x) y e = cc
-setup_ok (Err fault) y e = absurd cc
-
-key_ok : {A : Type 0} (place : ℕ) (r : Result A ObjectFault) (y : A) → in_key place r ≡ Ok y → r ≡ Ok y
-key_ok place (Ok x) y e = cc
-key_ok place (Err fault) y e = absurd cc
-
-checked_ok : (test : List ℕ → Bool) (name x y : List ℕ) → checked test name x ≡ Ok y → test y ≡ true
-checked_ok test name x y e = by (test x) refl e
-  where
-    by : (b : Bool) → test x ≡ b → (if b then Ok x else Err (faults.Wrong name)) ≡ Ok y → test y ≡ true
-    by true so e = let same : x ≡ y = cc in subst (λ z. test z ≡ true) same so
-    by false so e = absurd cc
-
-few_ok : (ks ls : List KeyRow) → few_keys ks ≡ Ok ls → ks ≡ ls
-few_ok ks ls e = by (nat_lt 4096 (length ks)) e
-  where
-    by : (b : Bool) → (if b then Err (InSetup (faults.TooMany (codes "keys"))) else Ok ks) ≡ Ok ls → ks ≡ ls
-    by true e = absurd cc
-    by false e = cc
 
 -- ---- a key's id is new
 
@@ -81,23 +46,20 @@ id_new : (before : List KeyRow) (d : Data) (id : Text) → key_id_of before d �
 unfolding key_id_of
 id_new before d id e =
     let test : Text → Bool = λ id. not (list_any (has_id id) before) in
-    let last = read_ok (required (codes "id") d >>= id_of (codes "id")) (checked test (codes "id")) id e in
-    no_id before id (not_so (list_any (has_id id) before) (checked_ok test (codes "id") last.value id last.rest))
-
-none_is : {A : Type 0} (other : Option (List ℕ)) (x y : A) → none_unknown other x ≡ Ok y → x ≡ y
-none_is None x y e = cc
-none_is (Some name) x y e = absurd cc
+    let last = bind_ok (required (codes "id") d >>= id_of (codes "id")) (checked test (codes "id")) id e in
+    let form = checked_ok (test last.0) _ last.0 id last.2 in
+    no_id before id (not_so (list_any (has_id id) before) (subst (λ x. test x ≡ true) form.1 form.0))
 
 key_new : (before : List KeyRow) (d : Data) (k : KeyRow) → key_row_of before d ≡ Ok k → value_at (secrets before) k.id ≡ None
 unfolding key_row_of
 key_new before d k e =
-    let id = read_ok (key_id_of before d) _ k e in
-    let role = read_ok (role_of d) _ k id.rest in
-    let secret = read_ok (secret_of d) _ k role.rest in
-    let auto = read_ok (client_rights role.value (codes "auto") d) _ k secret.rest in
-    let ask = read_ok (client_rights role.value (codes "ask") d) _ k auto.rest in
-    let serves = read_ok (server_names role.value d) _ k ask.rest in
-    subst (λ (row : KeyRow). value_at (secrets before) row.id ≡ None) (none_is (other_member (key_members role.value) d) _ k serves.rest) (id_new before d id.value id.is)
+    let id = bind_ok (key_id_of before d) _ k e in
+    let role = bind_ok (role_of d) _ k id.2 in
+    let secret = bind_ok (secret_of d) _ k role.2 in
+    let auto = bind_ok (client_rights role.0 (codes "auto") d) _ k secret.2 in
+    let ask = bind_ok (client_rights role.0 (codes "ask") d) _ k auto.2 in
+    let serves = bind_ok (server_names role.0 d) _ k ask.2 in
+    subst (λ (row : KeyRow). value_at (secrets before) row.id ≡ None) (others_ok (other_member (key_members role.0) d) _ k serves.2) (id_new before d id.0 id.1)
 
 -- ---- the keys of a setup
 
@@ -109,34 +71,34 @@ record AreAdded (before ks : List KeyRow) : Type 0 where
 keys_new : (before : List KeyRow) (ds : Items) (ks : List KeyRow) → keys_from before ds ≡ Ok ks → AreAdded before ks
 keys_new before no_items ks e = record { more = []; split = (let same : before ≡ ks = cc in sym same ∙ sym (append-nil before)); new = tt }
 keys_new before (item d ds) ks e =
-    let first = read_ok (in_key (length before) (key_row_of before d)) _ ks e in
-    let k = first.value in
-    let others = keys_new (before ++ k ∷ []) ds ks first.rest in
+    let first = bind_ok (in_key (length before) (key_row_of before d)) _ ks e in
+    let k = first.0 in
+    let others = keys_new (before ++ k ∷ []) ds ks first.2 in
     record {
       more = k ∷ others.more;
       split = others.split ∙ append_assoc before (k ∷ []) others.more;
-      new = (key_new before d k (key_ok (length before) (key_row_of before d) k first.is), subst (λ ring. AreNew ring others.more) (map-append (λ k. (k.id, k.secret)) before (k ∷ [])) others.new);
+      new = (key_new before d k (key_ok (length before) (key_row_of before d) k first.1), subst (λ ring. AreNew ring others.more) (map-append (λ k. (k.id, k.secret)) before (k ∷ [])) others.new);
     }
 
 read_new : (d : Data) (ks : List KeyRow) → keys_of d ≡ Ok ks → AreNew [] ks
 unfolding keys_of
 read_new d ks e =
-    let few = read_ok (in_setup (key_items_of d) >>= keys_from []) few_keys ks e in
-    let read = read_ok (in_setup (key_items_of d)) (keys_from []) few.value few.is in
-    let added = keys_new [] read.value few.value read.rest in
-    subst (AreNew []) (sym added.split ∙ few_ok few.value ks few.rest) added.new
+    let few = bind_ok (in_setup (required_items (codes "keys") d) >>= keys_from []) few_keys ks e in
+    let read = bind_ok (in_setup (required_items (codes "keys") d)) (keys_from []) few.0 few.1 in
+    let added = keys_new [] read.0 few.0 read.2 in
+    subst (AreNew []) (sym added.split ∙ chosen_ok (nat_lt 4096 (length few.0)) _ few.0 ks few.2) added.new
 
 -- the keys of a setup are under distinct ids
 setup_new : (s : Setup) → IsSetup s → AreNew [] s.keys
 unfolding setup_of
 setup_new s is =
-    let d = read_ok (object_in (body_of is.text)) _ s is.read_as in
-    let base = read_ok (in_setup (base_of (codes "base") d.value)) _ s d.rest in
-    let front = read_ok (in_setup (base_of (codes "front") d.value)) _ s base.rest in
-    let keys = read_ok (keys_of d.value) _ s front.rest in
-    let setup : Setup = record { base = base.value; front = front.value; keys = keys.value } in
+    let d = bind_ok (object_in (body_of is.text)) _ s is.read_as in
+    let base = bind_ok (in_setup (base_of (codes "base") d.0)) _ s d.2 in
+    let front = bind_ok (in_setup (base_of (codes "front") d.0)) _ s base.2 in
+    let keys = bind_ok (keys_of d.0) _ s front.2 in
+    let setup : Setup = record { base = base.0; front = front.0; keys = keys.0 } in
     let names = codes "base" ∷ codes "front" ∷ codes "keys" ∷ [] in
-    subst (λ (x : Setup). AreNew [] x.keys) (none_is (other_member names d.value) setup s (setup_ok (without_others names d.value setup) s keys.rest)) (read_new d.value keys.value keys.is)
+    subst (λ (x : Setup). AreNew [] x.keys) (others_ok (other_member names d.0) setup s (setup_ok (without_others names d.0 setup) s keys.2)) (read_new d.0 keys.0 keys.1)
 
 -- ---- the ring, key by key
 

@@ -35,8 +35,3 @@ pub use histories::lone::Lone;
 pub use histories::machine::{Core, Desk, Machine};
 pub use list_core::{ListCore, ListDesk, list_desk};
 pub use values::{code_text, value_text};
-
-#[cfg(test)]
-mod front_tests;
-#[cfg(test)]
-mod tests;

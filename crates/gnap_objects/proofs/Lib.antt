@@ -1,2 +1,3 @@
 pub mod AskedSizes
 pub mod Given
+pub mod ReadParts

@@ -1,5 +1,5 @@
 -- The call that a key makes: from the key's role on, up to the call or the code of the error with which it is refused.
-use Rattle.std.specs.Prelude.{◌≢◌, ℕ, List, Bool, true, false, Option, Some, None, Result, Ok, Err, if◌then◌else◌}
+use Rattle.std.specs.Prelude.{◌≡◌, ◌≢◌, ℕ, List, Bool, true, false, Option, Some, None, Result, Ok, Err, if◌then◌else◌}
 use Rattle.serde_json.specs.Data.{Data}
 use Rattle.serde_json.specs.View.{view}
 use Rattle.json_objects.specs.Bodies.{IsBody}
@@ -17,6 +17,7 @@ use Rattle.gnap_model.specs.declared.objects.ErrorCode.TheVariants.{InvalidReque
 use Rattle.gnap_model.specs.declared.calls.Call.{Call}
 use Rattle.gnap_model.specs.declared.calls.Call.TheVariants as calls
 use Rattle.gnap_objects.specs.declared.fault.ObjectFault.{ObjectFault}
+use Rattle.gnap_objects.specs.declared.fault.ObjectFault.TheVariants as object
 use Rattle.gnap_objects.specs.declared.grants.GrantBody.{GrantBody}
 use Rattle.gnap_objects.specs.declared.call_reading.BodyForm.{BodyForm}
 use Rattle.gnap_objects.specs.declared.call_reading.BodyForm.TheVariants as forms
@@ -24,6 +25,8 @@ use Rattle.gnap_objects.specs.declared.call_reading.CallKind.{CallKind}
 use Rattle.gnap_objects.specs.declared.call_reading.CallKind.TheVariants.{Begin, Continue, Modify, Cancel, Rotate, Revoke, Introspect, Look, FindCode, Decide}
 use Rattle.gnap_objects.specs.declared.call_reading.CallOrRefusal.{CallOrRefusal}
 use Rattle.gnap_objects.specs.declared.call_reading.CallOrRefusal.TheVariants.{Accepted, Refused}
+use Rattle.gnap_objects.specs.declared.call_reading.NoCall.{NoCall}
+use Rattle.gnap_objects.specs.declared.call_reading.NoCall.TheVariants as nothing
 use Rattle.gnap_objects.specs.Grants.{grant_body_of}
 use Rattle.gnap_objects.specs.Continuations.{continuation_of, rotation_of}
 use Rattle.gnap_objects.specs.Introspections.{introspection_of}
@@ -170,6 +173,20 @@ unfoldable pub call_of : Setup → CallKind → Text → Text → Body → CallO
 call_of setup kind key value body = if is_caller kind (key_of setup key) then caller_call kind key value body else stranger kind
 
 -- the machine takes the call
+abbrev pub MachineTakes : Call → Type 0
+MachineTakes call = HasFewAsks call × TextsFit call × (call ≢ calls.Lapse)
+
 abbrev pub IsTaken : CallOrRefusal → Type 0
-IsTaken (Accepted call) = HasFewAsks call × TextsFit call × (call ≢ calls.Lapse)
+IsTaken (Accepted call) = MachineTakes call
 IsTaken (Refused code) = Unit {0}
+
+-- the answer to a body whose reader met this fault
+abbrev pub no_call : ObjectFault → NoCall
+no_call object.OutOfMemory = nothing.OutOfMemory
+no_call fault = nothing.Refused InvalidRequest
+
+-- the call or the refusal was answered, or memory ran out
+abbrev pub IsCallOf : Result Call NoCall → CallOrRefusal → Type 0
+IsCallOf (Ok call) expected = expected ≡ Accepted call
+IsCallOf (Err (nothing.Refused code)) expected = expected ≡ Refused code
+IsCallOf (Err nothing.OutOfMemory) expected = Unit {0}

@@ -6,10 +6,9 @@ use Rattle.base64.specs.declared.decode.DecodeError.{DecodeError}
 use Rattle.base64.specs.Engines.{standard}
 use Rattle.base64.specs.GeneralPurpose.{decode_of}
 use Rattle.serde_json.specs.Data.{Data, Items, no_items, item}
-use Rattle.serde_json.specs.Find.{as_array}
 use Rattle.json_objects.specs.declared.body.BodyFault.{BodyFault}
 use Rattle.json_objects.specs.Bodies.{body_of}
-use Rattle.json_objects.specs.Reading.{◌>>=◌, or_fault, each}
+use Rattle.json_objects.specs.Reading.{◌>>=◌, each}
 use Rattle.gnap_model.specs.declared.rights.Right.{Right}
 use Rattle.gnap_model.specs.declared.objects.Role.TheVariants.{Client, Server, Front}
 use Rattle.gnap_model.specs.declared.objects.Role.{Role}
@@ -20,7 +19,7 @@ use Rattle.gnap_objects.specs.declared.fault.ObjectFault.TheVariants as faults
 use Rattle.gnap_objects.specs.declared.setups.SetupFault.{SetupFault}
 use Rattle.gnap_objects.specs.declared.setups.SetupFault.TheVariants.{NotJson, InSetup, InKey, OutOfMemory}
 use Rattle.gnap_objects.specs.Forms.{is_base}
-use Rattle.gnap_objects.specs.Reading.{required, text_of, checked, id_of, without_others, rights_under}
+use Rattle.gnap_objects.specs.Reading.{required, required_items, text_of, checked, id_of, without_others, rights_under}
 use Rattle.gnap_objects.specs.Fits.{SetupFits}
 
 -- the address of a server
@@ -63,7 +62,7 @@ few_names ns = if nat_lt 256 (length ns) then Err (faults.TooMany (codes "serves
 
 -- at most 256 strings
 unfoldable pub names_of : Data → Result (List (List ℕ)) ObjectFault
-names_of d = required (codes "serves") d >>= λ a. or_fault (faults.Wrong (codes "serves")) (as_array a) >>= each (text_of (codes "serves")) >>= few_names
+names_of d = required_items (codes "serves") d >>= each (text_of (codes "serves")) >>= few_names
 
 -- a server's `serves`
 abbrev pub server_names : Role → Data → Result (List (List ℕ)) ObjectFault
@@ -112,12 +111,9 @@ keys_from before (item d ds) = in_key (length before) (key_row_of before d) >>= 
 abbrev pub few_keys : List KeyRow → Result (List KeyRow) SetupFault
 few_keys ks = if nat_lt 4096 (length ks) then Err (InSetup (faults.TooMany (codes "keys"))) else Ok ks
 
-abbrev pub key_items_of : Data → Result Items ObjectFault
-key_items_of d = required (codes "keys") d >>= λ a. or_fault (faults.Wrong (codes "keys")) (as_array a)
-
 -- `keys`: at most 4,096
 unfoldable pub keys_of : Data → Result (List KeyRow) SetupFault
-keys_of d = in_setup (key_items_of d) >>= keys_from [] >>= few_keys
+keys_of d = in_setup (required_items (codes "keys") d) >>= keys_from [] >>= few_keys
 
 abbrev pub object_in : Result Data BodyFault → Result Data SetupFault
 object_in (Ok d) = Ok d

@@ -8,7 +8,8 @@ ghost use Rattle.gnap_objects.specs.Continuations.{continuation_of, rotation_of}
 ghost use Rattle.gnap_objects.specs.Introspections.{introspection_of};
 ghost use Rattle.gnap_objects.specs.UserCodes.{user_code_of};
 ghost use Rattle.gnap_objects.specs.Decisions.{handle_of, decide_request_of};
-ghost use Rattle.gnap_objects.specs.CallReading.{is_caller, stranger, IsReadable, body_in, begin_by, modify_by, continue_by, rotate_by, introspect_by, look_by, find_code_by, decide_by, caller_call, call_of, IsTaken};
+ghost use Rattle.gnap_objects.specs.CallReading.{is_caller, stranger, IsReadable, body_in, begin_by, modify_by, continue_by, rotate_by, introspect_by, look_by, find_code_by, decide_by, caller_call, call_of, MachineTakes, IsTaken, IsCallOf, no_call};
+ghost use Rattle.gnap_objects.specs.declared.call_reading.NoCall.TheVariants.{OutOfMemory};
 
 use crate::continuations::{read_continue, read_rotate};
 use crate::decisions::{read_decide, read_handle};
@@ -68,6 +69,32 @@ pub enum CallOrRefusal {
     Refused(ErrorCode),
 }
 
+// Why a body gives no call.
+#[derive(Drop)]
+enum NoCall {
+    Refused(ErrorCode),
+    OutOfMemory,
+}
+
+impl From<ObjectFault> for NoCall {
+    ghost from_gives = { λ fault e. e ≡ no_call fault };
+
+    fn from(fault: ObjectFault) -> NoCall {
+        match fault {
+            ObjectFault::OutOfMemory => NoCall::OutOfMemory,
+            _ => NoCall::Refused(ErrorCode::InvalidRequest),
+        }
+    }
+}
+
+impl From<Mem> for NoCall {
+    ghost from_gives = { λ _ e. e ≡ OutOfMemory };
+
+    fn from(_e: Mem) -> NoCall {
+        NoCall::OutOfMemory
+    }
+}
+
 fn is_caller(kind: CallKind, key: Option<&KeyRow>) -> bool
     ensures { result ≡ is_caller kind (option_map (λ k. k.now) key.entry) }
 {
@@ -106,56 +133,48 @@ pub fn stranger(kind: CallKind) -> CallOrRefusal
     }
 }
 
-fn begin_by(alloc: Global, key: &[u8], body: &Value) -> Result<CallOrRefusal, Mem>
+fn begin_by(alloc: Global, key: &[u8], body: &Value) -> Result<Call, NoCall>
     requires key { IsUtf8 key.now }
     requires body { IsBody (view body.now) }
-    ensures call { IfOk result (λ c. c ≡ begin_by key.now (grant_body_of false (view body.now))) }
-    ensures taken { IfOk result IsTaken }
+    ensures call { IsCallOf result (begin_by key.now (grant_body_of false (view body.now))) }
+    ensures taken { IfOk result MachineTakes }
 {
-    let body = match grant_body_of(alloc, body, false) {
-        Ok(body) => body,
-        Err(ObjectFault::OutOfMemory) => return Err(Mem),
-        Err(_) => return Ok(CallOrRefusal::Refused(ErrorCode::InvalidRequest)),
-    };
+    let body = grant_body_of(alloc, body, false)?;
     let names_key = match &body.request.client {
         Some(client) => client.as_slice() == key,
         None => false,
     };
     if !names_key {
-        return Ok(stranger(CallKind::Begin));
+        return Err(NoCall::Refused(ErrorCode::InvalidClient));
     }
     if body.repeats_flag {
-        return Ok(CallOrRefusal::Refused(ErrorCode::InvalidFlag));
+        return Err(NoCall::Refused(ErrorCode::InvalidFlag));
     }
     let key = Bytes::from_slice(alloc, key)?;
-    Ok(CallOrRefusal::Accepted(Call::Begin {
+    Ok(Call::Begin {
         key,
         request: body.request,
         not_after: None,
-    }))
+    })
 }
 
-fn modify_by(alloc: Global, key: &[u8], value: &[u8], body: &Value) -> Result<CallOrRefusal, Mem>
+fn modify_by(alloc: Global, key: &[u8], value: &[u8], body: &Value) -> Result<Call, NoCall>
     requires key { IsUtf8 key.now }
     requires body { IsBody (view body.now) }
-    ensures call { IfOk result (λ c. c ≡ modify_by key.now value.now (grant_body_of true (view body.now))) }
-    ensures taken { IfOk result IsTaken }
+    ensures call { IsCallOf result (modify_by key.now value.now (grant_body_of true (view body.now))) }
+    ensures taken { IfOk result MachineTakes }
 {
-    let wanted = match grant_body_of(alloc, body, true) {
-        Ok(wanted) => wanted,
-        Err(ObjectFault::OutOfMemory) => return Err(Mem),
-        Err(_) => return Ok(CallOrRefusal::Refused(ErrorCode::InvalidRequest)),
-    };
+    let wanted = grant_body_of(alloc, body, true)?;
     if wanted.repeats_flag {
-        return Ok(CallOrRefusal::Refused(ErrorCode::InvalidFlag));
+        return Err(NoCall::Refused(ErrorCode::InvalidFlag));
     }
     let key = Bytes::from_slice(alloc, key)?;
     let value = Bytes::from_slice(alloc, value)?;
-    Ok(CallOrRefusal::Accepted(Call::Modify {
+    Ok(Call::Modify {
         key,
         value,
         request: wanted.request,
-    }))
+    })
 }
 
 fn continue_by(
@@ -163,113 +182,84 @@ fn continue_by(
     key: &[u8],
     value: &[u8],
     body: Option<&Value>,
-) -> Result<CallOrRefusal, Mem>
+) -> Result<Call, NoCall>
     requires { IsUtf8 key.now }
-    ensures call { IfOk result (λ c. c ≡ continue_by key.now value.now (continuation_of (option_map (λ v. view v.now) body.entry))) }
-    ensures taken { IfOk result IsTaken }
+    ensures call { IsCallOf result (continue_by key.now value.now (continuation_of (option_map (λ v. view v.now) body.entry))) }
+    ensures taken { IfOk result MachineTakes }
 {
-    let request = match read_continue(alloc, body) {
-        Ok(request) => request,
-        Err(ObjectFault::OutOfMemory) => return Err(Mem),
-        Err(_) => return Ok(CallOrRefusal::Refused(ErrorCode::InvalidRequest)),
-    };
+    let request = read_continue(alloc, body)?;
     let key = Bytes::from_slice(alloc, key)?;
     let value = Bytes::from_slice(alloc, value)?;
-    Ok(CallOrRefusal::Accepted(Call::Continue {
+    Ok(Call::Continue {
         key,
         value,
         reference: request.reference,
-    }))
+    })
 }
 
-fn rotate_by(
-    alloc: Global,
-    key: &[u8],
-    value: &[u8],
-    body: Option<&Value>,
-) -> Result<CallOrRefusal, Mem>
+fn rotate_by(alloc: Global, key: &[u8], value: &[u8], body: Option<&Value>) -> Result<Call, NoCall>
     requires { IsUtf8 key.now }
-    ensures call { IfOk result (λ c. c ≡ rotate_by key.now value.now (rotation_of (option_map (λ v. view v.now) body.entry))) }
-    ensures taken { IfOk result IsTaken }
+    ensures call { IsCallOf result (rotate_by key.now value.now (rotation_of (option_map (λ v. view v.now) body.entry))) }
+    ensures taken { IfOk result MachineTakes }
 {
-    let new_key = match read_rotate(alloc, body) {
-        Ok(new_key) => new_key,
-        Err(ObjectFault::OutOfMemory) => return Err(Mem),
-        Err(_) => return Ok(CallOrRefusal::Refused(ErrorCode::InvalidRequest)),
-    };
+    let new_key = read_rotate(alloc, body)?;
     let key = Bytes::from_slice(alloc, key)?;
     let value = Bytes::from_slice(alloc, value)?;
-    Ok(CallOrRefusal::Accepted(Call::Rotate {
+    Ok(Call::Rotate {
         key,
         value,
         new_key,
-    }))
+    })
 }
 
-fn introspect_by(alloc: Global, key: &[u8], body: &Value) -> Result<CallOrRefusal, Mem>
+fn introspect_by(alloc: Global, key: &[u8], body: &Value) -> Result<Call, NoCall>
     requires key { IsUtf8 key.now }
     requires body { IsBody (view body.now) }
-    ensures call { IfOk result (λ c. c ≡ introspect_by key.now (introspection_of (view body.now))) }
-    ensures taken { IfOk result IsTaken }
+    ensures call { IsCallOf result (introspect_by key.now (introspection_of (view body.now))) }
+    ensures taken { IfOk result MachineTakes }
 {
-    let request = match read_introspect(alloc, body) {
-        Ok(request) => request,
-        Err(ObjectFault::OutOfMemory) => return Err(Mem),
-        Err(_) => return Ok(CallOrRefusal::Refused(ErrorCode::InvalidRequest)),
-    };
+    let request = read_introspect(alloc, body)?;
     if request.server.as_slice() != key {
-        return Ok(stranger(CallKind::Introspect));
+        return Err(NoCall::Refused(ErrorCode::InvalidResourceServer));
     }
     let server = Bytes::from_slice(alloc, key)?;
-    Ok(CallOrRefusal::Accepted(Call::Introspect {
+    Ok(Call::Introspect {
         server,
         value: request.value,
         binding: request.binding,
         wanted: request.wanted,
-    }))
+    })
 }
 
-fn look_by(alloc: Global, key: &[u8], body: &Value) -> Result<CallOrRefusal, Mem>
+fn look_by(alloc: Global, key: &[u8], body: &Value) -> Result<Call, NoCall>
     requires { IsUtf8 key.now }
-    ensures call { IfOk result (λ c. c ≡ look_by key.now (handle_of (view body.now))) }
-    ensures taken { IfOk result IsTaken }
+    ensures call { IsCallOf result (look_by key.now (handle_of (view body.now))) }
+    ensures taken { IfOk result MachineTakes }
 {
-    let handle = match read_handle(alloc, body) {
-        Ok(handle) => handle,
-        Err(ObjectFault::OutOfMemory) => return Err(Mem),
-        Err(_) => return Ok(CallOrRefusal::Refused(ErrorCode::InvalidRequest)),
-    };
+    let handle = read_handle(alloc, body)?;
     let front = Bytes::from_slice(alloc, key)?;
-    Ok(CallOrRefusal::Accepted(Call::Look { front, handle }))
+    Ok(Call::Look { front, handle })
 }
 
-fn find_code_by(alloc: Global, key: &[u8], body: &Value) -> Result<CallOrRefusal, Mem>
+fn find_code_by(alloc: Global, key: &[u8], body: &Value) -> Result<Call, NoCall>
     requires { IsUtf8 key.now }
-    ensures call { IfOk result (λ c. c ≡ find_code_by key.now (user_code_of (view body.now))) }
-    ensures taken { IfOk result IsTaken }
+    ensures call { IsCallOf result (find_code_by key.now (user_code_of (view body.now))) }
+    ensures taken { IfOk result MachineTakes }
 {
-    let code = match read_code(alloc, body) {
-        Ok(code) => code,
-        Err(ObjectFault::OutOfMemory) => return Err(Mem),
-        Err(_) => return Ok(CallOrRefusal::Refused(ErrorCode::InvalidRequest)),
-    };
+    let code = read_code(alloc, body)?;
     let front = Bytes::from_slice(alloc, key)?;
-    Ok(CallOrRefusal::Accepted(Call::FindCode { front, code }))
+    Ok(Call::FindCode { front, code })
 }
 
-fn decide_by(alloc: Global, key: &[u8], body: &Value) -> Result<CallOrRefusal, Mem>
+fn decide_by(alloc: Global, key: &[u8], body: &Value) -> Result<Call, NoCall>
     requires key { IsUtf8 key.now }
     requires body { IsBody (view body.now) }
-    ensures call { IfOk result (λ c. c ≡ decide_by key.now (decide_request_of (view body.now))) }
-    ensures taken { IfOk result IsTaken }
+    ensures call { IsCallOf result (decide_by key.now (decide_request_of (view body.now))) }
+    ensures taken { IfOk result MachineTakes }
 {
-    let request = match read_decide(alloc, body) {
-        Ok(request) => request,
-        Err(ObjectFault::OutOfMemory) => return Err(Mem),
-        Err(_) => return Ok(CallOrRefusal::Refused(ErrorCode::InvalidRequest)),
-    };
+    let request = read_decide(alloc, body)?;
     let front = Bytes::from_slice(alloc, key)?;
-    Ok(CallOrRefusal::Accepted(Call::Decide { front, request }))
+    Ok(Call::Decide { front, request })
 }
 
 // The call of one who may make it.
@@ -279,33 +269,33 @@ fn caller_call(
     key: &[u8],
     value: &[u8],
     body: BodyForm<'_>,
-) -> Result<CallOrRefusal, Mem>
+) -> Result<Call, NoCall>
     requires key { IsUtf8 key.now }
     requires body { IsReadable body }
-    ensures call { IfOk result (λ c. c ≡ caller_call kind key.now value.now (body_in body.entry)) }
-    ensures taken { IfOk result IsTaken }
+    ensures call { IsCallOf result (caller_call kind key.now value.now (body_in body.entry)) }
+    ensures taken { IfOk result MachineTakes }
 {
     match (kind, body) {
         (CallKind::Begin, BodyForm::Object(body)) => begin_by(alloc, key, body),
         (CallKind::Continue, BodyForm::Absent) => continue_by(alloc, key, value, None),
         (CallKind::Continue, BodyForm::Object(body)) => continue_by(alloc, key, value, Some(body)),
         (CallKind::Modify, BodyForm::Object(body)) => modify_by(alloc, key, value, body),
-        (CallKind::Cancel, _) => Ok(CallOrRefusal::Accepted(Call::Cancel {
+        (CallKind::Cancel, _) => Ok(Call::Cancel {
             key: Bytes::from_slice(alloc, key)?,
             value: Bytes::from_slice(alloc, value)?,
-        })),
+        }),
         (CallKind::Rotate, BodyForm::Absent) => rotate_by(alloc, key, value, None),
         (CallKind::Rotate, BodyForm::Object(body)) => rotate_by(alloc, key, value, Some(body)),
-        (CallKind::Revoke, _) => Ok(CallOrRefusal::Accepted(Call::Revoke {
+        (CallKind::Revoke, _) => Ok(Call::Revoke {
             key: Bytes::from_slice(alloc, key)?,
             value: Bytes::from_slice(alloc, value)?,
-        })),
+        }),
         (CallKind::Introspect, BodyForm::Object(body)) => introspect_by(alloc, key, body),
         (CallKind::Look, BodyForm::Object(body)) => look_by(alloc, key, body),
         (CallKind::FindCode, BodyForm::Object(body)) => find_code_by(alloc, key, body),
         (CallKind::Decide, BodyForm::Object(body)) => decide_by(alloc, key, body),
         (_, BodyForm::Absent | BodyForm::NotOfForm) => {
-            Ok(CallOrRefusal::Refused(ErrorCode::InvalidRequest))
+            Err(NoCall::Refused(ErrorCode::InvalidRequest))
         }
     }
 }
@@ -332,9 +322,12 @@ pub fn read_call(
     ensures call { IfOk result (λ c. c ≡ call_of setup.now kind key.now value.now (body_in body.entry)) }
     ensures taken { IfOk result IsTaken }
 {
-    if is_caller(kind, setup.key(key)) {
-        caller_call(alloc, kind, key, value, body)
-    } else {
-        Ok(stranger(kind))
+    if !is_caller(kind, setup.key(key)) {
+        return Ok(stranger(kind));
+    }
+    match caller_call(alloc, kind, key, value, body) {
+        Ok(call) => Ok(CallOrRefusal::Accepted(call)),
+        Err(NoCall::Refused(code)) => Ok(CallOrRefusal::Refused(code)),
+        Err(NoCall::OutOfMemory) => Err(Mem),
     }
 }

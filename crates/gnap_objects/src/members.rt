@@ -2,7 +2,7 @@
 ghost use Rattle.std.specs.Prelude.{◌≡◌, IfOk, IsUtf8, map};
 ghost use Rattle.std.specs.List.{AllByRecursion};
 ghost use Rattle.serde_json.specs.View.{view, items_view};
-ghost use Rattle.json_objects.specs.Bodies.{IsBody};
+ghost use Rattle.json_objects.specs.Bodies.{IsBody, AreBodies};
 ghost use Rattle.json_objects.specs.Reading.{Gives};
 ghost use Rattle.access_rights.specs.Fits.{Fits};
 ghost use Rattle.access_rights.specs.Reading.{rights_of};
@@ -20,11 +20,8 @@ use json_objects::{member, other_member};
 use serde_json::Value;
 use std::alloc::Global;
 
-pub(crate) fn required<'v>(
-    alloc: Global,
-    value: &'v Value,
-    name: &str,
-) -> Result<&'v Value, ObjectFault>
+/// The member of that name; `Missing` where there is none.
+pub fn required<'v>(alloc: Global, value: &'v Value, name: &str) -> Result<&'v Value, ObjectFault>
     ensures value { Gives OutOfMemory (λ v. view v.now) result (required name.now (view value.now)) }
     ensures body { IsBody (view value.now) → IfOk result (λ v. IsBody (view v.now)) }
 {
@@ -34,8 +31,9 @@ pub(crate) fn required<'v>(
     }
 }
 
+/// The string that the value is; `Wrong`, with that name, where it is none.
 #[tactic(auto, unfolding(crate::specs::Reading::text_of))]
-pub(crate) fn text_of(alloc: Global, value: &Value, name: &str) -> Result<Bytes, ObjectFault>
+pub fn text_of(alloc: Global, value: &Value, name: &str) -> Result<Bytes, ObjectFault>
     ensures value { Gives OutOfMemory (λ b. b) result (text_of name.now (view value.now)) }
     ensures utf8 { IfOk result IsUtf8 }
 {
@@ -45,8 +43,9 @@ pub(crate) fn text_of(alloc: Global, value: &Value, name: &str) -> Result<Bytes,
     Ok(Bytes::from_slice(alloc, text.as_bytes())?)
 }
 
+/// The id that the value is (`forms::is_id`); `Wrong`, with that name, where it is none.
 #[tactic(auto, unfolding(crate::specs::Reading::id_of))]
-pub(crate) fn id_of(alloc: Global, value: &Value, name: &str) -> Result<Bytes, ObjectFault>
+pub fn id_of(alloc: Global, value: &Value, name: &str) -> Result<Bytes, ObjectFault>
     ensures value { Gives OutOfMemory (λ b. b) result (id_of name.now (view value.now)) }
     ensures utf8 { IfOk result IsUtf8 }
 {
@@ -57,9 +56,9 @@ pub(crate) fn id_of(alloc: Global, value: &Value, name: &str) -> Result<Bytes, O
     Ok(text)
 }
 
-// The string under the member of that name.
+/// The string under the member of that name; `Missing` or `Wrong` where there is none.
 #[tactic(auto, unfolding(crate::specs::Reading::required_text))]
-pub(crate) fn required_text(alloc: Global, value: &Value, name: &str) -> Result<Bytes, ObjectFault>
+pub fn required_text(alloc: Global, value: &Value, name: &str) -> Result<Bytes, ObjectFault>
     ensures value { Gives OutOfMemory (λ b. b) result (required_text name.now (view value.now)) }
     ensures utf8 { IfOk result IsUtf8 }
 {
@@ -67,13 +66,14 @@ pub(crate) fn required_text(alloc: Global, value: &Value, name: &str) -> Result<
     text_of(alloc, member, name)
 }
 
-// The array under the member of that name.
-pub(crate) fn required_items<'v>(
+/// The array under the member of that name; `Missing` or `Wrong` where there is none.
+pub fn required_items<'v>(
     alloc: Global,
     value: &'v Value,
     name: &str,
 ) -> Result<&'v Vec<Value>, ObjectFault>
-    ensures { Gives OutOfMemory (λ items. items_view items.now.items) result (required_items name.now (view value.now)) }
+    ensures value { Gives OutOfMemory (λ items. items_view items.now.items) result (required_items name.now (view value.now)) }
+    ensures bodies { IsBody (view value.now) → IfOk result (λ items. AreBodies (items_view items.now.items)) }
 {
     let member = required(alloc, value, name)?;
     match member.as_array() {
@@ -164,8 +164,8 @@ pub(crate) fn key_name_of(alloc: Global, value: &Value, name: &str) -> Result<Ke
     })
 }
 
-// What was read, where the object has no members but those of these names.
-pub(crate) fn without_others<T: Drop>(
+/// What was read, where the object has no members but those of these names; else `Unknown`, with the name of the first other one.
+pub fn without_others<T: Drop>(
     alloc: Global,
     value: &Value,
     names: &[&str],
@@ -180,8 +180,9 @@ pub(crate) fn without_others<T: Drop>(
     }
 }
 
+/// The rights under the member of that name; `Missing`, `Wrong` or `TooMany`, with that name, where there are none.
 #[tactic(auto, unfolding(crate::specs::Reading::rights_under))]
-pub(crate) fn rights_under(alloc: Global, value: &Value, name: &str) -> Result<Rights, ObjectFault>
+pub fn rights_under(alloc: Global, value: &Value, name: &str) -> Result<Rights, ObjectFault>
     requires { IsBody (view value.now) }
     ensures value { Gives OutOfMemory (λ r. r) result (rights_under name.now (view value.now)) }
     ensures fits { IfOk result (AllByRecursion Fits) }

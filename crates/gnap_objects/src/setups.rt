@@ -3,7 +3,7 @@ ghost use Rattle.std.specs.Prelude.{◌≡◌, ◌||◌, ℕ, [], List, IfOk, Is
 ghost use Rattle.std.specs.List.{AllByRecursion, list_any};
 ghost use Rattle.std.specs.Str.{bytes_eq};
 ghost use Rattle.serde_json.specs.View.{view, items_view};
-ghost use Rattle.json_objects.specs.Bodies.{IsBody, AreBodies, body_of};
+ghost use Rattle.json_objects.specs.Bodies.{IsBody, AreBodies};
 ghost use Rattle.json_objects.specs.Reading.{Gives, each};
 ghost use Rattle.json_objects.specs.TextSets.{has_text};
 ghost use Rattle.access_rights.specs.Fits.{Fits};
@@ -11,19 +11,17 @@ ghost use Rattle.gnap_objects.specs.declared.fault.ObjectFault.TheVariants as fa
 ghost use Rattle.gnap_objects.specs.declared.setups.SetupFault.TheVariants.{OutOfMemory};
 ghost use Rattle.gnap_objects.specs.Fits.{KeyFits, SetupFits};
 ghost use Rattle.gnap_objects.specs.Reading.{text_of, without_others};
-ghost use Rattle.gnap_objects.specs.Setups.{base_of, has_id, key_id_of, role_of, secret_of, client_rights, names_of, server_names, key_members, key_row_of, setup_fault, keys_from, key_items_of, keys_of, object_in, setup_of, IsSetup};
+ghost use Rattle.gnap_objects.specs.Setups.{has_id, key_id_of, role_of, client_rights, names_of, server_names, key_members, key_row_of, setup_fault, keys_from, keys_of, setup_of, IsSetup};
 
 use crate::fault::ObjectFault;
-use crate::forms::is_base;
-use crate::members::{id_of, required, rights_under, text_of, without_others};
-use base64::DecodeAllocError;
-use base64::engine::general_purpose::STANDARD;
+use crate::members::{id_of, required, required_items, rights_under, text_of, without_others};
+use crate::setup_members::{base_of, object_of, secret_of};
 use gnap_io::bytes::Bytes;
 use gnap_io::memory::Mem;
 use gnap_io::seq::Seq;
 use gnap_model::objects::{KeyRow, KeyRows, Role, Setup};
 use gnap_model::rights::{Names, Rights};
-use json_objects::{BodyFault, TextSet, read_body};
+use json_objects::TextSet;
 use serde_json::Value;
 use std::alloc::Global;
 
@@ -56,19 +54,6 @@ impl From<Mem> for SetupFault {
     fn from(_e: Mem) -> SetupFault {
         SetupFault::OutOfMemory
     }
-}
-
-#[tactic(auto, unfolding(crate::specs::Setups::base_of))]
-fn base_of(alloc: Global, value: &Value, name: &str) -> Result<Bytes, ObjectFault>
-    ensures value { Gives faults.OutOfMemory (λ s. s) result (base_of name.now (view value.now)) }
-    ensures utf8 { IfOk result IsUtf8 }
-{
-    let member = required(alloc, value, name)?;
-    let text = text_of(alloc, member, name)?;
-    if !is_base(text.as_slice()) {
-        return Err(ObjectFault::wrong(alloc, name));
-    }
-    Ok(text)
 }
 
 // The ids are those of the keys before.
@@ -106,26 +91,6 @@ fn role_of(alloc: Global, value: &Value) -> Result<Role, ObjectFault>
     }
 }
 
-#[tactic(auto, unfolding(crate::specs::Setups::secret_of, crate::specs::Reading::text_of))]
-fn secret_of(alloc: Global, value: &Value) -> Result<Bytes, ObjectFault>
-    ensures { Gives faults.OutOfMemory (λ s. s) result (secret_of (view value.now)) }
-{
-    let member = required(alloc, value, "secret")?;
-    let Some(text) = member.as_str() else {
-        return Err(ObjectFault::wrong(alloc, "secret"));
-    };
-    let secret = match STANDARD.decode(alloc, text.as_bytes()) {
-        Ok(secret) => Bytes::from_vec(secret),
-        Err(DecodeAllocError::OutOfMemory) => return Err(ObjectFault::OutOfMemory),
-        Err(DecodeAllocError::DecodeError(_)) => return Err(ObjectFault::wrong(alloc, "secret")),
-    };
-    if 16 <= secret.len() && secret.len() <= 64 {
-        Ok(secret)
-    } else {
-        Err(ObjectFault::wrong(alloc, "secret"))
-    }
-}
-
 fn client_rights(
     alloc: Global,
     value: &Value,
@@ -158,10 +123,7 @@ fn names_of(alloc: Global, value: &Value) -> Result<Names, ObjectFault>
     ensures value { Gives faults.OutOfMemory (λ n. n) result (names_of (view value.now)) }
     ensures utf8 { IfOk result (AllByRecursion IsUtf8) }
 {
-    let member = required(alloc, value, "serves")?;
-    let Some(items) = member.as_array() else {
-        return Err(ObjectFault::wrong(alloc, "serves"));
-    };
+    let items = required_items(alloc, value, "serves")?;
     let names = strings_of(alloc, items, "serves")?;
     if 256 < names.len() {
         return Err(ObjectFault::too_many(alloc, "serves"));
@@ -244,41 +206,18 @@ fn keys_from(alloc: Global, items: &Vec<Value>) -> Result<KeyRows, SetupFault>
     Ok(keys)
 }
 
-fn key_items_of<'v>(alloc: Global, value: &'v Value) -> Result<&'v Vec<Value>, ObjectFault>
-    requires { IsBody (view value.now) }
-    ensures value { Gives faults.OutOfMemory (λ items. items_view items.now.items) result (key_items_of (view value.now)) }
-    ensures bodies { IfOk result (λ items. AreBodies (items_view items.now.items)) }
-{
-    let member = required(alloc, value, "keys")?;
-    match member.as_array() {
-        Some(items) => Ok(items),
-        None => Err(ObjectFault::wrong(alloc, "keys")),
-    }
-}
-
 #[tactic(auto, unfolding(crate::specs::Setups::keys_of))]
 fn keys_of(alloc: Global, value: &Value) -> Result<KeyRows, SetupFault>
     requires { IsBody (view value.now) }
     ensures value { Gives OutOfMemory (λ k. k) result (keys_of (view value.now)) }
     ensures fits { IfOk result (AllByRecursion KeyFits) }
 {
-    let items = key_items_of(alloc, value)?;
+    let items = required_items(alloc, value, "keys")?;
     let keys = keys_from(alloc, items)?;
     if 4096 < keys.len() {
         return Err(ObjectFault::too_many(alloc, "keys").into());
     }
     Ok(keys)
-}
-
-fn object_of(alloc: Global, text: &[u8]) -> Result<Value, SetupFault>
-    ensures value { Gives OutOfMemory view result (object_in (body_of text.now)) }
-    ensures body { IfOk result (λ v. IsBody (view v)) }
-{
-    match read_body(alloc, text) {
-        Ok(value) => Ok(value),
-        Err(BodyFault::OutOfMemory) => Err(SetupFault::OutOfMemory),
-        Err(BodyFault::NotAnObject | BodyFault::Number) => Err(SetupFault::NotJson),
-    }
 }
 
 #[tactic(auto, unfolding(crate::specs::Setups::setup_of))]

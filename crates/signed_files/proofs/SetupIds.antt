@@ -16,38 +16,10 @@ use Rattle.gnap_model.specs.declared.objects.KeyRow.{KeyRow}
 use Rattle.gnap_model.specs.declared.objects.Setup.{Setup}
 use Rattle.gnap_model.specs.Common.{same_text, first_of, some_if}
 use Rattle.gnap_model.specs.Keys.{key_of}
-use Rattle.gnap_objects.specs.declared.fault.ObjectFault.{ObjectFault}
-use Rattle.gnap_objects.specs.declared.fault.ObjectFault.TheVariants as faults
-use Rattle.gnap_objects.specs.declared.setups.SetupFault.{SetupFault}
 use Rattle.gnap_objects.specs.Forms.{is_id, is_id_byte, is_sized}
-use Rattle.gnap_objects.specs.Reading.{required, text_of, checked, id_of, without_others, none_unknown}
-use Rattle.gnap_objects.specs.Setups.{base_of, has_id, key_id_of, role_of, secret_of, client_rights, server_names, key_members, key_row_of, in_setup, in_key, keys_from, few_keys, key_items_of, keys_of, object_in, setup_of, IsSetup}
-
--- ---- what was read of a whole that was read
-
-bind_ok : {E A B : Type 0} (r : Result A E) (f : A → Result B E) (y : B) → (r >>= f) ≡ Ok y → (x : A) × (r ≡ Ok x) × (f x ≡ Ok y)
-bind_ok (Ok x) f y is = (x, refl, is)
-bind_ok (Err e) f y is = absurd cc
-
-chosen_ok : {E A : Type 0} (b : Bool) (e : E) (x y : A) → (if b then Err e else Ok x) ≡ Ok y → x ≡ y
-chosen_ok true e x y is = absurd cc
-chosen_ok false e x y is = cc
-
-checked_ok : {A : Type 0} (b : Bool) (e : ObjectFault) (x y : A) → (if b then Ok x else Err e) ≡ Ok y → (b ≡ true) × (x ≡ y)
-checked_ok true e x y is = (refl, cc)
-checked_ok false e x y is = absurd cc
-
-others_ok : {A : Type 0} (o : Option (List ℕ)) (x y : A) → none_unknown o x ≡ Ok y → x ≡ y
-others_ok None x y is = cc
-others_ok (Some name) x y is = absurd cc
-
-setup_ok : {A : Type 0} (r : Result A ObjectFault) (y : A) → in_setup r ≡ Ok y → r ≡ Ok y
-setup_ok (Ok x) y is = cc
-setup_ok (Err e) y is = absurd cc
-
-key_ok : {A : Type 0} (place : ℕ) (r : Result A ObjectFault) (y : A) → in_key place r ≡ Ok y → r ≡ Ok y
-key_ok place (Ok x) y is = cc
-key_ok place (Err e) y is = absurd cc
+use Rattle.gnap_objects.specs.Reading.{required, required_items, text_of, checked, id_of, without_others}
+use Rattle.gnap_objects.specs.Setups.{base_of, has_id, key_id_of, role_of, secret_of, client_rights, server_names, key_members, key_row_of, in_setup, in_key, keys_from, few_keys, keys_of, object_in, setup_of, IsSetup}
+use Rattle.gnap_objects.proofs.ReadParts.{bind_ok, chosen_ok, checked_ok, others_ok, setup_ok, key_ok}
 
 -- ---- the ids
 
@@ -89,8 +61,8 @@ read_keys before (item d ds) keys all is =
 read_all : (d : Data) (keys : List KeyRow) → keys_of d ≡ Ok keys → AllByRecursion HasIdForm keys
 unfolding keys_of
 read_all d keys is =
-    let listed = bind_ok (in_setup (key_items_of d) >>= keys_from []) few_keys keys is in
-    let items = bind_ok (in_setup (key_items_of d)) (keys_from []) listed.0 listed.1 in
+    let listed = bind_ok (in_setup (required_items (codes "keys") d) >>= keys_from []) few_keys keys is in
+    let items = bind_ok (in_setup (required_items (codes "keys") d)) (keys_from []) listed.0 listed.1 in
     let same : listed.0 ≡ keys = chosen_ok (nat_lt 4096 (length listed.0)) _ listed.0 keys listed.2 in
     subst (AllByRecursion HasIdForm) same (read_keys [] items.0 listed.0 tt items.2)
 

@@ -8,6 +8,8 @@ import hashlib
 import as_server
 import http_forms
 import replays
+import written_cases
+from calls import interaction_hash
 from json_forms import Fault, NotJson, read_setup
 from signatures import Fault as Refusal
 from signatures import signed, verified
@@ -173,7 +175,23 @@ def serve(world, config, listen, workers, quota):
     return 4 if any(failed for _, failed in answers) else 0
 
 
-COMMANDS = {"replay": (replay, 1), "sign": (sign, 4), "verify": (verify, 3), "as": (serve, 4)}
+def field(world, kind, name):
+    if kind not in ("item", "list", "dictionary"):
+        raise Stop(2)
+    printed = written_cases.canonical(kind, world.file(argument(name)).decode())
+    world.print((written_cases.NO_FIELD if printed is None else printed + "\n").encode())
+    return 7 if printed is None else 0
+
+
+def print_hash(world, method, *texts):
+    if method not in ("sha-256", "sha-512"):
+        raise Stop(2)
+    printed = interaction_hash(method == "sha-512", *map(argument, texts))
+    world.print(printed.encode() + b"\n")
+    return 0
+
+
+COMMANDS = {"replay": (replay, 1), "field": (field, 2), "sign": (sign, 4), "verify": (verify, 3), "as": (serve, 4), "hash": (print_hash, 5)}
 
 
 def shown(text):
@@ -189,7 +207,8 @@ def outcome(case):
     world = World(case)
     status = run(world)
     served = [[shown(text) for text in connections] for connections in world.served]
-    return {"name": case["name"], "status": status, "out": shown(world.out), "served": served}
+    told = written_cases.HINTS.get(case["name"], "")
+    return {"name": case["name"], "status": status, "out": shown(world.out), "served": served, "told": told}
 
 
 def cut_outcome(case):

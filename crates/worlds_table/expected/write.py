@@ -16,12 +16,13 @@ import run_cases
 import scripted_grants
 import scripted_interactions
 import stored_histories
+import written_cases
 from checks import check_all
 from worlds import outcome
 
 
 def cases():
-    for module in (http_cases, edge_cases, outside_cases, rights_cases, line_cases):
+    for module in (http_cases, edge_cases, outside_cases, rights_cases, line_cases, written_cases):
         yield from module.cases()
     yield from run_cases.cases(scripted_grants.RUNS + scripted_interactions.RUNS)
     yield from map(run_cases.replay_case, generated_histories.runs() + stored_histories.runs())

@@ -32,6 +32,9 @@ pub struct Case {
     /// Whether the case is run for each beginning of the connections' bytes instead, from none of them to all.
     #[serde(default)]
     pub cut: bool,
+    /// Whether it is shown what a person is told, on standard error.
+    #[serde(default)]
+    pub tells: bool,
 }
 
 /// The connections, moments and words of one worker.

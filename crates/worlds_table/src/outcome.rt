@@ -23,6 +23,8 @@ pub struct Outcome {
     out: String,
     /// For each gear that was taken back, what was written to each of its connections that were served.
     served: Vec<Vec<String>>,
+    /// What was written to standard error, where the case asks for it.
+    told: String,
 }
 
 /// What came of a case for each beginning of its connections' bytes.
@@ -67,6 +69,11 @@ fn run_case<R: Threads + Wait + Sync>(
         status,
         out: text_of(alloc, out.written())?,
         served,
+        told: if case.tells {
+            text_of(alloc, err.written())?
+        } else {
+            String::new(alloc)
+        },
     })
 }
 

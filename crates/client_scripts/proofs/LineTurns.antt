@@ -1,0 +1,70 @@
+-- One line's turn, put together.
+use Rattle.std.proofs.Common.{◌≡◌, ◌∙◌, ℕ, List, [], ◌∷◌, ◌++◌, Bool, true, false, refl, sym, ap, subst, append-nil}
+use Rattle.std.specs.Prelude.{Option, Some, None, Result, Ok, Err, ◌≢◌}
+use Rattle.gnap_io.specs.Links.{Exchange, LinkState, Exchanges}
+use Rattle.gnap_io.specs.declared.link.LinkFault.{LinkFault}
+use Rattle.gnap_io.specs.declared.link.LinkFault.TheVariants as link_faults
+use Rattle.gnap_client.specs.declared.client.Took.{Took}
+use Rattle.gnap_client.specs.declared.client.Client.{Client}
+use Rattle.gnap_client.specs.declared.client.ClientFault.{ClientFault}
+use Rattle.gnap_client.specs.declared.client.ClientFault.TheVariants as faults
+use Rattle.client_scripts.specs.declared.deeds.Deed.{Deed}
+use Rattle.client_scripts.specs.declared.lines.LineFault.{LineFault}
+use Rattle.client_scripts.specs.declared.turns.LineSaid.{LineSaid}
+use Rattle.client_scripts.specs.Deeds.{Called, said_line, is_fine, bad_line}
+use Rattle.client_scripts.specs.Lines.{line_deed}
+use Rattle.client_scripts.specs.Carrying.{CarriesDeed, unasked, sent}
+use Rattle.client_scripts.specs.Starving.{is_memory}
+use Rattle.client_scripts.specs.Turns.{exchanges_of, HasScriptTurn}
+use Rattle.client_scripts.specs.Turns as turns
+
+-- an exchange adds what its answer says
+pub adds_exchange : (request : List ℕ) (before after : LinkState) (answer : Result (List ℕ) LinkFault) → Exchanges request before after answer
+    → after.asked ≡ before.asked ++ exchanges_of request answer
+adds_exchange request before after (Ok reply) is = ap (λ (s : LinkState). s.asked) is
+adds_exchange request before after (Err link_faults.Failed) is = ap (λ (s : LinkState). s.asked) is.0
+adds_exchange request before after (Err link_faults.OutOfMemory) is = ap (λ (s : LinkState). s.asked) is ∙ sym (append-nil before.asked)
+
+pub bad_turn : (line text : List ℕ) (c : Client) (asked : List Exchange) → line_deed line ≡ Err LineFault.BadLine → text ≡ bad_line
+    → HasScriptTurn line c c asked asked (Some (record { text = text; fine = false }))
+bad_turn line text c asked none is = rw is (record { at = 0; exchanges = []; turn = turns.bad line 0 c none; adds = sym (append-nil asked) })
+
+pub starved_turn : (line : List ℕ) (c : Client) (asked : List Exchange) → HasScriptTurn line c c asked asked None
+starved_turn line c asked = record { at = 0; exchanges = []; turn = turns.starved line 0 c; adds = sym (append-nil asked) }
+
+not_memory : (fault : ClientFault) → is_memory (Err fault) ≡ false → fault ≢ faults.OutOfMemory
+not_memory fault some e = let both : true ≡ false = sym (ap (λ (f : ClientFault). is_memory (Err f)) e) ∙ some in absurd (cc)
+
+not_memory_answer : (answer : Result Took ClientFault) → is_memory answer ≡ false → answer ≢ Err faults.OutOfMemory
+not_memory_answer answer some e = let both : true ≡ false = sym (ap is_memory e) ∙ some in absurd (cc)
+
+module _ (line : List ℕ) (at : ℕ) (deed : Deed) (before after : LinkState) (old new : Client) (step : line_deed line ≡ Ok (at, deed)) where
+  -- what was carried out was said
+  pub said_turn : (answer : Result Took ClientFault) (text : List ℕ) (fine : Bool) → CarriesDeed deed at before after old new answer
+      → is_memory answer ≡ false → text ≡ said_line deed new.received.state answer → fine ≡ is_fine answer
+      → HasScriptTurn line old new before.asked after.asked (Some (record { text = text; fine = fine }))
+  said_turn _ text fine (unasked fault called same) some is good =
+      let stays : new ≡ old = called.1 in
+      let C : Client → Type 0 = λ c. Called deed at old c (Err fault) in
+      let here : HasScriptTurn line old old before.asked before.asked (Some (record { text = said_line deed old.received.state (Err fault); fine = false })) =
+      record { at = at; exchanges = []; turn = turns.unasked line at deed step old fault (subst C stays called) (not_memory fault some); adds = sym (append-nil before.asked) } in
+      rw (is, good, same, stays) here
+  said_turn _ text fine (sent between request called answer sends) some is good =
+      rw (is, good) (record {
+        at = at;
+        exchanges = exchanges_of request sends.answer;
+        turn = turns.sent line at deed step old between new request called sends.answer answer sends.takes (not_memory_answer answer some);
+        adds = adds_exchange request before after sends.answer sends.exchanges;
+      })
+
+  -- or memory ran out
+  pub unsaid_turn : (answer : Result Took ClientFault) → CarriesDeed deed at before after old new answer → HasScriptTurn line old new before.asked after.asked None
+  unsaid_turn _ (unasked fault called same) =
+      let stays : new ≡ old = called.1 in
+      rw (same, stays) (starved_turn line old before.asked)
+  unsaid_turn _ (sent between request called answer sends) = record {
+    at = at;
+    exchanges = exchanges_of request sends.answer;
+    turn = turns.starved_later line at deed step old between new request called sends.answer answer sends.takes;
+    adds = adds_exchange request before after sends.answer sends.exchanges;
+  }

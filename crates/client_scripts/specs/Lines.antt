@@ -1,0 +1,94 @@
+-- A line of a script: the moment and the deed that it is, a JSON object (RFC 8259). Members of other names aren't looked at.
+use Rattle.std.specs.Prelude.{ℕ, ◌&&◌, nat_le, Bool, true, false, not, List, Option, Some, None, Result, Ok, Err, option_and_then, is_some, if◌then◌else◌, codes}
+use Rattle.std.specs.Str.{bytes_eq, is_utf8}
+use Rattle.serde_json.specs.Data.{Data}
+use Rattle.serde_json.specs.Find.{get, as_str, as_object, as_number, as_u64}
+use Rattle.serde_json.specs.Read.{read}
+use Rattle.serde_json.specs.Written.{has_float}
+use Rattle.json_objects.specs.Reading.{◌>>=◌, or_fault}
+use Rattle.gnap_model.specs.declared.objects.GrantRequest.{GrantRequest}
+use Rattle.gnap_objects.specs.declared.fault.ObjectFault.{ObjectFault}
+use Rattle.gnap_objects.specs.Grants.{request_of}
+use Rattle.signed_requests.specs.Forms.{is_method, is_target}
+use Rattle.client_scripts.specs.declared.lines.LineFault.{LineFault}
+use Rattle.client_scripts.specs.declared.lines.LineFault.TheVariants as faults
+use Rattle.client_scripts.specs.declared.deeds.Deed.{Deed}
+use Rattle.client_scripts.specs.declared.deeds.Deed.TheVariants.{Begin, Poll, Finish, Patch, Cancel, Rotate, Revoke, Use}
+
+-- ---- members, which must be there
+
+-- the member of that name
+abbrev pub line_member : List ℕ → Data → Result Data LineFault
+line_member name d = or_fault faults.BadLine (get name d)
+
+-- a string
+abbrev pub line_text : List ℕ → Data → Result (List ℕ) LineFault
+line_text name d = line_member name d >>= λ m. or_fault faults.BadLine (as_str m)
+
+-- a whole number from 0 to 2^64 - 1
+abbrev pub line_number : List ℕ → Data → Result ℕ LineFault
+line_number name d = line_member name d >>= λ m. or_fault faults.BadLine (option_and_then as_u64 (as_number m))
+
+-- `at`: seconds since 1970, up to the year 9999
+abbrev pub timely : ℕ → Result ℕ LineFault
+timely n = if nat_le n 253402300799 then Ok n else Err faults.BadLine
+
+unfoldable pub line_moment : Data → Result ℕ LineFault
+line_moment d = line_number (codes "at") d >>= timely
+
+-- `body`: an object in which each number is whole
+abbrev pub line_object : Data → Result Data LineFault
+line_object d = if is_some (as_object d) && not (has_float d) then Ok d else Err faults.BadLine
+
+abbrev pub readable_request : Result GrantRequest ObjectFault → Result GrantRequest LineFault
+readable_request (Ok request) = Ok request
+readable_request (Err fault) = Err faults.BadLine
+
+-- a grant request, or a modification
+unfoldable pub line_request : Bool → Data → Result GrantRequest LineFault
+line_request modify d = line_member (codes "body") d >>= line_object >>= λ body. readable_request (request_of modify body)
+
+abbrev pub passing : (List ℕ → Bool) → List ℕ → Result (List ℕ) LineFault
+passing test s = if test s then Ok s else Err faults.BadLine
+
+-- ---- the deed
+
+unfoldable pub finish_in : Data → Result Deed LineFault
+finish_in d = do
+  hash ← line_text (codes "hash") d
+  reference ← line_text (codes "reference") d
+  Ok (Finish hash reference)
+
+unfoldable pub use_in : Data → Result Deed LineFault
+use_in d = do
+  token ← line_number (codes "token") d
+  method ← line_text (codes "method") d >>= passing is_method
+  path ← line_text (codes "path") d >>= passing is_target
+  Ok (Use token method path)
+
+unfoldable pub deed_named : List ℕ → Data → Result Deed LineFault
+deed_named word d =
+    if bytes_eq word (codes "begin") then (line_request false d >>= λ r. Ok (Begin r))
+    else if bytes_eq word (codes "poll") then Ok Poll
+    else if bytes_eq word (codes "finish") then finish_in d
+    else if bytes_eq word (codes "patch") then (line_request true d >>= λ r. Ok (Patch r))
+    else if bytes_eq word (codes "cancel") then Ok Cancel
+    else if bytes_eq word (codes "rotate") then (line_number (codes "token") d >>= λ i. Ok (Rotate i))
+    else if bytes_eq word (codes "revoke") then (line_number (codes "token") d >>= λ i. Ok (Revoke i))
+    else if bytes_eq word (codes "use") then use_in d
+    else Err faults.BadLine
+
+unfoldable pub object_deed : Data → Result (ℕ × Deed) LineFault
+object_deed d = do
+  at ← line_moment d
+  word ← line_text (codes "do") d
+  deed ← deed_named word d
+  Ok (at, deed)
+
+abbrev pub read_deed : Option Data → Result (ℕ × Deed) LineFault
+read_deed None = Err faults.BadLine
+read_deed (Some d) = object_deed d
+
+-- the moment and the deed of a line
+unfoldable pub line_deed : List ℕ → Result (ℕ × Deed) LineFault
+line_deed line = if is_utf8 line then read_deed (read line) else Err faults.BadLine

@@ -1,0 +1,257 @@
+//! Lines of a script, read from bytes.
+ghost use Rattle.std.specs.Prelude.{◌≡◌, ◌≤◌, IfOk, IfSome, IsUtf8, option_map, true};
+ghost use Rattle.std.specs.Str.{bytes_eq};
+ghost use Rattle.serde_json.specs.Data.{depth};
+ghost use Rattle.serde_json.specs.Find.{get};
+ghost use Rattle.serde_json.specs.Read.{max_depth};
+ghost use Rattle.serde_json.specs.View.{view};
+ghost use Rattle.json_objects.specs.Bodies.{IsBody};
+ghost use Rattle.json_objects.specs.Reading.{Gives};
+ghost use Rattle.gnap_objects.specs.Grants.{request_of};
+ghost use Rattle.signed_requests.specs.Forms.{is_method, is_target};
+ghost use Rattle.client_scripts.specs.declared.lines.LineFault.TheVariants.{OutOfMemory};
+ghost use Rattle.client_scripts.specs.Deeds.{CanBeShown, DeedFits};
+ghost use Rattle.client_scripts.specs.Lines.{line_member, line_text, line_number, line_moment, line_object, readable_request, line_request, passing, finish_in, use_in, deed_named, object_deed, line_deed};
+
+use crate::deeds::Deed;
+use gnap_io::bytes::Bytes;
+use gnap_io::memory::Mem;
+use gnap_model::objects::GrantRequest;
+use gnap_objects::{ObjectFault, read_grant};
+use json_objects::has_fraction;
+use serde_json::Value;
+use signed_requests::{is_method, is_target};
+use std::alloc::Global;
+
+/// Why a line is none.
+#[derive(Clone, Copy, Debug, PartialEq, Eq)]
+pub enum LineFault {
+    BadLine,
+    OutOfMemory,
+}
+
+impl From<Mem> for LineFault {
+    ghost from_gives = { λ _ e. e ≡ OutOfMemory };
+
+    fn from(_e: Mem) -> LineFault {
+        LineFault::OutOfMemory
+    }
+}
+
+// The last second of the year 9999, in seconds since 1970.
+const LAST_MOMENT: u64 = 253_402_300_799;
+
+// The member of that name, which has no more levels than the value.
+fn member_within<'v>(value: &'v Value, name: &str) -> Option<&'v Value>
+    requires { depth (view value.now) ≤ max_depth }
+    ensures found { option_map (λ v. view v.now) result ≡ get name.now (view value.now) }
+    ensures shallow { IfSome result (λ v. depth (view v.now) ≤ max_depth) }
+{
+    value.get(name)
+}
+
+fn line_member<'v>(value: &'v Value, name: &str) -> Result<&'v Value, LineFault>
+    requires { depth (view value.now) ≤ max_depth }
+    ensures value { Gives OutOfMemory (λ v. view v.now) result (line_member name.now (view value.now)) }
+    ensures shallow { IfOk result (λ v. depth (view v.now) ≤ max_depth) }
+{
+    match member_within(value, name) {
+        Some(member) => Ok(member),
+        None => Err(LineFault::BadLine),
+    }
+}
+
+fn line_text(alloc: Global, value: &Value, name: &str) -> Result<Bytes, LineFault>
+    ensures value { Gives OutOfMemory (λ b. b) result (line_text name.now (view value.now)) }
+    ensures utf8 { IfOk result IsUtf8 }
+{
+    let Some(member) = value.get(name) else {
+        return Err(LineFault::BadLine);
+    };
+    match member.as_str() {
+        Some(text) => Ok(Bytes::from_slice(alloc, text.as_bytes())?),
+        None => Err(LineFault::BadLine),
+    }
+}
+
+fn line_number(value: &Value, name: &str) -> Result<u64, LineFault>
+    ensures { Gives OutOfMemory (λ n. n) result (line_number name.now (view value.now)) }
+{
+    let Some(member) = value.get(name) else {
+        return Err(LineFault::BadLine);
+    };
+    match member.as_u64() {
+        Some(number) => Ok(number),
+        None => Err(LineFault::BadLine),
+    }
+}
+
+#[tactic(auto, unfolding(crate::specs::Lines::line_moment))]
+fn line_moment(value: &Value) -> Result<u64, LineFault>
+    ensures moment { Gives OutOfMemory (λ n. n) result (line_moment (view value.now)) }
+    ensures in_time { IfOk result (λ at. at ≤ 253402300799) }
+{
+    let at = line_number(value, "at")?;
+    if at <= LAST_MOMENT {
+        Ok(at)
+    } else {
+        Err(LineFault::BadLine)
+    }
+}
+
+fn line_object(value: &Value) -> Result<&Value, LineFault>
+    requires { depth (view value.now) ≤ max_depth }
+    ensures value { Gives OutOfMemory (λ v. view v.now) result (line_object (view value.now)) }
+    ensures body { IfOk result (λ v. IsBody (view v.now)) }
+{
+    if value.is_object() && !has_fraction(value) {
+        Ok(value)
+    } else {
+        Err(LineFault::BadLine)
+    }
+}
+
+fn readable_request(alloc: Global, body: &Value, modify: bool) -> Result<GrantRequest, LineFault>
+    requires { IsBody (view body.now) }
+    ensures value { Gives OutOfMemory (λ r. r) result (readable_request (request_of modify (view body.now))) }
+    ensures fits { IfOk result CanBeShown }
+{
+    match read_grant(alloc, body, modify) {
+        Ok(request) => Ok(request),
+        Err(ObjectFault::OutOfMemory) => Err(LineFault::OutOfMemory),
+        Err(ObjectFault::Missing(_)) => Err(LineFault::BadLine),
+        Err(ObjectFault::Wrong(_)) => Err(LineFault::BadLine),
+        Err(ObjectFault::TooMany(_)) => Err(LineFault::BadLine),
+        Err(ObjectFault::Flag(_)) => Err(LineFault::BadLine),
+        Err(ObjectFault::Unknown(_)) => Err(LineFault::BadLine),
+    }
+}
+
+#[tactic(auto, unfolding(crate::specs::Lines::line_request))]
+fn line_request(alloc: Global, value: &Value, modify: bool) -> Result<GrantRequest, LineFault>
+    requires { depth (view value.now) ≤ max_depth }
+    ensures value { Gives OutOfMemory (λ r. r) result (line_request modify (view value.now)) }
+    ensures fits { IfOk result CanBeShown }
+{
+    let member = line_member(value, "body")?;
+    let body = line_object(member)?;
+    readable_request(alloc, body, modify)
+}
+
+fn method_in(text: Bytes) -> Result<Bytes, LineFault>
+    ensures value { Gives OutOfMemory (λ b. b) result (passing is_method text) }
+    ensures is { IfOk result (λ b. is_method b ≡ true) }
+{
+    if is_method(text.as_slice()) {
+        Ok(text)
+    } else {
+        Err(LineFault::BadLine)
+    }
+}
+
+fn path_in(text: Bytes) -> Result<Bytes, LineFault>
+    ensures value { Gives OutOfMemory (λ b. b) result (passing is_target text) }
+    ensures is { IfOk result (λ b. is_target b ≡ true) }
+{
+    if is_target(text.as_slice()) {
+        Ok(text)
+    } else {
+        Err(LineFault::BadLine)
+    }
+}
+
+#[tactic(auto, unfolding(crate::specs::Lines::finish_in))]
+fn finish_in(alloc: Global, value: &Value) -> Result<Deed, LineFault>
+    ensures value { Gives OutOfMemory (λ d. d) result (finish_in (view value.now)) }
+    ensures fits { IfOk result DeedFits }
+{
+    let hash = line_text(alloc, value, "hash")?;
+    let reference = line_text(alloc, value, "reference")?;
+    Ok(Deed::Finish { hash, reference })
+}
+
+#[tactic(auto, unfolding(crate::specs::Lines::use_in))]
+fn use_in(alloc: Global, value: &Value) -> Result<Deed, LineFault>
+    ensures value { Gives OutOfMemory (λ d. d) result (use_in (view value.now)) }
+    ensures fits { IfOk result DeedFits }
+{
+    let token = line_number(value, "token")? as usize;
+    let method = method_in(line_text(alloc, value, "method")?)?;
+    let path = path_in(line_text(alloc, value, "path")?)?;
+    Ok(Deed::Use {
+        token,
+        method,
+        path,
+    })
+}
+
+fn is_word(word: &[u8], text: &Bytes) -> bool
+    ensures { result ≡ bytes_eq text.now word.now }
+{
+    text.as_slice() == word
+}
+
+#[tactic(auto, unfolding(crate::specs::Lines::deed_named))]
+fn deed_named(alloc: Global, word: &Bytes, value: &Value) -> Result<Deed, LineFault>
+    requires { depth (view value.now) ≤ max_depth }
+    ensures value { Gives OutOfMemory (λ d. d) result (deed_named word.now (view value.now)) }
+    ensures fits { IfOk result DeedFits }
+{
+    if is_word(b"begin", word) {
+        let request = line_request(alloc, value, false)?;
+        Ok(Deed::Begin(request))
+    } else if is_word(b"poll", word) {
+        Ok(Deed::Poll)
+    } else if is_word(b"finish", word) {
+        finish_in(alloc, value)
+    } else if is_word(b"patch", word) {
+        let request = line_request(alloc, value, true)?;
+        Ok(Deed::Patch(request))
+    } else if is_word(b"cancel", word) {
+        Ok(Deed::Cancel)
+    } else if is_word(b"rotate", word) {
+        let token = line_number(value, "token")?;
+        Ok(Deed::Rotate(token as usize))
+    } else if is_word(b"revoke", word) {
+        let token = line_number(value, "token")?;
+        Ok(Deed::Revoke(token as usize))
+    } else if is_word(b"use", word) {
+        use_in(alloc, value)
+    } else {
+        Err(LineFault::BadLine)
+    }
+}
+
+#[tactic(auto, unfolding(crate::specs::Lines::object_deed))]
+fn object_deed(alloc: Global, value: &Value) -> Result<(u64, Deed), LineFault>
+    requires { depth (view value.now) ≤ max_depth }
+    ensures value { Gives OutOfMemory (λ s. s) result (object_deed (view value.now)) }
+    ensures in_time { IfOk result (λ s. s.0 ≤ 253402300799) }
+    ensures fits { IfOk result (λ s. DeedFits s.1) }
+{
+    let at = line_moment(value)?;
+    let word = line_text(alloc, value, "do")?;
+    let deed = deed_named(alloc, &word, value)?;
+    Ok((at, deed))
+}
+
+/// The moment, in seconds since 1970, and the deed of a line. `BadLine` comes exactly where it has none.
+///
+/// A line is a JSON object with `at`, at most 253,402,300,799, `do`, and what the deed takes: `begin` and `patch` take `body`, an object that is a grant
+/// request or a modification (`gnap_objects::read_grant`); `finish` takes the strings `hash` and `reference`; `rotate` and `revoke` take `token`, a
+/// number; `use` takes `token`, `method` and `path` (`signed_requests::forms`). Other members aren't looked at.
+#[tactic(auto, using(crate::proofs::LineTexts::text_deed, crate::proofs::LineTexts::no_text))]
+pub fn read_line(alloc: Global, line: &[u8]) -> Result<(u64, Deed), LineFault>
+    ensures value { Gives OutOfMemory (λ s. s) result (line_deed line.now) }
+    ensures in_time { IfOk result (λ s. s.0 ≤ 253402300799) }
+    ensures fits { IfOk result (λ s. DeedFits s.1) }
+{
+    match Value::from_slice(alloc, line) {
+        Ok(value) => object_deed(alloc, &value),
+        Err(e) => if e.is_memory() {
+            Err(LineFault::OutOfMemory)
+        } else {
+            Err(LineFault::BadLine)
+        },
+    }
+}

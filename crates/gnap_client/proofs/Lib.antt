@@ -1,0 +1,5 @@
+pub mod Ids
+pub mod Taken
+pub mod Fold
+pub mod Doors
+pub mod References

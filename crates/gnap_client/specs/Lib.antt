@@ -1,0 +1,6 @@
+pub mod Configs
+pub mod Received
+pub mod Calls
+pub mod Taking
+pub mod Sending
+pub mod Laws

@@ -1,0 +1,99 @@
+"""Cases whose answers are written by hand: structured fields by RFC 8941, section 4; hashes; and what a person is told on standard error."""
+
+from outside_cases import SETUP_TEXT, UNSIGNED
+from http_cases import latin
+
+NO_FIELD = "not in the grammar\n"
+
+# A kind and a text, and the canonical text; None where the text is none of that kind. One LF at the end of a file is no part of the text.
+FIELDS = {
+    ("dictionary", "a=1, b;x=?0, a=2"): "a=2, b;x=?0",
+    ("dictionary", "a, b"): "a, b",
+    ("dictionary", "a, (b)"): None,
+    ("list", "a, (b)"): "a, (b)",
+    ("list", "(  a  :YQ: );x=?1 ,b"): "(a :YQ==:);x, b",
+    ("list", "a, b,"): None,
+    ("list", ""): "",
+    ("list", "\n"): "",
+    ("item", ""): None,
+    ("item", "a, b"): None,
+    ("item", "999999999999999"): "999999999999999",
+    ("item", "1000000000000000"): None,
+    ("item", "1.50"): "1.5",
+    ("item", "1."): None,
+    ("item", "-0"): "0",
+    ("item", ":YQ:"): ":YQ==:",
+    ("item", ":YR==:"): None,
+    ("item", "a\n"): "a",
+    ("item", "a\n\n"): None,
+    ("item", "a\r\n"): None,
+}
+
+# The four texts of RFC 9635, section 4.2.3.
+NONCES = ["VJLO6A4CATR0KRO", "MBDOFXG4Y5CVJCX821LH", "4IFWWIKYB2PQ6U56NL1", "https://server.example.com/tx"]
+
+FRONT_ALONE = '{"base":"https://a","front":"https://b","keys":[{"id":"f1","role":"front","secret":"x"}]}'
+NO_OBJECT = "it isn't one JSON object with whole numbers\n"
+
+# The words, the text of the file f, and what a person is told.
+TOLD = [
+    (["replay", "f"], "{}", "gnap: the first line of f is no setup: member `base` is missing\n"),
+    (["replay", "f"], FRONT_ALONE, "gnap: the first line of f is no setup: member `secret` isn't of its form in the key at place 0 of `keys`, counted from 0\n"),
+    (["replay", "f"], "[", "gnap: the first line of f is no setup: " + NO_OBJECT),
+    (["replay", "g"], "", "gnap: g can't be opened or read\n"),
+    (["verify", "f", "0", "s"], "x", "gnap: f is no setup: " + NO_OBJECT),
+    (["verify", "s", "253402300799", "f"], "x", "gnap: the message in f is refused for what was printed\n"),
+    (["sign", "g", "k", "0", "f"], "x", "gnap: g or f can't be opened or read\n"),
+    (["sign", "s", "k", "0", "g"], "x", "gnap: s or g can't be opened or read\n"),
+    (["field", "item", "f"], "1.", "gnap: f isn't a valid field\n"),
+    (["as", "s", "b", "1", "1"], "x", "gnap: s or b can't be opened or read\n"),
+    (["hash", "sha-256", *NONCES], "x", ""),
+]
+
+HINTS = {f"told: {' '.join(words)}, {text[:9]}": hint for words, text, hint in TOLD}
+
+
+def is_token(text):
+    return text.isascii() and text.isalpha()
+
+
+def canonical(kind, text):
+    """The canonical text of a field; None where the text is none."""
+    return text if is_token(text) else FIELDS[kind, text]
+
+
+def fields():
+    for kind, text in FIELDS:
+        yield {"name": f"field: {kind} {text!r}", "words": ["field", kind, "f"], "files": [["f", text]]}
+    # A file is read in pieces of 16,384 bytes.
+    for count in (1, 16_383, 16_384, 16_385, 32_767):
+        yield {"name": f"field: a token of {count} bytes", "words": ["field", "item", "f"], "files": [["f", chr(256)]], "runs": [["a", count]]}
+    long = {"words": ["field", "item", "f"], "files": [["f", chr(256)]], "runs": [["a", 20_000]]}
+    for read in (1, 2, 3):
+        yield {"name": f"field: read {read} fails", **long, "bad_reads": [[read]]}
+    yield {"name": "field: the output fails", **long, "bad_writes": [1]}
+    for words in (["item"], ["items", "f"], ["", "f"], ["item", "-f"], ["item", ""], ["item", "f", "f"], ["item", "g"]):
+        yield {"name": f"field: the words {words}", "words": ["field", *words], "files": [["f", "a"]]}
+
+
+def hashes():
+    for words in [["sha-256", *NONCES], ["sha-512", *NONCES], ["sha-384", *NONCES], ["SHA-256", *NONCES], ["", *NONCES], ["sha-256", *NONCES[:3]],
+                  ["sha-256", *NONCES, "x"], ["sha-256", "-n", *NONCES[1:]], ["sha-256", *NONCES[:2], "", NONCES[3]]]:
+        yield {"name": f"hash: {words}", "words": ["hash", *words]}
+    yield {"name": "hash: the output fails", "words": ["hash", "sha-256", *NONCES], "bad_writes": [1]}
+
+
+def told():
+    for name, (words, text, _) in zip(HINTS, TOLD):
+        yield {"name": name, "words": words, "files": [["f", text], ["s", SETUP_TEXT]], "tells": True}
+
+
+def cut_answers():
+    """Commands over a request whose one write fails."""
+    for words in (["sign", "s", "c1", "1000", "f"], ["sign", "s", "c9", "1000", "f"], ["verify", "s", "9999", "f"]):
+        yield {"name": f"no output for {' '.join(words)}", "words": words, "files": [["f", latin(UNSIGNED)], ["s", SETUP_TEXT]], "bad_writes": [1]}
+
+
+def cases():
+    for part in (fields, hashes, told, cut_answers):
+        yield from part()
