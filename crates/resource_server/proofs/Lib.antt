@@ -1,3 +1,4 @@
+pub mod Ids
 pub mod Shown
 pub mod Sayings
 pub mod Places

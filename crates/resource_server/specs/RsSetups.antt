@@ -10,21 +10,24 @@ use Rattle.access_rights.specs.Reading.{rights_of}
 use Rattle.gnap_objects.specs.declared.fault.ObjectFault.{ObjectFault}
 use Rattle.gnap_objects.specs.declared.fault.ObjectFault.TheVariants as faults
 use Rattle.gnap_objects.specs.declared.setups.SetupFault.{SetupFault}
-use Rattle.gnap_objects.specs.Reading.{required, required_text, required_items, checked, without_others, under}
+use Rattle.gnap_objects.specs.Reading.{required, required_text, required_items, checked, id_of, without_others, under}
 use Rattle.gnap_objects.specs.Setups.{base_of, secret_of, object_in, in_setup, in_key}
-use Rattle.setup_members.specs.Ids.{id_under}
 use Rattle.signed_requests.specs.Forms.{is_method, begins_with_slash}
 use Rattle.resource_server.specs.declared.setup.Route.{Route}
 use Rattle.resource_server.specs.declared.setup.RsSetup.{RsSetup}
 use Rattle.resource_server.specs.Routing.{is_route}
 use Rattle.resource_server.specs.Fits.{RsSetupFits}
 
+-- `id`: an id
+unfoldable pub named_id_of : Data → Result (List ℕ) ObjectFault
+named_id_of d = required (codes "id") d >>= id_of (codes "id")
+
 -- ---- keys of clients
 
 -- a key: its id, which no key before has, and its secret
 unfoldable pub client_key_of : List (List ℕ × List ℕ) → Data → Result (List ℕ × List ℕ) ObjectFault
 client_key_of ring d = do
-  id ← id_under (codes "id") d
+  id ← named_id_of d
   new ← checked (λ id. is_none (value_at ring id)) (codes "id") id
   secret ← secret_of d
   without_others (codes "id" ∷ codes "secret" ∷ []) d (id, secret)
@@ -97,7 +100,7 @@ rs_setup_of text = do
   d ← object_in (body_of text)
   base ← in_setup (base_of (codes "base") d)
   server ← in_setup (base_of (codes "server") d)
-  id ← in_setup (id_under (codes "id") d)
+  id ← in_setup (named_id_of d)
   secret ← in_setup (secret_of d)
   ring ← ring_of d
   routes ← in_setup (routes_of d)

@@ -1,19 +1,20 @@
 //! Setups of resource servers, read from bytes.
-ghost use Rattle.std.specs.Prelude.{◌≡◌, [], true, IfOk, OnErr};
-ghost use Rattle.std.specs.List.{AllByRecursion, list_any};
+ghost use Rattle.std.specs.Prelude.{◌≡◌, ◌⊎◌, [], true, IfOk, OnErr, IsUtf8};
+ghost use Rattle.std.specs.List.{AllByRecursion, list_all, list_any};
 ghost use Rattle.serde_json.specs.Data.{array, item, no_items};
 ghost use Rattle.serde_json.specs.View.{view, items_view};
 ghost use Rattle.json_objects.specs.Bodies.{IsBody, AreBodies};
 ghost use Rattle.json_objects.specs.Reading.{Gives};
+ghost use Rattle.structured_fields.specs.Letters.{is_string_byte};
 ghost use Rattle.access_rights.specs.Fits.{Fits};
 ghost use Rattle.gnap_objects.specs.declared.fault.ObjectFault.TheVariants as faults;
 ghost use Rattle.gnap_objects.specs.declared.setups.SetupFault.TheVariants.{OutOfMemory};
-ghost use Rattle.gnap_objects.specs.Reading.{required_items, without_others};
+ghost use Rattle.gnap_objects.specs.Reading.{without_others};
 ghost use Rattle.gnap_objects.specs.Setups.{in_setup};
 ghost use Rattle.signed_requests.specs.Forms.{begins_with_slash, is_method};
 ghost use Rattle.resource_server.specs.Fits.{RouteFits, RsSetupFits};
 ghost use Rattle.resource_server.specs.Routing.{is_route};
-ghost use Rattle.resource_server.specs.RsSetups.{with_key, ring_from, ring_of, method_of, route_path_of, first_of, one_right_of, route_from, routes_from, counted_items, routes_of, rs_setup_members, rs_setup_of};
+ghost use Rattle.resource_server.specs.RsSetups.{named_id_of, with_key, ring_from, ring_of, method_of, route_path_of, first_of, one_right_of, route_from, routes_from, counted_items, routes_of, rs_setup_members, rs_setup_of};
 
 use crate::routing::is_route;
 use crate::setup::{Route, Routes, RsSetup};
@@ -22,31 +23,42 @@ use gnap_io::bytes::Bytes;
 use gnap_io::memory::Mem;
 use gnap_io::seq::Seq;
 use gnap_model::rights::{Right, Rights};
+use gnap_objects::members::{id_of, required, required_items, required_text, without_others};
+use gnap_objects::setup_members::{base_of, object_of, secret_of};
 use gnap_objects::{ObjectFault, SetupFault};
 use hmac_key::Keyring;
-use json_objects::member;
 use serde_json::Value;
-use setup_members::members::{missing, text_member, too_many, wrong};
-use setup_members::{base_member, id_member, only_members, secret_member, setup_object};
 use signed_requests::is_method;
 use std::alloc::Global;
 
-fn items_member<'v>(
-    alloc: Global,
-    value: &'v Value,
-    name: &str,
-) -> Result<&'v Vec<Value>, ObjectFault>
-    requires { IsBody (view value.now) }
-    ensures value { Gives faults.OutOfMemory (λ items. items_view items.now.items) result (required_items name.now (view value.now)) }
-    ensures bodies { IfOk result (λ items. AreBodies (items_view items.now.items)) }
+fn wrong(alloc: Global, name: &str) -> ObjectFault
+    ensures { (result ≡ faults.OutOfMemory) ⊎ (result ≡ faults.Wrong name.now) }
 {
-    let Some(member) = member(value, name) else {
-        return Err(missing(alloc, name));
-    };
-    match member.as_array() {
-        Some(items) => Ok(items),
-        None => Err(wrong(alloc, name)),
+    match Bytes::from_slice(alloc, name.as_bytes()) {
+        Ok(name) => ObjectFault::Wrong(name),
+        Err(Mem) => ObjectFault::OutOfMemory,
     }
+}
+
+fn too_many(alloc: Global, name: &str) -> ObjectFault
+    ensures { (result ≡ faults.OutOfMemory) ⊎ (result ≡ faults.TooMany name.now) }
+{
+    match Bytes::from_slice(alloc, name.as_bytes()) {
+        Ok(name) => ObjectFault::TooMany(name),
+        Err(Mem) => ObjectFault::OutOfMemory,
+    }
+}
+
+// An id, which can stand in a signature.
+#[tactic(auto, using(crate::proofs::Ids::read_string), unfolding(crate::specs::RsSetups::named_id_of))]
+fn named_id_of(alloc: Global, value: &Value) -> Result<Bytes, ObjectFault>
+    ensures value { Gives faults.OutOfMemory (λ s. s) result (named_id_of (view value.now)) }
+    ensures utf8 { IfOk result IsUtf8 }
+    ensures string { IfOk result (λ id. list_all is_string_byte id ≡ true) }
+{
+    let member = required(alloc, value, "id")?;
+    let id = id_of(alloc, member, "id")?;
+    Ok(id)
 }
 
 // ---- keys of clients
@@ -57,12 +69,12 @@ fn add_key(alloc: Global, value: &Value, ring: &mut Keyring) -> Result<(), Objec
     ensures value { Gives faults.OutOfMemory (λ _. ring.new) result (with_key ring.old (view value.now)) }
     ensures err { OnErr result (ring.new ≡ ring.old) }
 {
-    let id = id_member(alloc, value)?;
+    let id = named_id_of(alloc, value)?;
     if ring.find(id.as_slice()).is_some() {
         return Err(wrong(alloc, "id"));
     }
-    let secret = secret_member(alloc, value)?;
-    only_members(alloc, value, &["id", "secret"], ())?;
+    let secret = secret_of(alloc, value)?;
+    without_others(alloc, value, &["id", "secret"], ())?;
     ring.add(&id, &secret)?;
     Ok(())
 }
@@ -86,7 +98,7 @@ fn ring_of(alloc: Global, value: &Value) -> Result<Keyring, SetupFault>
     requires { IsBody (view value.now) }
     ensures { Gives OutOfMemory (λ k. k) result (ring_of (view value.now)) }
 {
-    let items = items_member(alloc, value, "keys")?;
+    let items = required_items(alloc, value, "keys")?;
     ring_from(alloc, items)
 }
 
@@ -97,7 +109,7 @@ fn method_of(alloc: Global, value: &Value) -> Result<Bytes, ObjectFault>
     ensures value { Gives faults.OutOfMemory (λ s. s) result (method_of (view value.now)) }
     ensures method { IfOk result (λ s. is_method s ≡ true) }
 {
-    let method = text_member(alloc, value, "method")?;
+    let method = required_text(alloc, value, "method")?;
     if !is_method(method.as_slice()) {
         return Err(wrong(alloc, "method"));
     }
@@ -132,7 +144,7 @@ fn route_path_of(
 ) -> Result<Bytes, ObjectFault>
     ensures { Gives faults.OutOfMemory (λ s. s) result (route_path_of before.now method.now (view value.now)) }
 {
-    let path = text_member(alloc, value, "path")?;
+    let path = required_text(alloc, value, "path")?;
     if !begins_with_slash(path.as_slice()) {
         return Err(wrong(alloc, "path"));
     }
@@ -169,9 +181,7 @@ fn one_right_of(alloc: Global, value: &Value) -> Result<Right, ObjectFault>
     ensures value { Gives faults.OutOfMemory (λ r. r) result (one_right_of (view value.now)) }
     ensures fits { IfOk result Fits }
 {
-    let Some(member) = member(value, "right") else {
-        return Err(missing(alloc, "right"));
-    };
+    let member = required(alloc, value, "right")?;
     let alone = alone(alloc, member)?;
     match read_rights(alloc, &alone) {
         Ok(rights) => first_of(alloc, rights),
@@ -191,14 +201,14 @@ fn route_from(alloc: Global, value: &Value, before: &Routes) -> Result<Route, Ob
     let method = method_of(alloc, value)?;
     let path = route_path_of(alloc, value, method.as_slice(), before)?;
     let right = one_right_of(alloc, value)?;
-    let text = text_member(alloc, value, "text")?;
+    let text = required_text(alloc, value, "text")?;
     let route = Route {
         method,
         path,
         right,
         text,
     };
-    only_members(alloc, value, &["method", "path", "right", "text"], route)
+    without_others(alloc, value, &["method", "path", "right", "text"], route)
 }
 
 fn routes_from(alloc: Global, items: &Vec<Value>) -> Result<Routes, ObjectFault>
@@ -233,7 +243,7 @@ fn routes_of(alloc: Global, value: &Value) -> Result<Routes, ObjectFault>
     ensures value { Gives faults.OutOfMemory (λ r. r) result (routes_of (view value.now)) }
     ensures fits { IfOk result (AllByRecursion RouteFits) }
 {
-    let items = items_member(alloc, value, "routes")?;
+    let items = required_items(alloc, value, "routes")?;
     let items = counted_items(alloc, items)?;
     routes_from(alloc, items)
 }
@@ -243,7 +253,7 @@ fn only_setup_members(alloc: Global, value: &Value, setup: RsSetup) -> Result<Rs
     ensures same { IfOk result (λ s. s ≡ setup) }
 {
     let names = ["base", "server", "id", "secret", "keys", "routes"];
-    Ok(only_members(alloc, value, &names, setup)?)
+    Ok(without_others(alloc, value, &names, setup)?)
 }
 
 /// The setup of a resource server that the bytes are.
@@ -258,11 +268,11 @@ pub fn read_rs_setup(alloc: Global, text: &[u8]) -> Result<RsSetup, SetupFault>
     ensures value { Gives OutOfMemory (λ s. s) result (rs_setup_of text.now) }
     ensures fits { IfOk result RsSetupFits }
 {
-    let value = setup_object(alloc, text)?;
-    let base = base_member(alloc, &value, "base")?;
-    let server = base_member(alloc, &value, "server")?;
-    let id = id_member(alloc, &value)?;
-    let secret = secret_member(alloc, &value)?;
+    let value = object_of(alloc, text)?;
+    let base = base_of(alloc, &value, "base")?;
+    let server = base_of(alloc, &value, "server")?;
+    let id = named_id_of(alloc, &value)?;
+    let secret = secret_of(alloc, &value)?;
     let ring = ring_of(alloc, &value)?;
     let routes = routes_of(alloc, &value)?;
     let setup = RsSetup {
