@@ -1,5 +1,4 @@
 use Rattle.std.proofs.Common.{◌+◌, ◌-◌, ◌/◌, arith}
-use Rattle.std.proofs.lemmas.List.{length-map}
 use Rattle.ordered_search.proofs.Halving.{one_step}
 use Rattle.ordered_search.proofs.Sides.{before, after}
 use Rattle.ordered_search.proofs.search.place.Goals as goal

@@ -1,0 +1,20 @@
+//! The rows of a state by tables, as they are stored and searched.
+//!
+//! Contracts see a table as the list of its rows (`gnap_tables`), and each call is exact on the whole list. A drawn value begins with its serial, so rows are
+//! found by halves. A row lies in memory of its own: taking one out moves some words for each row after it, and no row.
+#![tactic(auto)]
+
+pub mod changes;
+pub mod grant_table;
+pub mod interactions;
+pub mod serials;
+pub mod token_table;
+
+pub use changes::Change;
+pub use grant_table::GrantTable;
+pub use interactions::InteractionName;
+pub use serials::serial_in_value;
+pub use token_table::TokenTable;
+
+#[cfg(test)]
+mod tests;
