@@ -1,9 +1,15 @@
--- What is printed has no float, so that its text is known.
-use Rattle.std.proofs.Common.{◌≡◌, ℕ, List, [], ◌∷◌, map, Bool, true, false, Option, Some, None, option_map, refl}
+-- What is printed has no float, so that its text is known, and what is read of the text.
+use Rattle.std.proofs.Common.{◌≡◌, ℕ, List, [], ◌∷◌, map, Bool, true, false, Option, Some, None, option_map, Ok, refl, ap, ◌∙◌}
+use Rattle.std.specs.Prelude.{◌≤◌, is_some}
 use Rattle.std.specs.List.{AllByRecursion}
-use Rattle.serde_json.specs.Data.{no_members}
-use Rattle.serde_json.specs.Written.{has_float, items_have_float}
+use Rattle.std.specs.Str.{IsUtf8}
+use Rattle.serde_json.specs.Data.{Data, no_members, depth}
+use Rattle.serde_json.specs.Find.{as_object}
+use Rattle.serde_json.specs.Read.{read, max_depth}
+use Rattle.serde_json.specs.Written.{compact_text, has_float, items_have_float}
+use Rattle.json_objects.specs.Bodies.{body_of}
 use Rattle.json_objects.specs.Objects.{items}
+use Rattle.json_objects.proofs.Bodies.{body_is}
 use Rattle.json_objects.proofs.Whole.{IsWhole, onto_whole, text_whole, texts_whole}
 use Rattle.access_rights.proofs.Whole.{rights_whole}
 use Rattle.gnap_model.specs.declared.objects.Ask.{Ask}
@@ -13,7 +19,7 @@ use Rattle.gnap_model.specs.declared.objects.GrantRequest.{GrantRequest}
 use Rattle.gnap_objects.specs.Fits.{AskFits, RequestFits}
 use Rattle.grant_values.specs.TokenRequests.{asked_flags, token_request_fields, token_request_data, token_requests_data}
 use Rattle.grant_values.specs.Interactions.{hash_method_data, finish_fields, finish_data, starts_of, modes_fields, modes_data}
-use Rattle.grant_values.specs.Grants.{subject_request_data, client_data, grant_fields, grant_data}
+use Rattle.grant_values.specs.Grants.{subject_request_data, client_data, grant_fields, grant_data, grant_text}
 
 asked_flags_whole : (bearer : Bool) → IsWhole (asked_flags bearer)
 asked_flags_whole true = refl
@@ -60,3 +66,15 @@ pub request_whole : (request : GrantRequest) → RequestFits request → has_flo
 unfolding grant_data
 request_whole request fits = onto_whole no_members (grant_fields request) refl
     (token_requests_whole request.single request.asks fits.0, (client_whole request.by_object request.client, (modes_whole request.modes, (subject_whole request.subject, (text_whole request.user, tt)))))
+
+is_object : (request : GrantRequest) → is_some (as_object (grant_data request)) ≡ true
+unfolding grant_data
+is_object request = refl
+
+pub text_is : (request : GrantRequest) (d : Data) (text : List ℕ) → RequestFits request → d ≡ grant_data request → (has_float d ≡ false → text ≡ compact_text d) → text ≡ grant_text request
+text_is request d text fits shown printed = printed (ap has_float shown ∙ request_whole request fits) ∙ ap compact_text shown
+
+pub text_read : (request : GrantRequest) (d : Data) (text : List ℕ) → RequestFits request → d ≡ grant_data request → IsUtf8 text → (depth d ≤ max_depth → read text ≡ Some d)
+    → depth (grant_data request) ≤ max_depth → body_of text ≡ Ok (grant_data request)
+text_read request d text fits shown utf8 back shallow =
+    body_is text (grant_data request) (utf8, back (rw shown shallow) ∙ ap Some shown) ∙ rw (is_object request, request_whole request fits) refl

@@ -1,3 +1,4 @@
 pub mod TokenRequests
 pub mod Interactions
 pub mod Grants
+pub mod Laws

@@ -1,6 +1,9 @@
 //! Grant requests and modifications as JSON (RFC 9635, sections 2 and 5.3).
-ghost use Rattle.std.specs.Prelude.{◌≡◌, IfOk, option_map};
+ghost use Rattle.std.specs.Prelude.{◌≡◌, ◌≤◌, Ok, IfOk, option_map};
+ghost use Rattle.serde_json.specs.Data.{depth};
+ghost use Rattle.serde_json.specs.Read.{max_depth};
 ghost use Rattle.serde_json.specs.View.{view};
+ghost use Rattle.json_objects.specs.Bodies.{body_of};
 ghost use Rattle.json_objects.specs.Texts.{IsUtf8Or};
 ghost use Rattle.gnap_objects.specs.Fits.{RequestFits};
 ghost use Rattle.gnap_objects.specs.CallsFit.{ModesFitOr};
@@ -11,7 +14,7 @@ use crate::token_requests::token_requests_value;
 use gnap_io::bytes::Bytes;
 use gnap_io::memory::Mem;
 use gnap_model::objects::GrantRequest;
-use json_objects::{compact_text, optional_value, put, text_value};
+use json_objects::{optional_value, put, text_value};
 use serde_json::{Map, Value};
 use std::alloc::Global;
 
@@ -80,11 +83,13 @@ pub fn grant_value(alloc: Global, request: &GrantRequest) -> Result<Value, Mem>
 }
 
 /// The compact text of the object that a grant request or a modification is, with the members of each object in the ascending byte order of their names.
-#[tactic(auto, using(crate::proofs::WholeRequests::request_whole))]
+/// Where the object has at most 127 levels, it is what `read_body` reads of the text.
 pub fn grant_text(alloc: Global, request: &GrantRequest) -> Result<Bytes, Mem>
     requires fits { RequestFits request.now }
     requires modes { ModesFitOr request.now.modes }
-    ensures { IfOk result (λ text. text ≡ grant_text request.now) }
+    ensures value { IfOk result (λ text. text ≡ grant_text request.now) }
+    ensures read { IfOk result (λ text. depth (grant_data request.now) ≤ max_depth → body_of text ≡ Ok (grant_data request.now)) }
 {
-    compact_text(alloc, &grant_value(alloc, request)?)
+    let value = grant_value(alloc, request)?;
+    Ok(Bytes::from_vec(value.to_vec(alloc)?))
 }

@@ -1,7 +1,5 @@
-use Rattle.std.proofs.Common.{◌≡◌, map, take, drop}
-use Rattle.std.specs.List.{AllByRecursion}
+use Rattle.std.proofs.Common.{◌≡◌, map, take}
 use Rattle.serde_json.specs.View.{view}
-use Rattle.gnap_objects.specs.Fits.{AskFits}
 use Rattle.grant_values.specs.TokenRequests.{token_request_data}
 use Rattle.grant_values.proofs.token_requests.each_token_request.Given as goal
 
