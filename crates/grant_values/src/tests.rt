@@ -2,7 +2,7 @@
 use crate::{grant_text, grant_value};
 use gnap_io::bytes::Bytes;
 use gnap_objects::read_grant;
-use json_objects::{compact_text, read_body};
+use json_objects::read_body;
 use std::alloc::Global;
 use std::test::Fail;
 
@@ -18,7 +18,7 @@ fn shown(alloc: Global, body: &str, modify: bool) -> Option<Bytes> {
     let body = read_body(alloc, body.as_bytes()).ok()?;
     let request = read_grant(alloc, &body, modify).ok()?;
     let value = grant_value(alloc, &request).ok()?;
-    compact_text(alloc, &value).ok()
+    Some(Bytes::from_vec(value.to_vec(alloc).ok()?))
 }
 
 #[test]
