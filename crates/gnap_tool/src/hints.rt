@@ -50,7 +50,8 @@ fn tell_setup<E: Sink>(err: &mut E, command: &Command, why: &WrongSetup) {
         ),
         Command::Sign(config, _, _, _)
         | Command::Verify(config, _, _)
-        | Command::As(config, _, _, _) => {
+        | Command::As(config, _, _, _)
+        | Command::Client(config, _, _) => {
             tell(err, &[b"gnap: ", config.as_slice(), b" is no setup: "])
         }
         // It reads none.
@@ -83,6 +84,16 @@ fn tell_files<E: Sink>(err: &mut E, command: &Command) {
         Command::As(config, listen, _, _) => {
             tell(err, &[config.as_slice(), b" or ", listen.as_slice()])
         }
+        Command::Client(config, address, script) => tell(
+            err,
+            &[
+                config.as_slice(),
+                b", ",
+                address.as_slice(),
+                b" or ",
+                script.as_slice(),
+            ],
+        ),
         Command::Hash(_) => tell(err, &[b"the hash"]),
     }
 }
@@ -102,6 +113,10 @@ fn tell_refusal<E: Sink>(err: &mut E, command: &Command) {
                 file.as_slice(),
                 b" is refused for what was printed\n",
             ],
+        ),
+        Command::Client(_, _, script) => tell(
+            err,
+            &[b"gnap: a line of ", script.as_slice(), b" wasn't ok\n"],
         ),
         // Nothing that they read is refused.
         Command::As(_, _, _, _) | Command::Hash(_) => {}
