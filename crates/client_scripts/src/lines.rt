@@ -18,7 +18,7 @@ use gnap_io::bytes::Bytes;
 use gnap_io::memory::Mem;
 use gnap_model::objects::GrantRequest;
 use gnap_objects::{ObjectFault, read_grant};
-use json_objects::has_fraction;
+use json_objects::{has_fraction, member_within};
 use serde_json::Value;
 use signed_requests::{is_method, is_target};
 use std::alloc::Global;
@@ -40,15 +40,6 @@ impl From<Mem> for LineFault {
 
 // The last second of the year 9999, in seconds since 1970.
 const LAST_MOMENT: u64 = 253_402_300_799;
-
-// The member of that name, which has no more levels than the value.
-fn member_within<'v>(value: &'v Value, name: &str) -> Option<&'v Value>
-    requires { depth (view value.now) ≤ max_depth }
-    ensures found { option_map (λ v. view v.now) result ≡ get name.now (view value.now) }
-    ensures shallow { IfSome result (λ v. depth (view v.now) ≤ max_depth) }
-{
-    value.get(name)
-}
 
 fn line_member<'v>(value: &'v Value, name: &str) -> Result<&'v Value, LineFault>
     requires { depth (view value.now) ≤ max_depth }

@@ -10,6 +10,7 @@ use json_objects::put;
 use serde_json::{Map, Value};
 use std::alloc::Global;
 
+/// The HTTP status of an error.
 pub fn error_status(code: ErrorCode) -> u16
     ensures { result ≡ error_status code }
 {

@@ -8,7 +8,7 @@
 
 pub mod discovery;
 mod endpoints;
-mod errors;
+pub mod errors;
 mod grants;
 mod interactions;
 mod introspections;

@@ -5,3 +5,4 @@ pub mod Parts
 pub mod Whole
 pub mod Lengths
 pub mod Fields
+pub mod Depths

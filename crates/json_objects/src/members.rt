@@ -1,8 +1,10 @@
 //! Members of objects.
-ghost use Rattle.std.specs.Prelude.{◌≡◌, IfSome, option_map, map};
+ghost use Rattle.std.specs.Prelude.{◌≡◌, ◌≤◌, IfSome, option_map, map};
 ghost use Rattle.std.specs.List.{list_any};
 ghost use Rattle.std.specs.Str.{bytes_eq};
+ghost use Rattle.serde_json.specs.Data.{depth};
 ghost use Rattle.serde_json.specs.Find.{get};
+ghost use Rattle.serde_json.specs.Read.{max_depth};
 ghost use Rattle.serde_json.specs.View.{view, members_view};
 ghost use Rattle.json_objects.specs.Bodies.{IsBody};
 ghost use Rattle.json_objects.specs.Members.{other_name, other_member};
@@ -13,6 +15,15 @@ use serde_json::{Map, Value};
 pub fn member<'v>(value: &'v Value, name: &str) -> Option<&'v Value>
     ensures found { option_map (λ v. view v.now) result ≡ get name.now (view value.now) }
     ensures body { IsBody (view value.now) → IfSome result (λ v. IsBody (view v.now)) }
+{
+    value.get(name)
+}
+
+/// The member of that name of a value that was read. Like the value, it has at most 127 levels.
+pub fn member_within<'v>(value: &'v Value, name: &str) -> Option<&'v Value>
+    requires { depth (view value.now) ≤ max_depth }
+    ensures found { option_map (λ v. view v.now) result ≡ get name.now (view value.now) }
+    ensures shallow { IfSome result (λ v. depth (view v.now) ≤ max_depth) }
 {
     value.get(name)
 }

@@ -4,13 +4,13 @@ ghost use Rattle.std.specs.Str.{bytes_eq};
 ghost use Rattle.serde_json.specs.View.{view};
 ghost use Rattle.json_objects.specs.Reading.{Gives};
 ghost use Rattle.gnap_model.specs.Codes.{error_text};
-ghost use Rattle.gnap_replies.specs.Errors.{error_status};
 ghost use Rattle.reply_readers.specs.declared.members.FormFault.TheVariants.{OutOfMemory};
 ghost use Rattle.reply_readers.specs.Grants.{code_named, refused_of};
 
 use crate::grant_reply::GrantReply;
 use crate::members::{FormFault, needed, needed_text};
 use gnap_model::objects::ErrorCode;
+use gnap_replies::errors::error_status;
 use serde_json::Value;
 use std::alloc::Global;
 
@@ -59,28 +59,6 @@ fn code_named(text: &[u8]) -> Result<ErrorCode, FormFault>
     }
 }
 
-fn status_of(code: ErrorCode) -> u16
-    ensures { result ≡ error_status code }
-{
-    match code {
-        ErrorCode::InvalidClient
-        | ErrorCode::InvalidContinuation
-        | ErrorCode::InvalidResourceServer => 401,
-        ErrorCode::InvalidRequest
-        | ErrorCode::InvalidInteraction
-        | ErrorCode::InvalidFlag
-        | ErrorCode::InvalidRotation
-        | ErrorCode::KeyRotationNotSupported
-        | ErrorCode::UserDenied
-        | ErrorCode::RequestDenied
-        | ErrorCode::UnknownUser
-        | ErrorCode::UnknownInteraction
-        | ErrorCode::TooFast
-        | ErrorCode::TooManyAttempts
-        | ErrorCode::InvalidAccess => 400,
-    }
-}
-
 #[tactic(auto, unfolding(crate::specs::Grants::refused_of))]
 pub(crate) fn refused_of(alloc: Global, status: u16, value: &Value) -> Result<GrantReply, FormFault>
     ensures { Gives OutOfMemory (λ r. r) result (refused_of status (view value.now)) }
@@ -88,7 +66,7 @@ pub(crate) fn refused_of(alloc: Global, status: u16, value: &Value) -> Result<Gr
     let error = needed(value, "error")?;
     let text = needed_text(alloc, error, "code")?;
     let code = code_named(text.as_slice())?;
-    if status == status_of(code) {
+    if status == error_status(code) {
         Ok(GrantReply::Refused { code })
     } else {
         Err(FormFault::NotOfForm)

@@ -7,7 +7,7 @@ use Rattle.std.proofs.lemmas.List.Elements.{All-push}
 use Rattle.histories.specs.Whole.{AllKeep}
 use Rattle.shared_server.specs.Passes.{IsPassOf}
 use Rattle.serving.specs.Workers.{accounts_of}
-use Rattle.serving.proofs.Starting.{next_at, parts-next, size-next, each-next, accounts-next, account_as, map-next}
+use Rattle.serving.proofs.Starting.{next_at, parts-next, size-next, each-next, one-more-account, account_as, map-next}
 use Rattle.serving.proofs.threads.end_workers.Goals as goal
 
 pub loop-worker-preserved : goal.loop-worker-preserved
@@ -46,7 +46,7 @@ loop-worker-preserved g c =
           (All-push (λ g'. (state g').out ≡ 0) c.loop-worker.gears.items gear i.8 (ap (λ s. s.out) c.leave-pass.ensures.gear ∙ c.leave-pass.ensures.out)),
       subst (λ l. AllKeep 0 (accounts_of (session c.args.shared.now.rules) l) (map (λ p. p.seen) c.push_reserved.new.self.items)) (sym made)
           (subst (λ l. AllKeep 0 (accounts_of (session c.args.shared.now.rules) (map state c.loop-worker.gears.items ++ state gear ∷ [])) l) (sym all_seen)
-          (accounts-next (session c.args.shared.now.rules) (map state c.loop-worker.gears.items) (state gear) (map (λ p. p.seen) c.loop-worker.passes.items) pass.seen 0 i.9 account)),
+          (one-more-account (session c.args.shared.now.rules) (map state c.loop-worker.gears.items) (state gear) (map (λ p. p.seen) c.loop-worker.passes.items) pass.seen 0 i.9 account)),
       (let a = c.in-Some.ensures.steps.1 in let b = ap length c.in-Some.ensures.steps.0 in let d = i.10 in omega (arith, a, b, d)),
     )
 
