@@ -1,7 +1,6 @@
 -- One gear that served all that its door gave.
-use Rattle.std.proofs.Common.{◌≡◌, ◌∙◌, ◌⊎◌, inl, inr, ℕ, ◌<◌, List, [], ◌∷◌, refl, sym, ap, subst, arith, Bool, true, false}
-use Rattle.std.specs.Prelude.{nat_lt, Result, Ok, Err, All}
-use Rattle.std.proofs.lemmas.Bool.Decides.{nat_tests}
+use Rattle.std.proofs.Common.{◌≡◌, ◌∙◌, ℕ, List, [], ◌∷◌, map, length, refl, sym, ap, subst, arith, Bool, true, false}
+use Rattle.std.specs.Prelude.{slice_index_or, slice_set, Result, Ok, Err, All}
 use Rattle.std.proofs.lemmas.List.Elements.{All-nil, All-push}
 use Rattle.gnap_io.specs.Gears.{GearState, IsUnused}
 use Rattle.gnap_io.specs.Links.{LinkState, new_link}
@@ -9,25 +8,16 @@ use Rattle.gnap_io.specs.Worlds.{WorldState, HasWorldCause, with_opening, with_g
 use Rattle.gnap_io.specs.declared.world.Opening.TheVariants as opening
 use Rattle.gnap_io.specs.declared.world.WorldFault.{WorldFault}
 use Rattle.gnap_io.specs.declared.world.WorldFault.TheVariants as faults
-use Rattle.gnap_io.specs.Outside.{Rose}
 use Rattle.serving.specs.Workers.{HasServedAll}
 use Rattle.as_service.specs.Services.{has_failed, IsUsedUp, IsEndOfService}
+use Rattle.as_service.proofs.UsedUp.{used_up}
 use Rattle.resource_server.specs.declared.setup.RsSetup.{RsSetup}
 use Rattle.rs_edge.specs.RsSessions.{IsRsAccount}
 use Rattle.rs_edge.specs.RsServices.{ServesOneGear, IsRsService, not_started, served}
 
-none_failed : (faults : ℕ) → nat_lt 0 faults ≡ false → faults ≡ 0
-none_failed faults e = grind (arith, nat_tests, e)
-
-used_up : (before after : GearState) → IsUnused before → HasServedAll before after → has_failed after ≡ false → IsUsedUp after
-used_up before after unused all none = by all.done
-  where
-    fine : after.faults ≡ 0
-    fine = none_failed after.faults none
-
-    by : ((after.left ≡ 0) × (after.faults ≡ before.faults)) ⊎ Rose before.faults after.faults → IsUsedUp after
-    by (inl is) = record { left = is.0; unfailed = fine }
-    by (inr rose) = absurd (let start = ap (λ (g : GearState). g.faults) unused in omega (arith, rose, fine, start))
+served_whole : (before after : GearState) → IsUnused before → HasServedAll before after → has_failed after ≡ false → IsUsedUp after
+served_whole before after unused all none =
+    used_up (before ∷ []) (after ∷ []) (All-push IsUnused [] before (All-nil IsUnused) unused) (all, tt) (rw none refl) 0 after (omega arith)
 
 pub one_gear : (setup : RsSetup) (link : LinkState) (before after : GearState) (gears : List GearState) (failed : Bool) → gears ≡ after ∷ [] → IsUnused before
     → IsRsAccount setup after.log link.asked → after.out ≡ 0 → HasServedAll before after → failed ≡ has_failed after → ServesOneGear setup link gears failed
@@ -36,8 +26,18 @@ one_gear setup link before after gears failed one unused account out all is = re
   one = one;
   over = record { account = account; out = out };
   failed_is = is;
-  used_up = λ none. used_up before after unused all (sym is ∙ none);
+  used_up = λ none. served_whole before after unused all (sym is ∙ none);
 }
+
+-- the same of the first gear of a list that has no other
+pub gear_served : {G : Type 0} (state : G → GearState) (setup : RsSetup) (link : LinkState) (gears : List G) (first after : G) (failed : Bool) → length gears ≡ 1
+    → first ≡ slice_index_or gears 0 first → All (λ gear. IsUnused (state gear)) gears → IsRsAccount setup (state after).log link.asked → (state after).out ≡ 0
+    → HasServedAll (state first) (state after) → failed ≡ has_failed (state after) → ServesOneGear setup link (map state (slice_set gears 0 after)) failed
+gear_served state setup link [] first after failed one is unused account out all failed_is = absurd (omega (arith, one))
+gear_served state setup link (g ∷ []) first after failed one is unused account out all failed_is =
+    one_gear setup link (state first) (state after) (state after ∷ []) failed refl (subst (λ x. IsUnused (state x)) (sym is) (unused 0 g (omega arith)))
+    account out all failed_is
+gear_served state setup link (g ∷ h ∷ gears) first after failed one is unused account out all failed_is = absurd (omega (arith, one))
 
 -- ---- in a world
 
