@@ -12,12 +12,6 @@ use gnap_io::message::{Field, Fields, Message};
 use reply_readers::values::is_value;
 use signed_requests::Scheme;
 
-fn has_path(path: &[u8], route: &Route) -> bool
-    ensures { result ≡ has_path path.now route.now }
-{
-    route.path.as_slice() == path
-}
-
 pub(crate) fn is_route(method: &[u8], path: &[u8], route: &Route) -> bool
     ensures { result ≡ is_route method.now path.now route.now }
 {
@@ -27,7 +21,7 @@ pub(crate) fn is_route(method: &[u8], path: &[u8], route: &Route) -> bool
 fn any_path(routes: &[Route], path: &[u8]) -> bool
     ensures { result ≡ list_any (has_path path.now) routes.now }
 {
-    routes.iter().any(|route| has_path(path, route))
+    routes.iter().any(|route| route.has_path(path))
 }
 
 fn place_of(routes: &[Route], method: &[u8], path: &[u8]) -> Option<usize>

@@ -1,4 +1,7 @@
 //! What a resource server is set up with.
+ghost use Rattle.std.specs.Prelude.{◌≡◌};
+ghost use Rattle.resource_server.specs.Routing.{has_path};
+
 use gnap_io::bytes::Bytes;
 use gnap_io::seq::Seq;
 use gnap_model::rights::Right;
@@ -18,6 +21,15 @@ pub struct Route {
     pub right: Right,
     /// What is shown.
     pub text: Bytes,
+}
+
+impl Route {
+    /// Whether it has this path.
+    pub fn has_path(&self, path: &[u8]) -> bool
+        ensures { result ≡ has_path path.now self.now }
+    {
+        self.path.as_slice() == path
+    }
 }
 
 /// The setup of a resource server.

@@ -7,7 +7,6 @@ ghost use Rattle.structured_fields.specs.Canonical.{further_text};
 ghost use Rattle.http_edge.specs.Replies.{is_method_byte, plain_reply, MayWrite};
 ghost use Rattle.resource_server.specs.Fits.{RsSetupFits};
 ghost use Rattle.resource_server.specs.Guarding.{status_of, IsAnswer};
-ghost use Rattle.resource_server.specs.Routing.{has_path};
 ghost use Rattle.rs_edge.specs.RsReplies.{shown_fields, shown_text, methods_at, allow_text, allow_reply, refusal_reply, rs_reply};
 
 use as_requests::routes::path_of;
@@ -37,12 +36,6 @@ fn shown_text(alloc: Global, text: &[u8]) -> Result<Bytes, Mem>
     compact_text(alloc, &shown_value(alloc, text)?)
 }
 
-fn has_path(path: &[u8], route: &Route) -> bool
-    ensures { result ≡ has_path path.now route.now }
-{
-    route.path.as_slice() == path
-}
-
 fn push_behind(out: &mut Bytes, method: &[u8]) -> Result<(), Mem>
     ensures { OnOk result (out.new ≡ out.old ++ further_text (44 ∷ 32 ∷ []) (λ m. m) (method.now ∷ [])) }
 {
@@ -56,7 +49,7 @@ fn methods_behind(alloc: Global, path: &[u8], routes: &Routes) -> Result<Bytes, 
 {
     let mut out = Bytes::new(alloc);
     for route in routes.as_slice() {
-        if has_path(path, route) {
+        if route.has_path(path) {
             push_behind(&mut out, route.method.as_slice())?;
         }
     }
