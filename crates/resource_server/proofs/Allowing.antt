@@ -8,7 +8,8 @@ use Rattle.gnap_model.specs.declared.rights.Right.{Right}
 use Rattle.gnap_model.specs.Rights.{covers}
 use Rattle.message_signature.specs.declared.fault.SigFault.{SigFault}
 use Rattle.message_signature.specs.Verified.{verified}
-use Rattle.gnap_io.specs.Links.{Exchange}
+use Rattle.gnap_io.specs.Links.{Exchange, LinkState}
+use Rattle.gnap_io.specs.Outside.{Rose}
 use Rattle.gnap_io.specs.declared.link.LinkFault.{LinkFault}
 use Rattle.gnap_io.specs.declared.link.LinkFault.TheVariants as link_faults
 use Rattle.reply_readers.specs.declared.judgement.Judgement.{Judgement}
@@ -20,7 +21,7 @@ use Rattle.resource_server.specs.declared.guarded.Guarded.{Guarded}
 use Rattle.resource_server.specs.declared.guarded.Guarded.TheVariants as guarded
 use Rattle.resource_server.specs.declared.guarded.Why.TheVariants as why
 use Rattle.resource_server.specs.Routing.{◌>>=◌, placed, route_of, needed_token, token_of, question_of}
-use Rattle.resource_server.specs.Guarding.{SaysOfToken, SaysNothing, is_key, has_signed, answer_of, exchanges_of, Judged, said, said_nothing, failed, no_room, no_room_after, Guards, at_once, starved, asked}
+use Rattle.resource_server.specs.Guarding.{SaysOfToken, SaysNothing, is_key, has_signed, answer_of, exchanges_of, Judged, said, said_nothing, failed, no_room, no_room_after, Guards, at_once, starved, asked, CountsExchanges, GuardsOver}
 use Rattle.resource_server.specs.Laws.{HasSigned, IsAllowed, AllowMeans, AllowComes, FaultMeans}
 use Rattle.resource_server.proofs.Sayings.{same_saying}
 
@@ -246,3 +247,11 @@ fault_means_law setup m now _ _ (asked j token question route place request sign
   (λ is. (request, ap (exchanges_of request) (judged_fault setup m now j (route.right ∷ []) answered answer judged is))),
   (λ other none. judged_failed setup m now j (route.right ∷ []) answered answer judged (no_reply request other answered none)),
 )
+
+-- and then the link's count rose
+pub fault_rose : (setup : RsSetup) (m : Message) (now : ℕ) (before after : LinkState) (answer : Guarded) → GuardsOver setup m now before after answer
+    → answer ≡ guarded.LinkFault → Rose before.faults after.faults
+fault_rose setup m now before after answer over is =
+    let one : (request : List ℕ) × (over.exchanges ≡ (request, None) ∷ []) = (fault_means_law setup m now over.exchanges answer over.guards).0 is in
+    let counts : CountsExchanges ((one.0, None) ∷ []) before.faults after.faults = subst (λ es. CountsExchanges es before.faults after.faults) one.1 over.over.counts in
+    subst (λ n. Rose before.faults n) (sym counts.2) counts.1

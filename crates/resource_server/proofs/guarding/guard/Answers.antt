@@ -1,8 +1,7 @@
-use Rattle.std.proofs.Common.{sym}
-use Rattle.std.specs.Prelude.{filter}
-use Rattle.resource_server.specs.Routing.{is_authorization, only_value}
-use Rattle.resource_server.proofs.Places.{value_is_text}
+use Rattle.resource_server.proofs.Allowing.{fault_rose}
 use Rattle.resource_server.proofs.guarding.guard.Goals as goal
 
-pub guard_by-requires-clause-value : goal.guard_by-requires-clause-value
-guard_by-requires-clause-value g c = value_is_text (only_value (filter is_authorization c.args.message.now.fields)) c.in-Some.token.0 c.in-Some.token.1.now (sym c.in-Some.ensures)
+pub returns-clause-cause : goal.returns-clause-cause
+returns-clause-cause g c = λ is.
+    fault_rose c.args.setup.now c.args.message.now c.args.now (g.L.Link.link c.args.link.now) (g.L.Link.link c.first_answer.new.link) c.first_answer.result
+    c.first_answer.ensures.guards is
