@@ -19,6 +19,3 @@ pub use guarded::{Guarded, Why};
 pub use guarding::guard;
 pub use setup::{Route, Routes, RsSetup};
 pub use setup_reading::read_rs_setup;
-
-#[cfg(test)]
-mod tests;

@@ -15,6 +15,3 @@ mod turns;
 pub use connections::serve_resources;
 pub use doors::serve_door;
 pub use service::serve_resources_at;
-
-#[cfg(test)]
-mod tests;

@@ -3,7 +3,6 @@ ghost use Rattle.std.specs.Prelude.{IfOk};
 ghost use Rattle.gnap_io.specs.Gears.{IsUnused};
 ghost use Rattle.gnap_io.specs.MemoryForms.{IsUnusedConn};
 
-use crate::serve_door;
 use gnap_io::bytes::Bytes;
 use gnap_io::gear::Counted;
 use gnap_io::memory::Mem;
@@ -11,6 +10,7 @@ use gnap_io::memory_conn::MemConn;
 use gnap_io::memory_gear::MemGear;
 use gnap_io::memory_link::MemLink;
 use resource_server::read_rs_setup;
+use rs_edge::serve_door;
 use std::alloc::Global;
 use std::test::Fail;
 

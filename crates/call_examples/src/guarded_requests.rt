@@ -1,10 +1,10 @@
 //! A setup, and a request that is let through.
-use crate::{Guarded, guard, read_rs_setup};
 use gnap_io::bytes::Bytes;
 use gnap_io::memory::Mem;
 use gnap_io::memory_link::MemLink;
 use gnap_io::message::{Field, Message};
 use gnap_io::seq::Seq;
+use resource_server::{Guarded, guard, read_rs_setup};
 use std::alloc::Global;
 use std::test::Fail;
 
