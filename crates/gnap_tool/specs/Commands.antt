@@ -6,7 +6,7 @@ use Rattle.gnap_io.specs.Gears.{last_moment}
 use Rattle.gnap_io.specs.declared.world.Opening.{Opening}
 use Rattle.gnap_io.specs.declared.world.Opening.TheVariants.{File, Gears, Link}
 use Rattle.gnap_tool.specs.declared.command.Command.{Command}
-use Rattle.gnap_tool.specs.declared.command.Command.TheVariants.{Replay, Field, Sign, Verify, As, Client, Hash}
+use Rattle.gnap_tool.specs.declared.command.Command.TheVariants.{Replay, Field, Sign, Verify, As, Rs, Client, Hash}
 use Rattle.gnap_tool.specs.declared.fields.Kind.{Kind}
 use Rattle.gnap_tool.specs.declared.fields.Kind.TheVariants.{Item, List as AList, Dictionary}
 use Rattle.gnap_tool.specs.Numbers.{number_within}
@@ -63,6 +63,11 @@ as_words config listen workers quota =
     if are_arguments (config ∷ listen ∷ [])
     then option_and_then (λ n. option_map (λ most. As config listen n most) (number_within 0 1000000 quota)) (number_within 1 64 workers) else None
 
+-- at most 1,000,000 connections
+abbrev pub rs_words : List ℕ → List ℕ → List ℕ → List ℕ → Option Command
+rs_words config listen server quota =
+    if are_arguments (config ∷ listen ∷ server ∷ []) then option_map (λ most. Rs config listen server most) (number_within 0 1000000 quota) else None
+
 abbrev pub client_words : List ℕ → List ℕ → List ℕ → Option Command
 client_words config address script = if are_arguments (config ∷ address ∷ script ∷ []) then Some (Client config address script) else None
 
@@ -88,6 +93,7 @@ command_of (name ∷ arguments) =
     else if bytes_eq name (codes "sign") then with_four sign_words arguments
     else if bytes_eq name (codes "verify") then with_three verify_words arguments
     else if bytes_eq name (codes "as") then with_four as_words arguments
+    else if bytes_eq name (codes "rs") then with_four rs_words arguments
     else if bytes_eq name (codes "client") then with_three client_words arguments
     else if bytes_eq name (codes "hash") then hash_of arguments
     else None
@@ -103,6 +109,7 @@ IsWithinRanges (Field kind file) = Unit {0}
 IsWithinRanges (Sign config key created file) = created ≤ last_moment
 IsWithinRanges (Verify config now file) = now ≤ last_moment
 IsWithinRanges (As config listen workers quota) = (1 ≤ workers) × (workers ≤ 64)
+IsWithinRanges (Rs config listen server quota) = Unit {0}
 IsWithinRanges (Client config address script) = Unit {0}
 IsWithinRanges (Hash texts) = Unit {0}
 
@@ -115,6 +122,7 @@ openings_of (Field kind file) = File file ∷ []
 openings_of (Sign config key created file) = File config ∷ File file ∷ []
 openings_of (Verify config now file) = File config ∷ File file ∷ []
 openings_of (As config listen workers quota) = File config ∷ Gears listen workers quota ∷ []
+openings_of (Rs config listen server quota) = File config ∷ Link server ∷ Gears listen 1 quota ∷ []
 openings_of (Client config address script) = File config ∷ Link address ∷ File script ∷ []
 openings_of (Hash texts) = []
 
@@ -125,5 +133,6 @@ input_place (Field kind file) = Some 0
 input_place (Sign config key created file) = None
 input_place (Verify config now file) = None
 input_place (As config listen workers quota) = None
+input_place (Rs config listen server quota) = None
 input_place (Client config address script) = Some 1
 input_place (Hash texts) = None

@@ -10,7 +10,7 @@ use Rattle.gnap_io.specs.declared.world.WorldFault.TheVariants as faults
 use Rattle.as_service.specs.Services.{IsService}
 use Rattle.gnap_io.specs.Openings.{Gives, GivesBack, gears_in, new_files}
 use Rattle.gnap_tool.specs.declared.command.Command.{Command}
-use Rattle.gnap_tool.specs.declared.command.Command.TheVariants.{Replay, Field, Sign, Verify, As, Client, Hash}
+use Rattle.gnap_tool.specs.declared.command.Command.TheVariants.{Replay, Field, Sign, Verify, As, Rs, Client, Hash}
 use Rattle.gnap_tool.specs.declared.purpose.Purpose.{Purpose}
 use Rattle.gnap_tool.specs.declared.purpose.Purpose.TheVariants as purposes
 use Rattle.gnap_tool.specs.declared.ended.Ended.{Ended}
@@ -20,7 +20,10 @@ use Rattle.gnap_tool.specs.ClientFiles.{client_config_in, RunsClient}
 use Rattle.gnap_tool.specs.Fields.{PrintsField}
 use Rattle.gnap_tool.specs.HashLines.{PrintsHash}
 use Rattle.gnap_tool.specs.Printing.{PrintsFor}
+use Rattle.gnap_tool.specs.ResourceFiles.{rs_setup_in}
 use Rattle.gnap_tool.specs.Replays.{ReplaysFile, setup_limit, setup_in}
+use Rattle.resource_server.specs.declared.setup.RsSetup.{RsSetup}
+use Rattle.rs_edge.specs.RsServices.{IsRsService}
 use Rattle.signed_files.specs.SignedText.{SignsFile}
 use Rattle.signed_files.specs.Verdicts.{VerifiesFile}
 use Rattle.gnap_model.specs.declared.objects.Setup.{Setup}
@@ -102,6 +105,11 @@ abbrev pub Serves : Setup → List ℕ → ℕ → ℕ → WorldState → WorldS
 Serves setup listen workers quota before after ended = ((after ≡ before) × ((ended ≡ Failed) ⊎ (ended ≡ Memory)))
     ⊎ ((answer : Result (Unit {0}) WorldFault) × (ended ≡ ended_service answer) × IsService setup listen workers quota before after answer)
 
+-- the same of a resource server, with the authorization server at another address
+abbrev pub ServesRs : RsSetup → List ℕ → List ℕ → ℕ → WorldState → WorldState → Ended → Type 0
+ServesRs setup listen server quota before after ended = ((after ≡ before) × ((ended ≡ Failed) ⊎ (ended ≡ Memory)))
+    ⊎ ((answer : Result (Unit {0}) WorldFault) × (ended ≡ ended_service answer) × IsRsService setup listen server quota before after answer)
+
 -- ---- a link to an address
 
 -- A link was to be opened. It wasn't, and that is all; or the world has it back, and P holds of it and of the world as it was opened.
@@ -125,6 +133,9 @@ CarriesOut (Verify config now file) text before after out out_now ended =
 CarriesOut (As config listen workers quota) text before after out out_now ended =
     BySetup setup_in (text config) before after out out_now ended (λ between setup.
     (out_now ≡ out) × Serves setup listen workers quota between after ended)
+CarriesOut (Rs config listen server quota) text before after out out_now ended =
+    BySetup rs_setup_in (text config) before after out out_now ended (λ between setup.
+    (out_now ≡ out) × ServesRs setup listen server quota between after ended)
 CarriesOut (Client config address script) text before after out out_now ended =
     BySetup client_config_in (text config) before after out out_now ended (λ between parts.
     Linked between after (Unopened out out_now ended) (λ link opened.

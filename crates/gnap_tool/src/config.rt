@@ -4,6 +4,9 @@ ghost use Rattle.gnap_io.specs.Outside.{IsAtEnd, IsRest, Leaves};
 ghost use Rattle.gnap_objects.specs.Setups.{IsSetup};
 ghost use Rattle.gnap_client.specs.Configs.{parts_of};
 ghost use Rattle.gnap_tool.specs.ClientFiles.{client_config_in};
+ghost use Rattle.gnap_tool.specs.ResourceFiles.{rs_setup_in};
+ghost use Rattle.resource_server.specs.declared.setup.RsSetup.{RsSetup};
+ghost use Rattle.resource_server.specs.Fits.{RsSetupFits};
 ghost use Rattle.gnap_tool.specs.Ends.{CountsReads};
 ghost use Rattle.gnap_tool.specs.Replays.{setup_in};
 ghost use Rattle.gnap_tool.specs.Setups.{GivesRead, GivesSetup, GivesText, ended_by};
@@ -16,6 +19,7 @@ use gnap_io::device::Source;
 use gnap_io::memory::Mem;
 use gnap_model::objects::Setup;
 use gnap_objects::{SetupFault, read_setup};
+use resource_server::{RsSetup, read_rs_setup};
 use std::alloc::Global;
 
 /// The most bytes of a setup, and of a configuration.
@@ -45,6 +49,21 @@ pub(crate) fn client_config_in(alloc: Global, text: &Bytes) -> Result<ClientConf
     }
     match read_client_config(alloc, text.as_slice()) {
         Ok(config) => Ok(config),
+        Err(SetupFault::OutOfMemory) => Err(Ended::Memory),
+        Err(fault) => Err(Ended::NoSetup(WrongSetup::Faulty(fault))),
+    }
+}
+
+/// The setup of a resource server that a text is, or how a command ends whose setup it should be.
+pub(crate) fn rs_setup_in(alloc: Global, text: &Bytes) -> Result<RsSetup, Ended>
+    ensures setup { GivesRead (λ (setup : RsSetup). setup) result (rs_setup_in text.now) }
+    ensures fits { IfOk result RsSetupFits }
+{
+    if SETUP_LIMIT < text.len() {
+        return Err(Ended::NoSetup(WrongSetup::TooLong));
+    }
+    match read_rs_setup(alloc, text.as_slice()) {
+        Ok(setup) => Ok(setup),
         Err(SetupFault::OutOfMemory) => Err(Ended::Memory),
         Err(fault) => Err(Ended::NoSetup(WrongSetup::Faulty(fault))),
     }

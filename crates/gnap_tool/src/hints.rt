@@ -50,7 +50,8 @@ fn tell_setup<E: Sink>(err: &mut E, command: &Command, why: &WrongSetup) {
         ),
         Command::Sign(config, _, _, _)
         | Command::Verify(config, _, _)
-        | Command::As(config, _, _, _) => {
+        | Command::As(config, _, _, _)
+        | Command::Rs(config, _, _, _) => {
             tell(err, &[b"gnap: ", config.as_slice(), b" is no setup: "])
         }
         Command::Client(config, _, _) => tell(
@@ -87,6 +88,16 @@ fn tell_files<E: Sink>(err: &mut E, command: &Command) {
         Command::As(config, listen, _, _) => {
             tell(err, &[config.as_slice(), b" or ", listen.as_slice()])
         }
+        Command::Rs(config, listen, server, _) => tell(
+            err,
+            &[
+                config.as_slice(),
+                b", ",
+                server.as_slice(),
+                b" or ",
+                listen.as_slice(),
+            ],
+        ),
         Command::Client(config, address, script) => tell(
             err,
             &[
@@ -122,7 +133,7 @@ fn tell_refusal<E: Sink>(err: &mut E, command: &Command) {
             &[b"gnap: a line of ", script.as_slice(), b" wasn't ok\n"],
         ),
         // Nothing that they read is refused.
-        Command::As(_, _, _, _) | Command::Hash(_) => {}
+        Command::As(_, _, _, _) | Command::Rs(_, _, _, _) | Command::Hash(_) => {}
     }
 }
 

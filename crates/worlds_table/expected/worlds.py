@@ -9,6 +9,7 @@ import as_server
 import client_side
 import http_forms
 import replays
+import resource_side
 import written_cases
 from calls import interaction_hash
 from json_forms import Fault, NotJson, read_setup
@@ -73,7 +74,7 @@ class World:
             raise Stop(3) from None
 
     def exchange(self, request):
-        """The reply to a client's request, where one comes."""
+        """The reply to a request over the link, where one comes."""
         self.asked.append(request)
         replies = self.case.get("replies", [])
         bad = self.case.get("bad_exchanges", [])
@@ -187,6 +188,22 @@ def serve(world, config, listen, workers, quota):
     return 4 if any(failed for _, failed in answers) else 0
 
 
+def serve_resources(world, config, listen, server, quota):
+    argument(config), argument(listen), argument(server)
+    quota = number(quota, 0, 1_000_000)
+    setup = world.config(config, resource_side.read_resource_setup)
+    world.open()
+    if server != "a":
+        raise Stop(4)
+    world.open()
+    gears = world.case.get("gears", [])
+    if listen != "a" or len(gears) != 1 or len(gears[0]["connections"]) > quota:
+        raise Stop(4)
+    connections, failed = as_server.served(world, resource_side.ResourceServer(setup, world.exchange), gears[0])
+    world.served = [connections]
+    return 4 if failed else 0
+
+
 def client(world, config, address, script):
     argument(config), argument(address), argument(script)
     scripted = client_side.Client(world.config(config, client_side.read_config))
@@ -219,7 +236,7 @@ def print_hash(world, method, *texts):
 
 
 COMMANDS = {
-    "replay": (replay, 1), "field": (field, 2), "sign": (sign, 4), "verify": (verify, 3), "as": (serve, 4), "client": (client, 3), "hash": (print_hash, 5),
+    "replay": (replay, 1), "field": (field, 2), "sign": (sign, 4), "verify": (verify, 3), "as": (serve, 4), "rs": (serve_resources, 4), "client": (client, 3), "hash": (print_hash, 5),
 }
 
 
