@@ -8,10 +8,8 @@
 # GNAP names another program than ./gnap. All that is started ends with this script, and so do its files.
 set -euo pipefail
 here=$(cd "$(dirname "$0")" && pwd)
-gnap=${GNAP:-$here/../gnap}
 python=/usr/bin/python3
 PATH=$PATH:/usr/sbin
-umask 077
 
 headless=
 quick=
@@ -47,6 +45,17 @@ if [ -n "$missing" ]; then
     exit 1
 fi
 
+gnap=$(realpath "$(command -v "${GNAP:-$here/../gnap}")")
+# This builds the program where it isn't built.
+"$gnap" replay "$here/../examples/first.jsonl" >/dev/null
+
+if [ -n "$headless" ]; then
+    pictures=${pictures:-$(mktemp -d)}
+    mkdir -p "$pictures"
+    pictures=$(realpath "$pictures")
+fi
+
+umask 077
 work=$(mktemp -d)
 pids=()
 finish() {
@@ -64,6 +73,16 @@ start() {
     pids+=($!)
 }
 
+# Runs what this is all for, so that a signal ends it at once. Its status is the script's.
+run() {
+    local status=0
+    "$@" </dev/null &
+    pids+=($!)
+    wait $! || status=$?
+    unset 'pids[-1]'
+    return $status
+}
+
 # Waits until the part that was started last listens at this port.
 listens() {
     for _ in $(seq 150); do
@@ -75,9 +94,6 @@ listens() {
     tail -n 20 "$work/logs/$1.log" >&2
     return 1
 }
-
-# This builds the program where it isn't built.
-"$gnap" replay "$here/../examples/first.jsonl" >/dev/null
 
 mkdir "$work/logs"
 cd "$here"
@@ -99,10 +115,10 @@ start nginx nginx -e "$work/logs/nginx-error.log" -p "$work" -c "$work/nginx.con
 listens nginx "$TLS"
 
 if [ -n "$headless" ]; then
-    pictures=${pictures:-$(mktemp -d)}
-    mkdir -p "$pictures"
-    "$python" -m tour "$work" "$(cd "$OLDPWD" && cd "$pictures" && pwd)" $quick
+    run "$python" -m tour "$work" "$pictures" $quick
 else
+    browser=
+    [ -n "${DISPLAY:-}${WAYLAND_DISPLAY:-}" ] || browser=--no-browser
     echo "Everything runs. The certificate is this script's own, so your browser warns of it once."
-    "$python" -m client "$work/client.json"
+    run "$python" -m client "$work/client.json" $browser
 fi

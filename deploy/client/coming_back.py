@@ -14,9 +14,12 @@ PAGE = """<!doctype html>
 <meta charset="utf-8">
 <meta name="viewport" content="width=device-width, initial-scale=1">
 <title>Back at the application</title>
-<style>body { font: 1.1rem/1.5 sans-serif; margin: 3rem auto; max-width: 30rem; padding: 0 1rem; }</style>
+<style>
+body { font: 1rem/1.5 system-ui, "DejaVu Sans", sans-serif; margin: 3rem auto; max-width: 34rem; padding: 0 1rem; color: #1c2430; }
+h1 { font-size: 1.5rem; }
+</style>
 <h1>You are back at the application</h1>
-<p>It asks the server now what you decided. You can close this page.</p>
+<p>It asks the server now what you decided. You can close this page and go on where you began.</p>
 """
 
 

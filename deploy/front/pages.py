@@ -81,7 +81,9 @@ class Pages:
             return self.sign_in_page(handle)
         return self.consent_page(user, handle, self.calls.look(handle))
 
-    def consent_page(self, user: User, handle: str, shown: dict, problem: str = "", ticked: list[int] | None = None) -> str:
+    def consent_page(
+        self, user: User, handle: str, shown: dict, problem: str = "", ticked: list[int] | None = None, tells: bool = True
+    ) -> str:
         """The page on which a user decides; the one for somebody else where the client named another user."""
         client = self.settings.client(shown["client"])
         g.finish = client.finish
@@ -100,6 +102,7 @@ class Pages:
             time_left=words.time_left(shown["expires_in"]),
             problem=problem,
             ticked=ticked,
+            tells=tells,
         )
 
     def decide(self) -> Response | str | tuple[str, int]:
@@ -121,14 +124,14 @@ class Pages:
             return self.consent_page(user, handle, shown), 400
         asked = words.asked_rights(shown)
         ticked = [place for place in range(len(asked)) if str(place) in request.form.getlist("right")]
-        tells = shown["subject"] and "tell" in request.form
+        tells = bool(shown["subject"]) and "tell" in request.form
         if not ticked and not tells:
-            return self.consent_page(user, handle, shown, sentences.NOTHING_CHOSEN, ticked), 400
+            return self.consent_page(user, handle, shown, sentences.NOTHING_CHOSEN, ticked, tells), 400
         more = words.included(asked, ticked)
         if more:
             choices = words.choices(shown, self.settings.rights)
             names = [words.visible(choices[place].title) for place in more]
-            return self.consent_page(user, handle, shown, sentences.gives_more(names), ticked), 400
+            return self.consent_page(user, handle, shown, sentences.gives_more(names), ticked, tells), 400
         chosen = [asked[place] for place in ticked]
         return self.finish(shown, "grant", self.calls.decide(handle, "grant", chosen, user.subject if tells else None))
 

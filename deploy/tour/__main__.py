@@ -4,6 +4,7 @@
 """
 
 import argparse
+import signal
 import sys
 import time
 from pathlib import Path
@@ -22,6 +23,7 @@ def go_around(tour: Tour, quick: bool) -> None:
         visits.grant_all_by_push,
         visits.deny,
         visits.user_code,
+        visits.part_of_another,
         visits.taken_back,
         visits.somebody_else,
         guards.hostile_texts,
@@ -44,6 +46,8 @@ def main() -> int:
     parser.add_argument("pictures", type=Path)
     parser.add_argument("--quick", action="store_true", help="leave out the request that expires, which takes ten minutes")
     words = parser.parse_args()
+    # What ends this ends Chromium too.
+    signal.signal(signal.SIGTERM, lambda *_: sys.exit(1))
     with Browser(words.work / "chromium") as browser:
         tour = start_tour(words.work, words.pictures, browser)
         try:

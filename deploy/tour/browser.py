@@ -19,7 +19,11 @@ class Browser:
     """One window. It takes the certificate of the demonstration, which no authority signed."""
 
     def __init__(self, profile: Path):
-        self._driver = subprocess.Popen(["chromedriver", "--port=0"], stdout=subprocess.PIPE, stderr=subprocess.STDOUT, text=True)
+        profile.mkdir()
+        # Whatever Chromium writes beside its profile goes there too.
+        places = {**os.environ, "HOME": str(profile), "TMPDIR": str(profile)}
+        words = ["chromedriver", "--port=0"]
+        self._driver = subprocess.Popen(words, stdout=subprocess.PIPE, stderr=subprocess.STDOUT, text=True, env=places)
         self._base = f"http://127.0.0.1:{self._port()}"
         options = [f"--user-data-dir={profile}", "--headless=new", "--disable-dev-shm-usage", "--disable-gpu", "--no-first-run"]
         if os.geteuid() == 0:

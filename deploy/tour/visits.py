@@ -6,19 +6,20 @@ import time
 
 from client.coming_back import ComingBack
 from client.gnap_client import Grant, WrongHash
-from tour.checks import Tour, handle_of
+from tour.checks import Tour
 
 ALLOW = "button[value=grant]"
 DENY = "button[value=deny]"
-PHOTOS = "input[name=right][value='0']"
-LETTERS = "input[name=right][value='2']"
+FIRST = "input[name=right][value='0']"
+SECOND = "input[name=right][value='1']"
+THIRD = "input[name=right][value='2']"
 ROUND = 600
 
 GRANTED_IN_PART = """\
 Token 'pictures' for photos, calendar, 3600 seconds:
   GET /photos: 200 12 pictures
   GET /calendar: 200 3 entries
-  GET /mail: 403 refused
+  GET /mail: 401 refused
   rotated. The old one:
   GET /photos: 401 refused
   GET /calendar: 401 refused
@@ -26,7 +27,7 @@ Token 'pictures' for photos, calendar, 3600 seconds:
   The new one:
   GET /photos: 200 12 pictures
   GET /calendar: 200 3 entries
-  GET /mail: 403 refused
+  GET /mail: 401 refused
   revoked:
   GET /photos: 401 refused
   GET /calendar: 401 refused
@@ -61,7 +62,7 @@ def grant_in_part(tour: Tour) -> None:
             "Signed in as Alice Moreau",
         )
         tour.picture("2-consent")
-        tour.browser.tick(LETTERS, False)
+        tour.browser.tick(THIRD, False)
         tour.browser.click(ALLOW)
         tour.shows("the browser is back at the client", "You are back at the application")
         tour.check("on the loopback address", tour.browser.uri().startswith("http://127.0.0.1:"))
@@ -77,14 +78,13 @@ def grant_all_by_push(tour: Tour) -> None:
     with ComingBack() as back:
         grant = tour.begin(tour.config["wanted"], ["redirect"], ("push", back.uri))
         tour.browser.go(grant.interact["redirect"])
-        tour.browser.tick(PHOTOS, False)
-        tour.browser.tick(LETTERS, False)
-        tour.browser.tick("input[name=right][value='1']", False)
+        for box in (FIRST, SECOND, THIRD):
+            tour.browser.tick(box, False)
         tour.browser.click(ALLOW)
         tour.shows("nothing ticked is no decision", "Tick what you want to allow")
         tour.picture("4-nothing-ticked")
-        for place in range(3):
-            tour.browser.tick(f"input[name=right][value='{place}']", True)
+        for box in (FIRST, SECOND, THIRD):
+            tour.browser.tick(box, True)
         tour.browser.click(ALLOW)
         tour.shows("the page says that the client knows", "You allowed it", "The application knows of it now")
         tour.picture("5-allowed")
@@ -100,7 +100,7 @@ def grant_all_by_push(tour: Tour) -> None:
     resource = tour.config["resource"]
     pictures, letters = grant.tokens
     tour.check("the bound token opens the photos", tour.client.use(pictures, "GET", f"{resource}/photos").status == 200)
-    tour.check("and not the letters", tour.client.use(pictures, "GET", f"{resource}/mail").status == 403)
+    tour.check("and not the letters", tour.client.use(pictures, "GET", f"{resource}/mail").status == 401)
     tour.check("the bearer token opens the letters", tour.client.use(letters, "GET", f"{resource}/mail").status == 200)
     target = f"{resource}/photos?a=%2F..%2f&b=//c&d"
     tour.check("the terminator leaves the signed target as it is", tour.client.use(pictures, "GET", target).status == 200)
@@ -152,6 +152,26 @@ def user_code(tour: Tour) -> None:
     tour.check("the device got a token that opens the photos", reply.status == 200)
 
 
+def part_of_another(tour: Tour) -> None:
+    """A user grants a right without one that it includes:"""
+    write = next(right for right in tour.config["wanted"][0]["access"] if not isinstance(right, str))
+    read = {**write, "actions": ["read"]}
+    wanted = [{"label": "look", "access": [read]}, {"label": "change", "access": [write]}]
+    grant = tour.begin(wanted, ["redirect"], subject=True)
+    tour.browser.go(grant.interact["redirect"])
+    tour.browser.tick(FIRST, False)
+    tour.browser.click(ALLOW)
+    tour.shows("the page says what the choice includes", "includes this as well: Your calendar")
+    tour.check("and keeps the other ticks", tour.browser.count("input[name=tell]:checked") == 1)
+    tour.browser.tick(FIRST, True)
+    tour.browser.tick(SECOND, False)
+    tour.browser.click(ALLOW)
+    tour.shows("the smaller right alone is granted", "You allowed it")
+    tour.client.poll(grant)
+    tour.remember(grant)
+    tour.check("and one token is there for it", [(token.label, token.access) for token in grant.tokens] == [("look", [read])])
+
+
 def taken_back(tour: Tour) -> None:
     """The client takes its request back while the page is open:"""
     grant = tour.begin(tour.config["wanted"], ["redirect"], ("redirect", "http://127.0.0.1:9/"))
@@ -191,4 +211,5 @@ def expired(tour: Tour, grant: Grant, begun: float) -> None:
     tour.browser.click(ALLOW)
     tour.shows("afterwards it can't", "This request has ended")
     tour.picture("11-expired")
-    tour.check("its handle shows nothing any more", tour.fetch(f"/i/{handle_of(grant)}").status in (200, 400))
+    tour.browser.go(grant.interact["redirect"])
+    tour.shows("and its link shows nothing any more", "This request has ended")
