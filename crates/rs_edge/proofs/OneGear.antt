@@ -41,7 +41,7 @@ gear_served state setup link (g ∷ h ∷ gears) first after failed one is unuse
 
 -- ---- in a world
 
-module _ {D : Type 0} (setup : RsSetup) (listen server : List ℕ) (quota : ℕ) (before opened started stopped after : WorldState) (link : LinkState) (gears : List GearState)
+module _ (setup : RsSetup) (listen server : List ℕ) (quota : ℕ) (before opened started stopped after : WorldState) (link : LinkState) (gears : List GearState)
     (link_is : opened ≡ with_opening (opening.Link server) before) (gears_are : started ≡ with_opening (opening.Gears listen 1 quota) opened)
     (gears_back : stopped ≡ with_gears gears started) (link_back : after ≡ with_link link stopped) where
   state_is : (gear : GearState) → gears ≡ gear ∷ []
@@ -49,10 +49,10 @@ module _ {D : Type 0} (setup : RsSetup) (listen server : List ℕ) (quota : ℕ)
   state_is gear one = link_back ∙ ap (with_link link) (gears_back ∙ ap (λ gs. with_gears gs started) one
       ∙ ap (with_gears (gear ∷ [])) (gears_are ∙ ap (with_opening (opening.Gears listen 1 quota)) link_is))
 
-  pub served_failed : ServesOneGear setup link gears true → (let r : Result D WorldFault = Err faults.Failed in IsRsService setup listen server quota before after r)
+  pub served_failed : {D : Type 0} → ServesOneGear setup link gears true → (let r : Result D WorldFault = Err faults.Failed in IsRsService setup listen server quota before after r)
   served_failed one = served (Err faults.Failed) link one.gear (state_is one.gear one.one) one.over (rw (sym one.failed_is) refl)
 
-  pub served_well : (done : D) → ServesOneGear setup link gears false → (let r : Result D WorldFault = Ok done in IsRsService setup listen server quota before after r)
+  pub served_well : {D : Type 0} (done : D) → ServesOneGear setup link gears false → (let r : Result D WorldFault = Ok done in IsRsService setup listen server quota before after r)
   served_well done one = served (Ok done) link one.gear (state_is one.gear one.one) one.over
       (All-push IsUsedUp [] one.gear (All-nil IsUsedUp) (one.used_up refl))
 

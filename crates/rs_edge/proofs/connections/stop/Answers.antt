@@ -19,17 +19,17 @@ returns-in-Ok g c =
     subst (λ w. Stops edge_wire (g.K.Device.told c.args.conn.now) (g.K.Device.told c.refuse.new.out) (g.K.Device.faults c.args.conn.now) (g.K.Device.faults c.refuse.new.out) w (closed.Refused c.in-Refused.fault)) (sym c.in-Refused.is)
     (refused c.in-Refused.fault c.in-Ok.ensures.sent c.in-Ok.ensures.cause.same)
 
-pub returns-in-Err : goal.returns-in-Err
-returns-in-Err g c =
+pub returns-in-Refused : goal.returns-in-Refused
+returns-in-Refused g c =
     subst (λ w. Stops edge_wire (g.K.Device.told c.args.conn.now) (g.K.Device.told c.refuse.new.out) (g.K.Device.faults c.args.conn.now) (g.K.Device.faults c.refuse.new.out) w closed.WriteFault) (sym c.in-Refused.is)
     (refused_cut c.in-Refused.fault c.in-Err.ensures.sent.0 c.in-Err.ensures.sent.1 c.in-Err.ensures.sent.2 c.in-Err.ensures.cause.failed)
 
 pub returns-in-Ok-write_reply : goal.returns-in-Ok-write_reply
 returns-in-Ok-write_reply g c =
-    subst (λ w. Stops edge_wire (g.K.Device.told c.args.conn.now) (g.K.Device.told c.write_reply.new.out) (g.K.Device.faults c.args.conn.now) (g.K.Device.faults c.write_reply.new.out) w closed.Memory) (sym c.in-OutOfMemory.is)
+    subst (λ w. Stops edge_wire (g.K.Device.told c.args.conn.now) (g.K.Device.told c.write_reply.new.sink) (g.K.Device.faults c.args.conn.now) (g.K.Device.faults c.write_reply.new.sink) w closed.Memory) (sym c.in-OutOfMemory.is)
     (starved c.in-Ok-write_reply.ensures.sent c.in-Ok-write_reply.ensures.cause.same)
 
-pub returns-in-Err-write_reply : goal.returns-in-Err-write_reply
-returns-in-Err-write_reply g c =
-    subst (λ w. Stops edge_wire (g.K.Device.told c.args.conn.now) (g.K.Device.told c.write_reply.new.out) (g.K.Device.faults c.args.conn.now) (g.K.Device.faults c.write_reply.new.out) w closed.WriteFault) (sym c.in-OutOfMemory.is)
+pub returns : goal.returns
+returns g c =
+    subst (λ w. Stops edge_wire (g.K.Device.told c.args.conn.now) (g.K.Device.told c.write_reply.new.sink) (g.K.Device.faults c.args.conn.now) (g.K.Device.faults c.write_reply.new.sink) w closed.WriteFault) (sym c.in-OutOfMemory.is)
     (starved_cut c.in-Err-write_reply.ensures.sent.0 c.in-Err-write_reply.ensures.sent.1 c.in-Err-write_reply.ensures.sent.2 c.in-Err-write_reply.ensures.cause.failed)
