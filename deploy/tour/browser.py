@@ -28,6 +28,13 @@ class Browser:
         places = {**os.environ, "HOME": str(profile), "TMPDIR": str(profile)}
         words = ["chromedriver", "--port=0"]
         self._driver = subprocess.Popen(words, stdout=subprocess.PIPE, stderr=subprocess.STDOUT, text=True, env=places)
+        try:
+            self._open(profile)
+        except BaseException:
+            self._stop_driver()
+            raise
+
+    def _open(self, profile: Path) -> None:
         self._base = f"http://127.0.0.1:{self._port()}"
         options = [f"--user-data-dir={profile}", "--headless=new", "--disable-dev-shm-usage", "--disable-gpu", "--no-first-run"]
         if os.geteuid() == 0:
@@ -36,6 +43,10 @@ class Browser:
         wanted = {"browserName": "chrome", "acceptInsecureCerts": True, "goog:chromeOptions": {"args": options}}
         self._session = self._ask("POST", "/session", {"capabilities": {"alwaysMatch": wanted}})["sessionId"]
         self._view(DESKTOP)
+
+    def _stop_driver(self) -> None:
+        self._driver.terminate()
+        self._driver.wait()
 
     def _port(self) -> str:
         for line in self._driver.stdout:
@@ -51,8 +62,7 @@ class Browser:
         try:
             self._do("DELETE", "")
         finally:
-            self._driver.terminate()
-            self._driver.wait()
+            self._stop_driver()
 
     def _ask(self, method: str, path: str, body: dict | None = None) -> object:
         data = None if body is None else json.dumps(body).encode()
