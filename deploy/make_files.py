@@ -47,56 +47,69 @@ def write(path: Path, text: str) -> None:
         out.write(text)
 
 
-def setups(folder: Path, ports: dict[str, int], demo: dict) -> dict[str, dict]:
-    """The text of each part's setup, by the name of its file."""
-    base = {name: f"https://{name}.localhost:{ports['TLS']}" for name in ("as", "rs", "front")}
-    keys = {name: new_secret() for name in ("print-shop", "shelf", "consent")}
-    calendar = {"type": "calendar", "actions": ["read"], "locations": [f"{base['rs']}/calendar"]}
-    change = {**calendar, "actions": ["read", "write"]}
-    routes = {"/photos": ("photos", "12 pictures"), "/calendar": (calendar, "3 entries"), "/mail": ("mail", "2 letters")}
-    return {
-        "as.json": {
-            "base": base["as"],
-            "front": base["front"],
-            "keys": [
-                {"id": "print-shop", "role": "client", "secret": keys["print-shop"], "auto": [], "ask": ["photos", "mail", change]},
-                {"id": "shelf", "role": "server", "secret": keys["shelf"], "serves": ["photos", "mail", "calendar"]},
-                {"id": "consent", "role": "front", "secret": keys["consent"]},
-            ],
-        },
-        "rs.json": {
-            "base": base["rs"],
-            "server": base["as"],
-            "id": "shelf",
-            "secret": keys["shelf"],
-            "keys": [{"id": "print-shop", "secret": keys["print-shop"]}],
-            "routes": [
-                {"method": "GET", "path": path, "right": right, "text": text} for path, (right, text) in routes.items()
-            ],
-        },
-        "front.json": {
-            "listen": f"127.0.0.1:{ports['FRONT']}",
-            "server": base["as"],
-            "connect": f"127.0.0.1:{ports['AS']}",
-            "id": "consent",
-            "secret": keys["consent"],
-            "users": [{**user, "subject": secrets.token_urlsafe(12)} for user in demo["users"]],
-            "clients": demo["clients"],
-            "rights": demo["rights"],
-        },
-        "client.json": {
-            "server": base["as"],
-            "resource": base["rs"],
-            "connect": f"127.0.0.1:{ports['TLS']}",
-            "trusted": str(folder / "certificate.pem"),
-            "id": "print-shop",
-            "secret": keys["print-shop"],
+class Setups:
+    """The setups of all parts of one deployment, which share names, secrets and rights."""
+
+    def __init__(self, folder: Path, ports: dict[str, int], demo: dict):
+        self.folder = folder
+        self.ports = ports
+        self.demo = demo
+        self.base = {name: f"https://{name}.localhost:{ports['TLS']}" for name in ("as", "rs", "front")}
+        self.client = {"id": "print-shop", "secret": new_secret()}
+        self.server = {"id": "shelf", "secret": new_secret()}
+        self.consent = {"id": "consent", "secret": new_secret()}
+        self.read = {"type": "calendar", "actions": ["read"], "locations": [f"{self.base['rs']}/calendar"]}
+        self.change = {**self.read, "actions": ["read", "write"]}
+
+    def authorization_server(self) -> dict:
+        """That of `gnap as`."""
+        keys = [
+            {**self.client, "role": "client", "auto": [], "ask": ["photos", "mail", self.change]},
+            {**self.server, "role": "server", "serves": ["photos", "mail", "calendar"]},
+            {**self.consent, "role": "front"},
+        ]
+        return {"base": self.base["as"], "front": self.base["front"], "keys": keys}
+
+    def resource_server(self) -> dict:
+        """That of `gnap rs`."""
+        shown = {"/photos": ("photos", "12 pictures"), "/calendar": (self.read, "3 entries"), "/mail": ("mail", "2 letters")}
+        routes = [{"method": "GET", "path": path, "right": right, "text": text} for path, (right, text) in shown.items()]
+        return {"base": self.base["rs"], "server": self.base["as"], **self.server, "keys": [self.client], "routes": routes}
+
+    def front(self) -> dict:
+        """That of the consent front. The identifiers of its users are drawn, so that they tell nothing."""
+        return {
+            "listen": f"127.0.0.1:{self.ports['FRONT']}",
+            "server": self.base["as"],
+            "connect": f"127.0.0.1:{self.ports['AS']}",
+            **self.consent,
+            "users": [{**user, "subject": secrets.token_urlsafe(12)} for user in self.demo["users"]],
+            "clients": self.demo["clients"],
+            "rights": self.demo["rights"],
+        }
+
+    def client_of_both(self) -> dict:
+        """That of the client in Python."""
+        return {
+            "server": self.base["as"],
+            "resource": self.base["rs"],
+            "connect": f"127.0.0.1:{self.ports['TLS']}",
+            "trusted": str(self.folder / "certificate.pem"),
+            **self.client,
             "wanted": [
-                {"label": "pictures", "access": ["photos", change]},
+                {"label": "pictures", "access": ["photos", self.change]},
                 {"label": "letters", "access": ["mail"], "flags": ["bearer"]},
             ],
-        },
-    }
+        }
+
+    def files(self) -> dict[str, dict]:
+        """Each setup, by the name of its file."""
+        return {
+            "as.json": self.authorization_server(),
+            "rs.json": self.resource_server(),
+            "front.json": self.front(),
+            "client.json": self.client_of_both(),
+        }
 
 
 def nginx_text(name: str, values: dict[str, object]) -> str:
@@ -112,7 +125,7 @@ def main() -> None:
     folder = Path(sys.argv[1]).resolve()
     ports = free_ports(PARTS)
     demo = json.loads((HERE / "demo.json").read_text())
-    for name, said in setups(folder, ports, demo).items():
+    for name, said in Setups(folder, ports, demo).files().items():
         write(folder / name, json.dumps(said))
     for name in ("nginx.conf", "gnap.conf"):
         write(folder / name, nginx_text(name, {**ports, "FOLDER": folder}))

@@ -62,7 +62,8 @@ finish() {
     trap - EXIT INT TERM
     [ ${#pids[@]} -eq 0 ] || kill "${pids[@]}" 2>/dev/null || true
     wait
-    rm -rf "$work"
+    # Chromium may write for a moment more than its driver runs.
+    rm -rf "$work" 2>/dev/null || { sleep 1 && rm -rf "$work"; }
 }
 trap finish EXIT
 trap 'exit 1' INT TERM

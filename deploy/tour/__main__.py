@@ -10,7 +10,7 @@ import time
 from pathlib import Path
 
 from tour import guards, visits
-from tour.browser import Browser
+from tour.browser import Browser, NotThere
 from tour.checks import Failed, Tour, start_tour
 
 
@@ -52,7 +52,7 @@ def main() -> int:
         tour = start_tour(words.work, words.pictures, browser)
         try:
             go_around(tour, words.quick)
-        except Failed as failed:
+        except (Failed, NotThere) as failed:
             print(f"FAILED: {failed}", file=sys.stderr)
             return 1
     print(f"{tour.passed} checks passed. The pictures are in {words.pictures}")

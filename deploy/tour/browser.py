@@ -15,6 +15,10 @@ PHONE = {"width": 390, "height": 844, "deviceScaleFactor": 2, "mobile": True}
 TIMEOUT = 120
 
 
+class NotThere(Exception):
+    """The page has no such element, or the window is between two pages."""
+
+
 class Browser:
     """One window. It takes the certificate of the demonstration, which no authority signed."""
 
@@ -24,6 +28,13 @@ class Browser:
         places = {**os.environ, "HOME": str(profile), "TMPDIR": str(profile)}
         words = ["chromedriver", "--port=0"]
         self._driver = subprocess.Popen(words, stdout=subprocess.PIPE, stderr=subprocess.STDOUT, text=True, env=places)
+        try:
+            self._open(profile)
+        except BaseException:
+            self._stop_driver()
+            raise
+
+    def _open(self, profile: Path) -> None:
         self._base = f"http://127.0.0.1:{self._port()}"
         options = [f"--user-data-dir={profile}", "--headless=new", "--disable-dev-shm-usage", "--disable-gpu", "--no-first-run"]
         if os.geteuid() == 0:
@@ -32,6 +43,10 @@ class Browser:
         wanted = {"browserName": "chrome", "acceptInsecureCerts": True, "goog:chromeOptions": {"args": options}}
         self._session = self._ask("POST", "/session", {"capabilities": {"alwaysMatch": wanted}})["sessionId"]
         self._view(DESKTOP)
+
+    def _stop_driver(self) -> None:
+        self._driver.terminate()
+        self._driver.wait()
 
     def _port(self) -> str:
         for line in self._driver.stdout:
@@ -47,8 +62,7 @@ class Browser:
         try:
             self._do("DELETE", "")
         finally:
-            self._driver.terminate()
-            self._driver.wait()
+            self._stop_driver()
 
     def _ask(self, method: str, path: str, body: dict | None = None) -> object:
         data = None if body is None else json.dumps(body).encode()
@@ -58,6 +72,8 @@ class Browser:
                 return json.load(reply)["value"]
         except urllib.error.HTTPError as error:
             said = json.load(error)["value"]
+            if said["error"] in ("no such element", "stale element reference"):
+                raise NotThere(said["message"].splitlines()[0]) from None
             raise RuntimeError(f"{said['error']}: {said['message'].splitlines()[0]}") from None
 
     def _do(self, method: str, path: str, body: dict | None = None) -> object:
@@ -84,9 +100,12 @@ class Browser:
         """Where the window is."""
         return self._do("GET", "/url")
 
-    def text(self, css: str = "body") -> str:
-        """What is read there."""
-        return self._do("GET", f"{self._find(css)}/text")
+    def text(self) -> str:
+        """What is read on the page; nothing between two pages."""
+        try:
+            return self._do("GET", f"{self._find('body')}/text")
+        except NotThere:
+            return ""
 
     def click(self, css: str) -> None:
         """Clicks there."""

@@ -1,6 +1,7 @@
 """What a tour has at hand, and how it says what it saw."""
 
 import json
+import time
 from collections.abc import Callable
 from dataclasses import dataclass, field
 from pathlib import Path
@@ -9,6 +10,9 @@ from client.__main__ import client_of, connections_of
 from client.connections import Connections, Reply
 from client.gnap_client import GnapClient, Grant, Refused
 from tour.browser import Browser
+
+# How long a page may take to come, in seconds.
+PATIENCE = 20
 
 
 class Failed(Exception):
@@ -37,9 +41,15 @@ class Tour:
         print(f"  ok: {what}", flush=True)
 
     def shows(self, what: str, *texts: str) -> None:
-        """Checks that the page has these texts."""
+        """Checks that the page has these texts, once it is there."""
+        end = time.monotonic() + PATIENCE
+        while not (holds := self._has(texts)) and time.monotonic() < end:
+            time.sleep(0.1)
+        self.check(what, holds)
+
+    def _has(self, texts: tuple[str, ...]) -> bool:
         page = self.browser.text()
-        self.check(what, all(text in page for text in texts))
+        return all(text in page for text in texts)
 
     def picture(self, name: str) -> None:
         """Takes pictures of the page."""

@@ -42,32 +42,42 @@ def sign_in(tour: Tour, user: str) -> None:
     tour.browser.click("button.main")
 
 
+def decide_in_part(tour: Tour, client: subprocess.Popen) -> None:
+    """Opens the link that the client prints, signs in, and grants all but the letters."""
+    link = next((line.strip() for line in client.stdout if "https://" in line), "")
+    tour.check("the client prints a link", link != "")
+    tour.secrets.add(link.rsplit("/", 1)[1])
+    tour.browser.go(link)
+    tour.shows("somebody who isn't signed in is asked who it is", "Who are you?", "Alice Moreau")
+    tour.picture("1-sign-in")
+    sign_in(tour, "alice")
+    tour.shows(
+        "the page says who asks for what",
+        "Print Shop asks for access",
+        "See your photos",
+        "Read your letters",
+        "read, write",
+        "works for anybody who holds it",
+        "Signed in as Alice Moreau",
+    )
+    tour.picture("2-consent")
+    tour.browser.tick(THIRD, False)
+    tour.browser.click(ALLOW)
+    tour.shows("the browser is back at the client", "You are back at the application")
+    tour.check("on the loopback address", tour.browser.uri().startswith("http://127.0.0.1:"))
+    tour.picture("3-back-at-the-client")
+
+
 def grant_in_part(tour: Tour) -> None:
     """A user signs in and grants a part; the client, as people start it, comes through:"""
     words = [sys.executable, "-m", "client", str(tour.work / "client.json"), "--no-browser"]
     with subprocess.Popen(words, stdout=subprocess.PIPE, text=True) as client:
-        link = next(line.strip() for line in client.stdout if "https://" in line)
-        tour.secrets.add(link.rsplit("/", 1)[1])
-        tour.browser.go(link)
-        tour.shows("somebody who isn't signed in is asked who it is", "Who are you?", "Alice Moreau")
-        tour.picture("1-sign-in")
-        sign_in(tour, "alice")
-        tour.shows(
-            "the page says who asks for what",
-            "Print Shop asks for access",
-            "See your photos",
-            "Read your letters",
-            "read, write",
-            "works for anybody who holds it",
-            "Signed in as Alice Moreau",
-        )
-        tour.picture("2-consent")
-        tour.browser.tick(THIRD, False)
-        tour.browser.click(ALLOW)
-        tour.shows("the browser is back at the client", "You are back at the application")
-        tour.check("on the loopback address", tour.browser.uri().startswith("http://127.0.0.1:"))
-        tour.picture("3-back-at-the-client")
-        said = client.stdout.read()
+        try:
+            decide_in_part(tour, client)
+            said = client.stdout.read()
+            client.wait()
+        finally:
+            client.kill()
     tour.check("the client ended well", client.returncode == 0)
     tour.check("it was told who the user is", "The user: " in said and "not told" not in said)
     tour.check("it got the part that was granted, used, rotated and revoked it", said.endswith(f"\n{GRANTED_IN_PART}"))
@@ -141,8 +151,8 @@ def user_code(tour: Tour) -> None:
     tour.picture("6-wrong-code")
     tour.browser.type("#code", f"{code[:4]}-{code[4:]}".lower())
     tour.browser.click("button.main")
-    tour.secrets.add(tour.browser.uri().rsplit("/", 1)[1])
     tour.shows("the right one leads to what is asked", "Print Shop asks for access", "See your photos")
+    tour.secrets.add(tour.browser.uri().rsplit("/", 1)[1])
     tour.picture("7-consent-by-code")
     tour.browser.click(ALLOW)
     tour.shows("the page sends the user back to the device", "You allowed it", "go back to your device")
