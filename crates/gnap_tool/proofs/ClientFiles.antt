@@ -20,7 +20,7 @@ use Rattle.gnap_tool.specs.Reading.{Came}
 use Rattle.gnap_tool.specs.LineRuns.{EndsAs, GoesOn, RunsLines}
 use Rattle.gnap_tool.specs.Replays.{setup_limit}
 use Rattle.gnap_tool.specs.ClientFiles.{client_config_in, SaysLine, all_fine, is_fine_entry, ScriptHad, ScriptGoes, AllHad, EndsInText, EndsScript, RunsScript, ended_script}
-use Rattle.gnap_tool.specs.Ends.{CountsReads, EndsAt, Took}
+use Rattle.gnap_tool.specs.Ends.{CountsReads, CountsWrites, EndsAt, Took}
 use Rattle.gnap_tool.proofs.LineRuns.{goes-start, goes-next, runs-weaker, turned, turned-starved, turned-cut, whole-ends, last-ends, stops-behind, out_on, on-next, after_last, none_left}
 
 pub config_long : (text : List ℕ) → setup_limit < length text → client_config_in text ≡ None
@@ -140,10 +140,19 @@ script_ends : (fine : Bool) (turns : List ScriptTurn) (whole later : List (List 
 script_ends true turns whole later sent on had is fine_is = (on, had, is, sym fine_is)
 script_ends false turns whole later sent on had is fine_is = (on, had, is, sym fine_is)
 
--- the count of the source's faults is as it was
+-- the counts of faults are as they were
 pub script_reads : (fine : Bool) (faults faults_now : ℕ) → faults_now ≡ faults → CountsReads (ended_script fine) faults faults_now
 script_reads true faults faults_now same = same
 script_reads false faults faults_now same = same
+
+pub script_writes : (fine : Bool) (faults faults_now : ℕ) → faults_now ≡ faults → CountsWrites (ended_script fine) faults faults_now
+script_writes true faults faults_now same = same
+script_writes false faults faults_now same = same
+
+-- all was taken of the source
+pub script_at_end : (fine : Bool) (taken : ℕ) (told : Told) → taken < 1073741824 → IsAtEnd told → EndsAt (ended_script fine) taken told
+script_at_end true taken told few end = (few, end)
+script_at_end false taken told few end = (few, end)
 
 ends_in_text : (lines : List (List ℕ)) (full : List ℕ) → length full ≢ 0 → EndsInText (lines ++ full ∷ [])
 ends_in_text lines [] some = absurd (some refl)

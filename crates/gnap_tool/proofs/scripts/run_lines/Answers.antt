@@ -4,11 +4,11 @@ use Rattle.std.proofs.lemmas.List.{append-nil}
 use Rattle.gnap_tool.specs.declared.answering.After.TheVariants as after
 use Rattle.gnap_tool.specs.Reading.{held_by}
 use Rattle.gnap_tool.specs.declared.ended.Ended.{Ended}
-use Rattle.gnap_tool.specs.Ends.{CountsReads}
+use Rattle.gnap_tool.specs.Ends.{CountsReads, CountsWrites, EndsAt}
 use Rattle.gnap_tool.specs.LineRuns.{RunsLines}
 use Rattle.gnap_tool.specs.ClientFiles.{SaysLine, ScriptHad, EndsScript}
 use Rattle.gnap_tool.proofs.LineRuns.{stops-failed, stops-full, stops-starved}
-use Rattle.gnap_tool.proofs.ClientFiles.{script-start, script-next, script-behind, script-last, script-whole, script-end, script-starved, script-cut, script_reads, as_failed, as_full, as_starved, kept_whole, line_short, empty_line}
+use Rattle.gnap_tool.proofs.ClientFiles.{script-start, script-next, script-behind, script-last, script-whole, script-end, script-starved, script-cut, script_reads, script_writes, script_at_end, as_failed, as_full, as_starved, kept_whole, line_short, empty_line}
 use Rattle.gnap_tool.proofs.scripts.run_lines.Goals as goal
 
 pub lines-init : goal.lines-init
@@ -99,6 +99,16 @@ pub returns-in-On-say_line-clause-reads : goal.returns-in-On-say_line-clause-rea
 returns-in-On-say_line-clause-reads g c =
     let R : Ended → Type 0 = λ ended. CountsReads ended (g.S.Device.faults c.args.source.now) (g.S.Device.faults c.next_line-end.new.source) in
     subst R (sym c.before.ended_script-in-On-say_line.ensures) (script_reads _ _ _ (c.in-Last.ensures.cause ∙ c.lines.invariant.reads))
+
+pub returns-in-On-say_line-clause-writes : goal.returns-in-On-say_line-clause-writes
+returns-in-On-say_line-clause-writes g c =
+    let R : Ended → Type 0 = λ ended. CountsWrites ended (g.O.Device.faults c.args.out.now) (g.O.Device.faults c.say_line-in-Last.new.out) in
+    subst R (sym c.before.ended_script-in-On-say_line.ensures) (script_writes _ _ _ (c.in-On-say_line.ensures.counts ∙ c.lines.invariant.writes))
+
+pub returns-in-On-say_line-clause-took : goal.returns-in-On-say_line-clause-took
+returns-in-On-say_line-clause-took g c =
+    let R : Ended → Type 0 = λ ended. EndsAt ended c.next_line-end.new.self.taken (g.S.Device.told c.next_line-end.new.source) in
+    subst R (sym c.before.ended_script-in-On-say_line.ensures) (script_at_end _ _ _ c.in-Last.ensures.full c.in-Last.ensures.read.ends.2)
 
 pub returns-in-Starved-say_line-clause-runs : goal.returns-in-Starved-say_line-clause-runs
 returns-in-Starved-say_line-clause-runs g c =
