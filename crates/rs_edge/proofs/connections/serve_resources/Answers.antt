@@ -8,19 +8,19 @@ use Rattle.rs_edge.proofs.connections.serve_resources.Goals as goal
 pub loop-held-init : goal.loop-held-init
 loop-held-init g c = record {
   few = omega arith;
-  so_far = served-start _ _ _ _ _ _ c.requires.untouched c.new.ensures;
+  so_far = served-start _ _ _ _ _ _ c.requires.untouched c.new-held.ensures;
 }
 
 pub returns-in-Ok-None : goal.returns-in-Ok-None
 returns-in-Ok-None g c =
     let inv = c.loop-held.invariant in
-    closes-end _ c.loop-held.place inv.few _ _ _ _ _ (g.G.Counted.state c.loop-held.gear) _ (g.S.Device.told c.read_message.new.source) _ _ 0 _ _ _ inv.so_far
+    closes-end _ c.loop-held.place inv.few _ _ (g.L.Link.link c.loop-held.link) _ _ (g.G.Counted.state c.loop-held.gear) _ (g.S.Device.told c.read_message.new.source) _ _ 0 _ _ _ inv.so_far
     (next_ok edge_wire _ _ _ _ _ _ c.in-Ok-None.field-0-is c.in-Ok-None.ensures.reads)
 
 pub returns-in-Err : goal.returns-in-Err
 returns-in-Err g c =
     let inv = c.loop-held.invariant in
-    closes-stop _ c.loop-held.place inv.few _ _ _ _ _ (g.G.Counted.state c.loop-held.gear) _ (g.S.Device.told c.read_message.new.source) _ _
+    closes-stop _ c.loop-held.place inv.few _ _ (g.L.Link.link c.loop-held.link) _ _ (g.G.Counted.state c.loop-held.gear) _ (g.S.Device.told c.read_message.new.source) _ _
     (g.S.Device.faults c.read_message.new.source) _ _ _ inv.so_far c.in-Err.why c.in-Err.ensures.reads c.in-Err.ensures.cause c.stop.result c.stop.ensures
 
 pub returns-then-place-eq999 : goal.returns-then-place-eq999

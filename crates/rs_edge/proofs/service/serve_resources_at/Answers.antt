@@ -12,10 +12,10 @@ returns-in-Err-start_gears-clause-served g c = unstarted c.args.setup.now c.args
 
 pub returns-then-failed-clause-served : goal.returns-then-failed-clause-served
 returns-then-failed-clause-served g c = served_failed c.args.setup.now c.args.listen.now c.args.server.now c.args.quota _ _ _ _ _ _ _
-    c.in-Ok.ensures.state c.in-Ok-start_gears.ensures.state c.stop_gears.ensures.state c.close_link.ensures.state
+    c.in-Ok.ensures.state c.in-Ok-start_gears.ensures.state c.stop_gears.ensures.state c.close_link-in-Ok-start_gears.ensures.state
     (subst (λ b. ServesOneGear c.args.setup.now _ _ b) c.if-failed.true c.serve_gear-gears.ensures)
 
-pub returns-clause-served : goal.returns-clause-served
-returns-clause-served g c = served_well c.args.setup.now c.args.listen.now c.args.server.now c.args.quota _ _ _ _ _ _ _
-    c.in-Ok.ensures.state c.in-Ok-start_gears.ensures.state c.stop_gears.ensures.state c.close_link.ensures.state _
+pub returns-else-failed-clause-served : goal.returns-else-failed-clause-served
+returns-else-failed-clause-served g c = served_well c.args.setup.now c.args.listen.now c.args.server.now c.args.quota _ _ _ _ _ _ _
+    c.in-Ok.ensures.state c.in-Ok-start_gears.ensures.state c.stop_gears.ensures.state c.close_link-in-Ok-start_gears.ensures.state _
     (subst (λ b. ServesOneGear c.args.setup.now _ _ b) c.if-failed.false c.serve_gear-gears.ensures)
