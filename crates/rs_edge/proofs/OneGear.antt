@@ -39,6 +39,10 @@ gear_served state setup link (g ∷ []) first after failed one is unused account
     account out all failed_is
 gear_served state setup link (g ∷ h ∷ gears) first after failed one is unused account out all failed_is = absurd (omega (arith, one))
 
+pub as_told : (setup : RsSetup) (link : LinkState) (gears : List GearState) (failed told : Bool) → failed ≡ told → ServesOneGear setup link gears failed
+    → ServesOneGear setup link gears told
+as_told setup link gears failed told is serves = subst (ServesOneGear setup link gears) is serves
+
 -- ---- in a world
 
 module _ (setup : RsSetup) (listen server : List ℕ) (quota : ℕ) (before opened started stopped after : WorldState) (link : LinkState) (gears : List GearState)

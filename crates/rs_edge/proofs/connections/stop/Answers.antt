@@ -30,10 +30,10 @@ returns-in-Refused g c =
 pub returns-in-Ok-write_reply : goal.returns-in-Ok-write_reply
 returns-in-Ok-write_reply g c =
     subst (λ w. Stops edge_wire (g.K.Device.told c.args.conn.now) (g.K.Device.told c.write_reply.new.sink) (g.K.Device.faults c.args.conn.now) (g.K.Device.faults c.write_reply.new.sink) w closed.Memory) (sym c.in-OutOfMemory.is)
-    (starved (subst (λ (r : HttpReply). Writes (reply_bytes r) (g.K.Device.told c.args.conn.now) (g.K.Device.told c.write_reply.new.sink)) c.busy.ensures c.in-Ok-write_reply.ensures.sent)
+    (starved (subst (λ (r : HttpReply). Writes (reply_bytes r) (g.K.Device.told c.args.conn.now) (g.K.Device.told c.write_reply.new.sink)) c.busy.ensures.value c.in-Ok-write_reply.ensures.sent)
     c.in-Ok-write_reply.ensures.cause.same)
 
 pub returns : goal.returns
 returns g c =
     subst (λ w. Stops edge_wire (g.K.Device.told c.args.conn.now) (g.K.Device.told c.write_reply.new.sink) (g.K.Device.faults c.args.conn.now) (g.K.Device.faults c.write_reply.new.sink) w closed.WriteFault) (sym c.in-OutOfMemory.is)
-    (starved_cut c.in-Err-write_reply.ensures.sent.0 (subst (λ (r : HttpReply). IsPrefix c.in-Err-write_reply.ensures.sent.0 (reply_bytes r)) c.busy.ensures c.in-Err-write_reply.ensures.sent.1) c.in-Err-write_reply.ensures.sent.2 c.in-Err-write_reply.ensures.cause.failed)
+    (starved_cut c.in-Err-write_reply.ensures.sent.0 (subst (λ (r : HttpReply). IsPrefix c.in-Err-write_reply.ensures.sent.0 (reply_bytes r)) c.busy.ensures.value c.in-Err-write_reply.ensures.sent.1) c.in-Err-write_reply.ensures.sent.2 c.in-Err-write_reply.ensures.cause.failed)

@@ -1,6 +1,5 @@
-use Rattle.std.proofs.Common.{subst, true, false}
-use Rattle.rs_edge.specs.RsServices.{ServesOneGear, not_linked}
-use Rattle.rs_edge.proofs.OneGear.{served_failed, served_well, unstarted}
+use Rattle.rs_edge.specs.RsServices.{not_linked}
+use Rattle.rs_edge.proofs.OneGear.{as_told, served_failed, served_well, unstarted}
 use Rattle.rs_edge.proofs.service.serve_resources_at.Goals as goal
 
 pub returns-in-Err-clause-served : goal.returns-in-Err-clause-served
@@ -13,9 +12,9 @@ returns-in-Err-start_gears-clause-served g c = unstarted c.args.setup.now c.args
 pub returns-then-failed-clause-served : goal.returns-then-failed-clause-served
 returns-then-failed-clause-served g c = served_failed c.args.setup.now c.args.listen.now c.args.server.now c.args.quota _ _ _ _ _ _ _
     c.in-Ok.ensures.state c.in-Ok-start_gears.ensures.state c.stop_gears.ensures.state c.close_link-in-Ok-start_gears.ensures.state
-    (subst (λ b. ServesOneGear c.args.setup.now _ _ b) c.if-failed.true c.serve_gear-gears.ensures)
+    (as_told _ _ _ _ _ c.if-failed.true c.serve_gear-gears.ensures)
 
 pub returns-else-failed-clause-served : goal.returns-else-failed-clause-served
 returns-else-failed-clause-served g c = served_well c.args.setup.now c.args.listen.now c.args.server.now c.args.quota _ _ _ _ _ _ _
     c.in-Ok.ensures.state c.in-Ok-start_gears.ensures.state c.stop_gears.ensures.state c.close_link-in-Ok-start_gears.ensures.state _
-    (subst (λ b. ServesOneGear c.args.setup.now _ _ b) c.if-failed.false c.serve_gear-gears.ensures)
+    (as_told _ _ _ _ _ c.if-failed.false c.serve_gear-gears.ensures)
