@@ -17,7 +17,7 @@ $gnap replay "$here/../first.jsonl" >/dev/null
 # Waits until the file has so many lines.
 lines() {
     for _ in $(seq 300); do
-        [ "$(grep -c '' "$1" 2>/dev/null || true)" -lt "$2" ] 2>/dev/null || return 0
+        [ "$(wc -l <"$1")" -lt "$2" ] || return 0
         sleep 0.1
     done
     echo "no line $2 in $1" >&2
@@ -57,6 +57,7 @@ for port in $(shuf -i 20000-60000 -n 10); do
     sleep 0.3
     ! kill -0 "$server" 2>/dev/null || break
 done
+: >"$work/bodies"
 python3 "$here/relay.py" "$port" "$work/bodies" 5 >"$work/relay" &
 pids="$server $!"
 lines "$work/relay" 1
