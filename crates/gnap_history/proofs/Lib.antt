@@ -12,5 +12,4 @@ pub mod Decisions
 pub mod Modifying
 pub mod Retiring
 pub mod Terms
-pub mod UserCodes
 pub mod Weaker

@@ -3,8 +3,8 @@ use Rattle.std.specs.List.{list_any}
 use Rattle.std.proofs.Math.Nat.{mod-lt}
 use Rattle.gnap_model.specs.Common.{same_text}
 use Rattle.gnap_model.specs.Values.{code_text, free_code}
-use Rattle.gnap_history.proofs.UserCodes.{free_code-mod, free_code-taken}
-use Rattle.gnap_history.proofs.user_codes.free_code.Goals as goal
+use Rattle.grant_rules.proofs.UserCodes.{free_code-mod, free_code-taken}
+use Rattle.grant_rules.proofs.user_codes.free_code.Goals as goal
 
 pub loop-init : goal.loop-init
 loop-init c =

@@ -3,7 +3,7 @@ ghost use Rattle.std.specs.Prelude.{◌≡◌, ◌++◌, IfOk};
 ghost use Rattle.gnap_model.specs.Rights.{covers as rights_cover};
 ghost use Rattle.gnap_model.specs.Asked.{asked_rights, has_start as can_start};
 ghost use Rattle.gnap_model.specs.Judging.{settle as settled_by};
-ghost use Rattle.gnap_history.specs.Courses.{settled};
+ghost use Rattle.grant_rules.specs.Courses.{settled};
 
 use crate::keys::rights_of_client;
 use access_rights::covers;

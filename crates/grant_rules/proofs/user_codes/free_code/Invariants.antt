@@ -1,6 +1,6 @@
 use Rattle.std.proofs.Common.{◌≡◌, ◌-◌, ◌<◌, length}
 use Rattle.gnap_model.specs.Values.{code_count, free_code}
-use Rattle.gnap_history.proofs.user_codes.free_code.Given as goal
+use Rattle.grant_rules.proofs.user_codes.free_code.Given as goal
 
 abbrev pub invariant-loop : goal.invariant-loop
 invariant-loop l = record {
