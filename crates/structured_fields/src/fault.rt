@@ -3,7 +3,6 @@ ghost use Rattle.std.specs.Prelude.{◌≡◌};
 ghost use Rattle.structured_fields.specs.declared.fault.FieldFault.TheVariants.{OutOfMemory};
 
 use gnap_io::memory::Mem;
-use std::alloc::{AllocError, AllocFailed};
 
 #[derive(Clone, Copy, Debug, PartialEq, Eq)]
 pub enum FieldFault {
@@ -15,22 +14,6 @@ impl From<Mem> for FieldFault {
     ghost from_gives = { λ _ e. e ≡ OutOfMemory };
 
     fn from(_e: Mem) -> FieldFault {
-        FieldFault::OutOfMemory
-    }
-}
-
-impl From<AllocError> for FieldFault {
-    ghost from_gives = { λ _ e. e ≡ OutOfMemory };
-
-    fn from(_e: AllocError) -> FieldFault {
-        FieldFault::OutOfMemory
-    }
-}
-
-impl<T: Drop> From<AllocFailed<T>> for FieldFault {
-    ghost from_gives = { λ _ e. e ≡ OutOfMemory };
-
-    fn from(_e: AllocFailed<T>) -> FieldFault {
         FieldFault::OutOfMemory
     }
 }
