@@ -1,0 +1,4 @@
+pub mod CallEffects
+pub mod Frugal
+pub mod StandsInTables
+pub mod Choices

@@ -1,0 +1,17 @@
+//! The grant machine over tables: rows of the grants that go on and of the tokens that can be managed, in place of the notes of a history.
+//!
+//! `TableCore` meets the contract of `Core`: each reply is the machine's for the history that it stands for. A call takes its memory before it changes a row.
+#![tactic(auto)]
+
+pub mod answered;
+pub mod cancelling;
+pub mod introspecting;
+pub mod revoking;
+pub mod rotating;
+pub mod stored;
+pub mod table_core;
+
+pub use table_core::TableCore;
+
+#[cfg(test)]
+mod tests;
