@@ -78,7 +78,8 @@ pub fn introspect(
     binding: Option<Binding>,
     wanted: &Option<Rights>,
 ) -> Result<Answered, Mem>
-    ensures { IfOk result (λ answered. (next : ℕ) (supply : Supply) → supply.now ≡ now
+    ensures few { IfOk result (λ answered. (answered.opened ≡ 0) × (answered.drawn ≡ 0)) }
+    ensures acts { IfOk result (λ answered. (next : ℕ) (supply : Supply) → supply.now ≡ now
         → ActsBy supply (row_action rules.now next (tables_in grants.now.rows tokens.now.rows) supply.now (Introspect server.now value.now binding wanted.now))
         (tables_in grants.now.rows tokens.now.rows) (tables_in grants.now.rows tokens.now.rows) answered) }
 {

@@ -1,5 +1,5 @@
 //! The rotation of a token (RFC 9635, section 6.1). All memory is taken before the tables change.
-ghost use Rattle.std.specs.Prelude.{◌≡◌, ℕ, List, option_map, is_some, IfOk, OnErr};
+ghost use Rattle.std.specs.Prelude.{◌≡◌, ◌≤◌, ℕ, List, option_map, is_some, IfOk, OnErr};
 ghost use Rattle.std.specs.List.{All};
 ghost use Rattle.gnap_model.specs.Common.{Text};
 ghost use Rattle.gnap_model.specs.declared.calls.Call.TheVariants.{Rotate};
@@ -124,6 +124,7 @@ pub fn rotate(
     requires room { (next : ℕ) × HasRoom next supply.now.first grants.now tokens.old }
     ensures ok { IfOk result (λ answered. (rules : Setup) (next : ℕ) → AnswersCall rules next supply.now (Rotate key.now value.now new_key.now)
         (tables_in grants.now.rows tokens.old.rows) (tables_in grants.now.rows tokens.new.rows) answered) }
+    ensures few { IfOk result (λ answered. (answered.opened ≤ 1) × (answered.drawn ≤ 17)) }
     ensures err { OnErr result (tokens.new.rows ≡ tokens.old.rows) }
 {
     let token = tokens.by_manage(value.as_slice());

@@ -61,6 +61,7 @@ fn answer_call(
     requires room { HasRoom next supply.now.first grants.old tokens.old }
     ensures ok { IfOk result (AnswersCall rules.now next supply.now call.now (tables_in grants.old.rows tokens.old.rows) (tables_in grants.new.rows tokens.new.rows)) }
     ensures doors { IfOk result (λ answered. grants.new.doors_below ≤ supply.now.first + answered.drawn) }
+    ensures few { IfOk result (λ answered. (answered.opened ≤ 1) × (answered.drawn ≤ 17)) }
     ensures err { OnErr result (tables_in grants.new.rows tokens.new.rows ≡ tables_in grants.old.rows tokens.old.rows) }
     ensures err_doors { OnErr result (grants.new.doors_below ≡ grants.old.doors_below) }
     ensures frugal { IsFrugal call.now → IsOk result }
