@@ -11,5 +11,6 @@ pub mod Deciding
 pub mod Decisions
 pub mod Modifying
 pub mod Retiring
+pub mod Supplied
 pub mod Terms
 pub mod Weaker

@@ -1,7 +1,7 @@
 //! The consent front looks at an interaction, finds it by its code, and hands in the user's decision (RFC 9635, section 4).
 ghost use Rattle.std.specs.Prelude.{◌≡◌, option_map, IfOk};
 ghost use Rattle.gnap_model.specs.Asked.{asked_rights as all_asked_rights};
-ghost use Rattle.gnap_model.specs.Actions.{on_found, outcome_of};
+ghost use Rattle.gnap_model.specs.Actions.{on_found, finish_of, outcome_of};
 ghost use Rattle.gnap_model.specs.Actions.Action.{ShowRound, TakeDecision};
 ghost use Rattle.gnap_model.specs.Standing.{opening_in, terms_of};
 ghost use Rattle.gnap_model.specs.Common.{first_of};
@@ -82,6 +82,13 @@ pub fn find_code(alloc: Global, drawing: &Drawing, code: &[u8; 8]) -> NotedReply
     }
 }
 
+/// What the front needs to tell the client that the interaction is over, where the client asked for that (RFC 9635, section 4.2).
+fn ending(drawing: &Drawing, round: &RoundNote) -> Result<Option<FinishOut>, Mem>
+    ensures { IfOk result (λ ending. ending ≡ finish_of (supply drawing.now) round.now round.now.modes.finish) }
+{
+    drawing.supply().ending(&round.modes.finish, round.nonce)
+}
+
 /// The interaction reference that the front is told, and that the decision has.
 fn reference_in(finish: &Option<FinishOut>) -> Option<[u8; 32]>
     ensures { result ≡ option_map (λ ending. ending.reference) finish.now }
@@ -102,7 +109,7 @@ fn take_decision(
 ) -> Result<NotedReply, Mem>
     ensures { IfOk result (IsAnswer (outcome_of (supply drawing.now) (TakeDecision round.now rights request.now))) }
 {
-    let finish = drawing.supply().ending(&round.modes.finish, round.nonce)?;
+    let finish = ending(drawing, round)?;
     let decision = DecisionNote {
         grant: round.grant,
         verdict: request.verdict,

@@ -33,12 +33,12 @@ impl<'a> Drawing<'a> {
 
     /// What the entry draws on, without the notes.
     pub fn supply(&self) -> Supply<'a>
-        ensures now { result.now ≡ self.now.moment }
+        ensures moment { result.moment ≡ self.now.moment }
         ensures first { result.first ≡ first_serial (trail self.now) }
         ensures words { result.words.now ≡ self.now.words.now }
     {
         Supply {
-            now: self.moment,
+            moment: self.moment,
             first: self.notes.first_serial(),
             words: self.words,
         }

@@ -1,1 +1,2 @@
 pub mod UserCodes
+pub mod WholeDecisions

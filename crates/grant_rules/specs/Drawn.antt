@@ -12,11 +12,11 @@ use Rattle.gnap_model.specs.declared.objects.Finish.{Finish}
 use Rattle.gnap_model.specs.declared.calls.FinishOut.{FinishOut}
 use Rattle.gnap_model.specs.declared.notes.TokenNote.{TokenNote}
 use Rattle.gnap_model.specs.declared.notes.RoundNote.{RoundNote}
-use Rattle.grant_rules.specs.declared.drawing.Supply.{Supply}
+use Rattle.grant_rules.specs.declared.supply.Supply.{Supply}
 
 -- in the words of the definitions, where these user codes are taken
 abbrev pub supply_with : Supply → List Text → ModelSupply
-supply_with supply taken = record { now = supply.now; first = supply.first; words = supply.words.now; taken = taken }
+supply_with supply taken = record { now = supply.moment; first = supply.first; words = supply.words.now; taken = taken }
 
 -- the token for an ask of the grant with this number, this key and this end (RFC 9635, section 3.2.1)
 abbrev pub token_drawn : Supply → ℕ → Text → ℕ → Ask → ℕ → TokenNote
@@ -27,8 +27,8 @@ token_drawn supply grant key end ask index = record {
   rights = ask.rights;
   bearer = ask.bearer;
   key = key;
-  issued = supply.now;
-  until = min (supply.now + token_time) end;
+  issued = supply.moment;
+  until = min (supply.moment + token_time) end;
   value = drawn supply.first supply.words.now index;
   manage = drawn supply.first supply.words.now (index + 1);
 }
@@ -37,8 +37,8 @@ token_drawn supply grant key end ask index = record {
 abbrev pub round_drawn : Supply → ℕ → ℕ → Modes → Option Text → RoundNote
 round_drawn supply grant end modes code = record {
   grant = grant;
-  until = min (supply.now + interaction_time) end;
-  over = supply.now + round_time;
+  until = min (supply.moment + interaction_time) end;
+  over = supply.moment + round_time;
   modes = modes;
   handle = drawn supply.first supply.words.now 1;
   code = code;

@@ -1,11 +1,11 @@
 //! What an entry draws.
-ghost use Rattle.std.specs.Prelude.{◌≡◌, ◌≤◌, ◌<◌, ◌^◌, ◌-◌, IfOk};
-ghost use Rattle.gnap_io.specs.Gears.{last_moment};
+ghost use Rattle.std.specs.Prelude.{◌≡◌, ◌<◌, ◌-◌, IfOk};
 ghost use Rattle.gnap_model.specs.Actions.{or_zeros};
 ghost use Rattle.gnap_model.specs.declared.calls.Reply.TheVariants.{Pending};
 ghost use Rattle.grant_rules.specs.Drawn.{token_drawn, round_drawn, finish_told};
 
 use crate::limits::{INTERACTION_TIME, ROUND_TIME, TOKEN_TIME};
+pub use crate::supply::Supply;
 use crate::values::value_text;
 use gnap_io::bytes::Bytes;
 use gnap_io::memory::{Duplicate, Mem};
@@ -13,19 +13,6 @@ use gnap_model::calls::{FinishOut, Reply};
 use gnap_model::notes::{RoundNote, TokenNote};
 use gnap_model::objects::{Finish, Modes};
 use gnap_model::rights::Rights;
-
-/// What an entry draws on.
-#[derive(Clone, Copy)]
-pub struct Supply<'a> {
-    /// The greatest moment so far, in seconds since 1970.
-    pub now: u64,
-    /// The serial of the first value that the entry draws.
-    pub first: u64,
-    /// The words of the entry.
-    pub words: &'a [u64; 48],
-    pub ghost in_time: { now ≤ last_moment },
-    pub ghost room: { first < 2 ^ 63 },
-}
 
 impl<'a> Supply<'a> {
     ghost use Rattle.gnap_model.specs.Values.{drawn};
@@ -65,8 +52,8 @@ impl<'a> Supply<'a> {
             rights,
             bearer,
             key: key.copy()?,
-            issued: self.now,
-            until: (self.now + TOKEN_TIME).min(end),
+            issued: self.moment,
+            until: (self.moment + TOKEN_TIME).min(end),
             value: self.value(index),
             manage: self.value(index + 1),
         })
@@ -89,8 +76,8 @@ impl<'a> Supply<'a> {
         };
         Ok(RoundNote {
             grant,
-            until: (self.now + INTERACTION_TIME).min(end),
-            over: self.now + ROUND_TIME,
+            until: (self.moment + INTERACTION_TIME).min(end),
+            over: self.moment + ROUND_TIME,
             modes: modes.copy()?,
             handle: self.value(1),
             code,

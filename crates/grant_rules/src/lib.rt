@@ -12,6 +12,7 @@ pub mod limits;
 pub mod opening;
 pub mod settling;
 pub mod suiting;
+pub mod supply;
 pub mod tokens;
 pub mod user_codes;
 pub mod values;

@@ -13,7 +13,7 @@ use Rattle.gnap_tables.specs.Tables.{Tables, after_notes, sweep}
 use Rattle.gnap_tables.specs.ActionsByRows.{row_action, row_supply}
 use Rattle.gnap_tables.specs.StandsFor.{Kept}
 use Rattle.gnap_tables.specs.Laws.{HasFewWrongs}
-use Rattle.grant_rules.specs.declared.drawing.Supply.{Supply as EntrySupply}
+use Rattle.grant_rules.specs.declared.supply.Supply.{Supply as EntrySupply}
 use Rattle.row_store.specs.Grants.{StoredGrants}
 use Rattle.row_store.specs.Tokens.{StoredTokens}
 use Rattle.table_core.specs.declared.answered.Answered.{Answered}
@@ -38,7 +38,7 @@ pub record ActsBy (supply : Supply) (action : Action) (old new : Tables) (answer
 -- the same of the action to which the call leads by the rows, with what the entry draws on
 abbrev pub AnswersCall : Setup → ℕ → EntrySupply → Call → Tables → Tables → Answered → Type 0
 AnswersCall rules next supply call old new answered =
-    ActsBy (row_supply supply.first old supply.now supply.words.now) (row_action rules next old supply.now call) old new answered
+    ActsBy (row_supply supply.first old supply.moment supply.words.now) (row_action rules next old supply.moment call) old new answered
 
 abbrev pub HasFewAsked : GrantRow → Type 0
 HasFewAsked row = length row.asks ≤ ask_limit

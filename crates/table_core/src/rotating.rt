@@ -57,7 +57,7 @@ fn succeed(token: &TokenRow, grant: &GrantRow, supply: &Supply) -> Result<Rotati
         token.bearer,
         0,
     )?;
-    let out = token_out(&successor, supply.now)?;
+    let out = token_out(&successor, supply.moment)?;
     Ok(Rotation::Succeeded {
         serial: token.serial,
         row: stored_token(successor),
@@ -102,7 +102,7 @@ fn rotation_by(
     match token {
         None => Ok(Rotation::Denied(ErrorCode::InvalidRotation)),
         Some(token) => {
-            if is_live(grants, token, supply.now) {
+            if is_live(grants, token, supply.moment) {
                 rotation_on(token, grants.by_number(token.grant), supply, key, new_key)
             } else {
                 Ok(Rotation::Denied(ErrorCode::InvalidRotation))

@@ -73,7 +73,7 @@ fn answer_call(
             binding,
             wanted,
         } => introspect(
-            alloc, rules, grants, tokens, supply.now, server, value, *binding, wanted,
+            alloc, rules, grants, tokens, supply.moment, server, value, *binding, wanted,
         ),
         Call::Cancel { key, value } => Ok(cancel(grants, tokens, key, value)),
         Call::Revoke { key, value } => Ok(revoke(grants, tokens, key, value)),
@@ -117,7 +117,7 @@ impl Core for TableCore {
         advance(&mut self.grants, &mut self.tokens, self.latest, moment);
         self.latest = self.latest.max(moment);
         let supply = Supply {
-            now: self.latest,
+            moment: self.latest,
             first: self.first,
             words: draw,
         };

@@ -1,7 +1,7 @@
 use Rattle.std.proofs.Common.{◌≡◌, ◌≤◌, ◌++◌, drop, length}
 use Rattle.std.specs.List.{filter_map}
 use Rattle.gnap_model.specs.Continue.{decided_ask}
-use Rattle.gnap_history.proofs.decided_asks.decided_asks.Given as goal
+use Rattle.grant_rules.proofs.decided_asks.decided_asks.Given as goal
 
 abbrev pub invariant-loop-ask : goal.invariant-loop-ask
 invariant-loop-ask l = record {
