@@ -1,3 +1,9 @@
 pub mod Acting
 pub mod Renumbered
 pub mod Stepping
+pub mod FoundInteractions
+pub mod PlanLemmas
+pub mod Rising
+pub mod OpeningPlans
+pub mod ModifyingPlans
+pub mod Issuing
