@@ -1,5 +1,5 @@
 -- A plan that opens a grant does what the notes of its opening do.
-use Rattle.std.proofs.Common.{ℕ, ◌≡◌, ◌≤◌, ◌<◌, ◌+◌, ◌*◌, ◌^◌, Bool, true, false, List, [], ◌∷◌, ◌++◌, length, map, refl, sym, ◌∙◌, ap, subst, arith, append-nil, Option, Some, None}
+use Rattle.std.proofs.Common.{ℕ, zero, suc, ◌≡◌, ◌≤◌, ◌<◌, ◌+◌, ◌*◌, ◌^◌, Bool, true, false, List, [], ◌∷◌, ◌++◌, length, map, refl, sym, ◌∙◌, ap, subst, arith, append-nil, Option, Some, None}
 use Rattle.std.specs.Prelude.{is_some, if◌then◌else◌, ◌==◌}
 use Rattle.std.specs.Global.{Box}
 use Rattle.std.specs.List.{All, count_by, flat_map, list_any}
@@ -35,9 +35,9 @@ use Rattle.table_core.proofs.PlanLemmas.{drawn_at, tokens_rise, values_granted, 
 pub next_free : (number : ℕ) (rows : List GrantRow) → All (λ (row : GrantRow). row.number < number) rows → IsFree number rows
 next_free number [] below = refl
 next_free number (r ∷ rs) below =
-    let first = below 0 r (omega arith) in
+    let first = below zero r (omega arith) in
     let other : (number == r.number) ≡ false = grind (arith, nat_tests, first) in
-    rw other (next_free number rs (λ k d inside. below (k + 1) d (omega arith)))
+    rw other (next_free number rs (λ k d inside. below (suc k) d (omega arith)))
 
 -- the row of a grant that was just opened
 abbrev pub opened_row : OpeningNote → GrantRequest → Text → ℕ → GrantRow

@@ -4,7 +4,6 @@ ghost use Rattle.gnap_model.specs.Actions.Action.{ModifyAtOnce, ModifyAsking};
 ghost use Rattle.gnap_model.specs.Judging.{settle as settle_for};
 ghost use Rattle.gnap_model.specs.Judging.Settled.{AtOnce as SettledAtOnce, ByAsking as SettledByAsking};
 ghost use Rattle.gnap_model.specs.declared.calls.Call.TheVariants.{Modify};
-ghost use Rattle.gnap_tables.specs.declared.rows.GrantRow.{GrantRow};
 ghost use Rattle.gnap_tables.specs.RowSearches.{opening_of, token_of};
 ghost use Rattle.gnap_tables.specs.ActionsByRows.{modify_rows, rows_of_grant, row_action};
 ghost use Rattle.table_core.specs.Entries.{tables};

@@ -1,7 +1,5 @@
-use Rattle.std.proofs.Common.{ap}
-use Rattle.std.specs.Prelude.{option_map}
+use Rattle.std.proofs.Common.{Some, ap, rules}
 use Rattle.gnap_model.specs.Common.{same_text}
-use Rattle.gnap_tables.specs.RowSearches.{interaction_by_handle}
 use Rattle.table_core.specs.Entries.{tables}
 use Rattle.table_core.specs.Fronts.{interaction_of, show_round}
 use Rattle.table_core.proofs.FoundInteractions.{found_from}
@@ -11,7 +9,6 @@ use Rattle.table_core.proofs.consent_front.look.Goals as goal
 pub returns-in-Some : goal.returns-in-Some
 returns-in-Some c =
     let entering = c.args.entering.now in
-    plans_as entering c.show_row.result (show_round (interaction_of c.in-Some.row.now)) _
-    (ap show_round (found_from (λ round. same_text round.handle c.args.handle.now) entering.supply.now (tables entering).grants (option_map (λ row. row.now) c.by_interaction.result)
-    (rw c.as_slice.ensures.value at c.by_interaction.ensures)))
-    c.show_row.ensures
+    let row = c.in-Some.row.now in
+    plans_as entering c.show_row.result (show_round (interaction_of row)) _
+    (ap show_round (found_from (λ round. same_text round.handle c.args.handle.now) entering.supply.now (tables entering).grants (Some row) (search rules))) c.show_row.ensures
