@@ -16,7 +16,7 @@ abbrev whole : Option Interaction → Option Interaction
 whole found = option_and_then interaction_of (option_map row_in found)
 
 abbrev passing : (RoundNote → Bool) → GrantRow → Option RoundNote → Option Interaction
-passing test row open = option_and_then (λ (round : RoundNote). some_if (test round) (record { row = row; round = round })) open
+passing test row found = option_and_then (λ (round : RoundNote). some_if (test round) (record { row = row; round = round })) found
 
 row_whole : (test : RoundNote → Bool) (now : ℕ) (row : GrantRow) → interaction_where test now row ≡ whole (interaction_where test now row)
 row_whole test now row = by row.round refl
