@@ -4,6 +4,3 @@
 pub mod judgement;
 
 pub use judgement::{Judged, judge};
-
-#[cfg(test)]
-mod tests;

@@ -1,6 +1,12 @@
 pub mod CancelledGrants
+pub mod FoundInteractions
+pub mod Issuing
+pub mod ModifyingPlans
+pub mod OpeningPlans
+pub mod PlanLemmas
 pub mod Renumbered
 pub mod RevokedTokens
+pub mod Rising
 pub mod RotatedTokens
 pub mod RowFacts
 pub mod Stepping

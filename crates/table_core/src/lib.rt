@@ -4,14 +4,21 @@
 #![tactic(auto)]
 
 pub mod answered;
+pub mod asking;
+pub mod beginning;
 pub mod cancelling;
+pub mod carrying;
+pub mod consent_front;
+pub mod continuing;
+pub mod deciding;
+pub mod entering;
 pub mod introspecting;
+pub mod issuing;
+pub mod modifying;
+pub mod planning;
 pub mod revoking;
 pub mod rotating;
 pub mod stored;
 pub mod table_core;
 
 pub use table_core::TableCore;
-
-#[cfg(test)]
-mod tests;

@@ -5,12 +5,16 @@ ghost use Rattle.gnap_model.specs.declared.calls.Call.TheVariants.{Lapse};
 ghost use Rattle.gnap_history.specs.Gnap.{GnapFits};
 ghost use Rattle.table_core.specs.CallEffects.{tables_in, moved, HasRoom, AnswersCall};
 ghost use Rattle.table_core.specs.Frugal.{IsFrugal};
+ghost use Rattle.table_core.specs.Planned.{IsPlanned};
 ghost use Rattle.table_core.specs.StandsInTables.{StandsInTables};
 ghost use Rattle.table_core.proofs.Renumbered.{stands-renumbered};
 
 use crate::answered::Answered;
 use crate::cancelling::cancel;
+use crate::carrying::carry_out;
+use crate::entering::Entering;
 use crate::introspecting::introspect;
+use crate::planning::plan_call;
 use crate::revoking::revoke;
 use crate::rotating::rotate;
 use gnap_history::Gnap;
@@ -46,6 +50,35 @@ fn advance(grants: &mut GrantTable, tokens: &mut TokenTable, latest: u64, moment
     }
 }
 
+// Answers a call that comes to a plan. An `Err` changes no row.
+fn answer_by_plan(
+    alloc: Global,
+    rules: &Setup,
+    supply: &Supply,
+    next: u64,
+    grants: &mut GrantTable,
+    tokens: &mut TokenTable,
+    call: &Call,
+) -> Result<Answered, Mem>
+    requires fits { GnapFits call.now }
+    requires planned { IsPlanned call.now }
+    requires room { HasRoom next supply.now.first grants.old tokens.old }
+    ensures ok { IfOk result (AnswersCall rules.now next supply.now call.now (tables_in grants.old.rows tokens.old.rows) (tables_in grants.new.rows tokens.new.rows)) }
+    ensures doors { IfOk result (λ answered. grants.new.doors_below ≤ supply.now.first + answered.drawn) }
+    ensures few { IfOk result (λ answered. (answered.opened ≤ 1) × (answered.drawn ≤ 17)) }
+    ensures err { OnErr result (tables_in grants.new.rows tokens.new.rows ≡ tables_in grants.old.rows tokens.old.rows) }
+    ensures err_doors { OnErr result (grants.new.doors_below ≡ grants.old.doors_below) }
+{
+    let entering = Entering {
+        grants: &*grants,
+        tokens: &*tokens,
+        next,
+        supply: *supply,
+    };
+    let plan = plan_call(alloc, rules, &entering, call)?;
+    carry_out(grants, tokens, next, supply.first, plan)
+}
+
 // Answers a call at the greatest moment so far. An `Err` changes no row.
 fn answer_call(
     alloc: Global,
@@ -73,7 +106,15 @@ fn answer_call(
             binding,
             wanted,
         } => introspect(
-            alloc, rules, grants, tokens, supply.moment, server, value, *binding, wanted,
+            alloc,
+            rules,
+            grants,
+            tokens,
+            supply.moment,
+            server,
+            value,
+            *binding,
+            wanted,
         ),
         Call::Cancel { key, value } => Ok(cancel(grants, tokens, key, value)),
         Call::Revoke { key, value } => Ok(revoke(grants, tokens, key, value)),
@@ -82,7 +123,8 @@ fn answer_call(
             value,
             new_key,
         } => rotate(alloc, grants, tokens, supply, key, value, new_key),
-        _ => unreachable!(),
+        Call::Lapse => unreachable!(),
+        _ => answer_by_plan(alloc, rules, supply, next, grants, tokens, call),
     }
 }
 
