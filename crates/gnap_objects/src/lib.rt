@@ -31,12 +31,3 @@ pub use grants::read_grant;
 pub use introspections::read_introspect;
 pub use setups::{SetupFault, read_setup};
 pub use user_codes::read_code;
-
-#[cfg(test)]
-mod call_body_tests;
-#[cfg(test)]
-mod interaction_tests;
-#[cfg(test)]
-mod setup_tests;
-#[cfg(test)]
-mod tests;

@@ -26,6 +26,14 @@ class Fault(Exception):
         self.member = member
 
 
+class KeyFault(Fault):
+    """A fault of a member of the key at a place of a setup."""
+
+    def __init__(self, place, kind, member):
+        super().__init__(kind, member)
+        self.place = place
+
+
 class NoWholeNumber:
     """A number that is no whole one from -2^63 to 2^64 - 1."""
 
@@ -130,9 +138,9 @@ def instance_at(value, name):
     """A key, named by its id or by an object: the id, and whether it was an object."""
     named = member(value, name)
     by_object = isinstance(named, dict)
-    instance = named.get("key") if by_object else named
+    instance = member(named, "key") if by_object else named
     if not is_id(instance):
-        raise Fault("Wrong", name)
+        raise Fault("Wrong", "key" if by_object else name)
     return instance, by_object
 
 
@@ -350,23 +358,43 @@ def read_base(value, name):
     return text
 
 
-def read_key(value):
-    if not isinstance(value, dict):
-        raise Fault("Wrong", "keys")
-    if not is_id(member(value, "id")):
-        raise Fault("Wrong", "id")
-    role = choice_at(value, "role", tuple(ROLE_MEMBERS))
+def only_members(value, names):
+    for name in sorted(value):
+        if name not in names:
+            raise Fault("Unknown", name)
+
+
+def read_secret(value):
+    text = text_at(value, "secret")
     try:
-        secret = base64.b64decode(text_at(value, "secret"), validate=True)
+        secret = base64.b64decode(text, validate=True)
     except (binascii.Error, ValueError):
         raise Fault("Wrong", "secret") from None
-    if base64.b64encode(secret).decode() != value["secret"] or not 16 <= len(secret) <= 64:
+    if base64.b64encode(secret).decode() != text or not 16 <= len(secret) <= 64:
         raise Fault("Wrong", "secret")
-    auto = read_rights(member(value, "auto")) if role == "client" else []
-    ask = read_rights(member(value, "ask")) if role == "client" else []
+    return secret
+
+
+def rights_at(value, name):
+    try:
+        return read_rights(member(value, name))
+    except Fault as fault:
+        raise Fault(fault.kind, name) from None
+
+
+def read_key(value, others):
+    """A key's id and what is kept of it, beside the keys before it."""
+    value = value if isinstance(value, dict) else {}
+    if not is_id(member(value, "id")) or value["id"] in others:
+        raise Fault("Wrong", "id")
+    role = choice_at(value, "role", tuple(ROLE_MEMBERS))
+    secret = read_secret(value)
+    auto = rights_at(value, "auto") if role == "client" else []
+    ask = rights_at(value, "ask") if role == "client" else []
     names = texts_at(value, "serves") if role == "server" else []
-    if len(names) > 256 or set(value) - {"id", "role", "secret"} - ROLE_MEMBERS[role]:
-        raise Fault("TooMany", "keys")
+    if len(names) > 256:
+        raise Fault("TooMany", "serves")
+    only_members(value, {"id", "role", "secret"} | ROLE_MEMBERS[role])
     return value["id"], Key(role, secret, auto, ask, names)
 
 
@@ -377,12 +405,16 @@ def read_setup(text):
         raise NotJson
     base, front = read_base(value, "base"), read_base(value, "front")
     rows = member(value, "keys")
-    if not isinstance(rows, list) or len(rows) > 4_096 or set(value) - {"base", "front", "keys"}:
+    if not isinstance(rows, list):
         raise Fault("Wrong", "keys")
     keys = {}
-    for row in rows:
-        key, entry = read_key(row)
-        if key in keys:
-            raise Fault("Wrong", "id")
+    for place, row in enumerate(rows):
+        try:
+            key, entry = read_key(row, keys)
+        except Fault as fault:
+            raise KeyFault(place, fault.kind, fault.member) from None
         keys[key] = entry
+    if len(rows) > 4_096:
+        raise Fault("TooMany", "keys")
+    only_members(value, {"base", "front", "keys"})
     return Setup(base, front, keys)
