@@ -11,6 +11,3 @@ pub mod replies;
 
 pub use authorization_server::AuthorizationServer;
 pub use replies::{ReadyReply, http_reply, print_direct};
-
-#[cfg(test)]
-mod tests;

@@ -15,6 +15,3 @@ pub use authorization::presented_value;
 pub use desk_calls::{DirectAnswer, RequestStep, desk_call};
 pub use edge::Edge;
 pub use routes::{Purpose, Route};
-
-#[cfg(test)]
-mod tests;

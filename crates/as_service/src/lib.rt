@@ -7,6 +7,3 @@
 mod service;
 
 pub use service::serve_at;
-
-#[cfg(test)]
-mod tests;

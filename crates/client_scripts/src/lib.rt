@@ -13,6 +13,3 @@ pub mod turns;
 pub use deeds::Deed;
 pub use lines::{LineFault, read_line};
 pub use turns::{LineSaid, script_line};
-
-#[cfg(test)]
-mod tests;

@@ -17,6 +17,3 @@ pub use calls::DueRequest;
 pub use client::{Asked, Client, ClientFault, ReadReply, Received, State, Took};
 pub use config::ClientConfig;
 pub use config_reading::read_client_config;
-
-#[cfg(test)]
-mod tests;

@@ -17,6 +17,3 @@ mod tokens;
 
 pub use discovery::{print_client_discovery, print_server_discovery};
 pub use responses::{print_error, print_reply};
-
-#[cfg(test)]
-mod tests;

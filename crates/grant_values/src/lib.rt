@@ -11,6 +11,3 @@ pub mod laws;
 mod token_requests;
 
 pub use grants::{grant_text, grant_value};
-
-#[cfg(test)]
-mod tests;

@@ -19,6 +19,3 @@ pub use grant_reply::{GrantReply, Interaction, ReplyKind};
 pub use introspections::read_judgement;
 pub use judgement::Judgement;
 pub use reading::read_grant_reply;
-
-#[cfg(test)]
-mod tests;

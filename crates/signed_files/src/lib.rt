@@ -9,8 +9,6 @@ mod fault;
 mod message_file;
 mod message_text;
 mod signing;
-#[cfg(test)]
-mod tests;
 mod verifying;
 
 pub use fault::FileFault;

@@ -11,6 +11,3 @@ pub mod unsigned;
 
 pub use forms::{is_method, is_target};
 pub use unsigned::{Scheme, UnsignedRequest, signed_request};
-
-#[cfg(test)]
-mod tests;

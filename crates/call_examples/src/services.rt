@@ -3,7 +3,7 @@ ghost use Rattle.std.specs.Prelude.{◌≡◌, IfOk, All};
 ghost use Rattle.gnap_io.specs.Gears.{IsUnused};
 ghost use Rattle.gnap_io.specs.MemoryForms.{IsUnusedConn};
 
-use crate::serve_at;
+use as_service::serve_at;
 use gnap_io::bytes::Bytes;
 use gnap_io::gear::Counted;
 use gnap_io::memory::Mem;

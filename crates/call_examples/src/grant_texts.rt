@@ -1,7 +1,7 @@
 //! Printed requests.
-use crate::grant_text;
 use gnap_io::bytes::Bytes;
 use gnap_objects::read_grant;
+use grant_values::grant_text;
 use json_objects::read_body;
 use std::alloc::Global;
 use std::test::Fail;

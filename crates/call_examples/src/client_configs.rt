@@ -1,5 +1,5 @@
 //! A configuration, and a client of it.
-use crate::{Client, read_client_config};
+use gnap_client::{Client, read_client_config};
 use std::test::Fail;
 
 const CONFIG: &[u8] =

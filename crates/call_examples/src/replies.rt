@@ -1,12 +1,12 @@
 //! Printed texts.
 ghost use Rattle.std.specs.Prelude.{IfOk, IsUtf8};
 
-use crate::{print_client_discovery, print_error, print_reply, print_server_discovery};
 use gnap_io::bytes::Bytes;
 use gnap_io::memory::Mem;
 use gnap_io::seq::Seq;
 use gnap_model::calls::Reply;
 use gnap_model::objects::{ErrorCode, Setup};
+use gnap_replies::{print_client_discovery, print_error, print_reply, print_server_discovery};
 use std::alloc::Global;
 use std::test::Fail;
 

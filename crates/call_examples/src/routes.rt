@@ -1,5 +1,5 @@
 //! The routes and their methods.
-use crate::{Purpose, Route};
+use as_requests::{Purpose, Route};
 use gnap_objects::CallKind;
 use std::test::Fail;
 

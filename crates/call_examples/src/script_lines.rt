@@ -1,5 +1,5 @@
 //! A script's lines over a link in memory.
-use crate::turns::script_line;
+use client_scripts::turns::script_line;
 use gnap_client::{Client, read_client_config};
 use gnap_io::bytes::Bytes;
 use gnap_io::memory_link::MemLink;

@@ -2,12 +2,12 @@
 ghost use Rattle.std.specs.Prelude.{◌≡◌, [], IfOk};
 ghost use Rattle.gnap_objects.specs.Setups.{IsSetup};
 
-use crate::{FileFault, sign_file, verify_file};
 use gnap_io::bytes::Bytes;
 use gnap_io::device::Device;
 use gnap_io::memory::Mem;
 use gnap_io::memory_devices::MemSource;
 use gnap_objects::{Setup, read_setup};
+use signed_files::{FileFault, sign_file, verify_file};
 use std::alloc::Global;
 use std::test::Fail;
 

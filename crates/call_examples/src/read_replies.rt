@@ -1,6 +1,7 @@
-use crate::{GrantReply, Judgement, ReplyKind, read_grant_reply, read_judgement};
+//! Replies that are read.
 use gnap_io::memory::Mem;
 use gnap_model::objects::ErrorCode;
+use reply_readers::{GrantReply, Judgement, ReplyKind, read_grant_reply, read_judgement};
 
 // What the reply is, in one word.
 fn word(reply: Result<Option<GrantReply>, Mem>) -> &'static str {

@@ -1,6 +1,6 @@
 //! A request as bytes. The digest and the signature were computed by another implementation.
-use crate::{Scheme, UnsignedRequest, is_method, is_target, signed_request};
 use gnap_io::bytes::Bytes;
+use signed_requests::{Scheme, UnsignedRequest, is_method, is_target, signed_request};
 use std::test::Fail;
 
 #[test]

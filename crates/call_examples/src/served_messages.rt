@@ -3,7 +3,7 @@ ghost use Rattle.std.specs.Prelude.{◌≡◌, IfOk};
 ghost use Rattle.gnap_io.specs.Gears.{new_gear, AreStarted};
 ghost use Rattle.gnap_io.specs.MemoryForms.{IsUnusedConn};
 
-use crate::AuthorizationServer;
+use as_edge::AuthorizationServer;
 use as_requests::Edge;
 use gnap_history::ListCore;
 use gnap_io::bytes::Bytes;

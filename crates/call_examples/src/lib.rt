@@ -1,0 +1,24 @@
+//! Each public call of these libraries once, with ample memory: what is printed, signed and answered is compared with what other implementations worked out. The examples stand in a crate of their own, since a library with
+//! tests is proved twice.
+#![tactic(auto)]
+
+#[cfg(test)]
+mod client_configs;
+#[cfg(test)]
+mod grant_texts;
+#[cfg(test)]
+mod message_files;
+#[cfg(test)]
+mod read_replies;
+#[cfg(test)]
+mod replies;
+#[cfg(test)]
+mod request_bytes;
+#[cfg(test)]
+mod routes;
+#[cfg(test)]
+mod script_lines;
+#[cfg(test)]
+mod served_messages;
+#[cfg(test)]
+mod services;
