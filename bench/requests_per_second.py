@@ -77,7 +77,7 @@ def peers_at_work(served, request, count, begin, until, results):
 def measure(connections, workers, seconds):
     served = Served(workers, 1_000_000)
     try:
-        status, body = served.exchange(grant_request())
+        status, body = served.first_exchange(grant_request())
         if status != 200:
             raise SystemExit(f"no grant: {status}")
         request = introspection(json.loads(body)["access_token"]["value"])

@@ -3,8 +3,8 @@
 
     bench/resets_and_slow_peers.py
 
-`gnap as` gets 64 workers with 4 connections each. 256 connections come from 64 threads, each of one kind of the list KINDS. Where a connection
-isn't reset, its requests are grant requests, and introspections of tokens that other connections were given; it has to bring just one reply for
+`gnap as` gets 64 workers with 4 connections each. 256 connections come from 64 threads. The first one of each thread sends its second request
+only once all 64 have a reply, which takes 64 workers at once; each later one is of one kind of the list KINDS. Where a connection isn't reset, its requests are grant requests, and introspections of tokens that other connections were given; it has to bring just one reply for
 each, in order, and then end. All tokens that were handed out have to differ. In the end `gnap as` has to end with status 0, since all its
 connections came. The program is ./gnap, or the one that GNAP names.
 """
@@ -35,9 +35,11 @@ def replies_to_the_end(conn, pause=0.0, most=65536):
     return found, bytes(held)
 
 
-def in_turn(conn, requests):
+def in_turn(conn, requests, between=lambda: None):
     found = []
     for request in requests:
+        if found:
+            between()
         conn.sendall(request)
         held = bytearray()
         while (reply := first_reply(held)) is None:
@@ -46,6 +48,14 @@ def in_turn(conn, requests):
     conn.shutdown(socket.SHUT_WR)
     more, rest = replies_to_the_end(conn)
     return found + more, rest
+
+
+ALL_REPLIED = threading.Barrier(64)
+
+
+def all_served(conn, requests):
+    """Sends the second request once each of the 64 connections has its first reply."""
+    return in_turn(conn, requests[:2], lambda: ALL_REPLIED.wait(timeout=30))
 
 
 def all_at_once(conn, requests):
@@ -103,7 +113,7 @@ class Run:
         self.tokens = []
         self.faults = []
         self.replied = 0
-        self.count = {kind.__name__: 0 for kind in KINDS}
+        self.count = {kind.__name__: 0 for kind in [all_served, *KINDS]}
 
     def requests(self):
         """Grant requests, and an introspection of a token behind each; and what each has to be answered with."""
@@ -123,7 +133,8 @@ class Run:
                 return
             found, rest = answer
             right = [status == 200 and mark in body for (status, body), mark in zip(found, wanted)]
-            if rest or len(found) != len(requests) or not all(right):
+            wanted_count = 2 if kind is all_served else len(requests)
+            if rest or len(found) != wanted_count or not all(right):
                 self.faults.append((kind.__name__, found, rest))
             self.replied += len(found)
             for status, body in found:
@@ -134,7 +145,7 @@ class Run:
         for kind in kinds:
             try:
                 self.one(kind)
-            except OSError as fault:
+            except (OSError, threading.BrokenBarrierError) as fault:
                 with self.lock:
                     self.faults.append((kind.__name__, repr(fault), b""))
 
@@ -142,12 +153,12 @@ class Run:
 def main():
     begin = time.perf_counter()
     run = Run()
-    status, body = run.served.exchange(grant_request())
+    status, body = run.served.first_exchange(grant_request())
     run.tokens.append(json.loads(body)["access_token"]["value"])
     # The connection of the first grant request is one of all.
-    kinds = [KINDS[place % len(KINDS)] for place in range(WORKERS * QUOTA - 1)]
+    kinds = [KINDS[place % len(KINDS)] for place in range(WORKERS * QUOTA - 65)]
     random.Random(7).shuffle(kinds)
-    threads = [threading.Thread(target=run.work, args=(kinds[k::64],)) for k in range(64)]
+    threads = [threading.Thread(target=run.work, args=([all_served, *kinds[k::64]],)) for k in range(64)]
     for thread in threads:
         thread.start()
     for thread in threads:

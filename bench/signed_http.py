@@ -78,19 +78,22 @@ class Served:
         self.process = subprocess.Popen([program, "as", config, listen, str(workers), str(quota)])
 
     def connect(self):
-        """A connection, as soon as there is one to be had."""
+        conn = socket.create_connection(self.address, timeout=30)
+        conn.setsockopt(socket.IPPROTO_TCP, socket.TCP_NODELAY, 1)
+        return conn
+
+    def first_connection(self):
+        """A connection as soon as the program listens. One that is refused doesn't count for its quota."""
         while self.process.poll() is None:
             try:
-                conn = socket.create_connection(self.address, timeout=30)
-                conn.setsockopt(socket.IPPROTO_TCP, socket.TCP_NODELAY, 1)
-                return conn
+                return self.connect()
             except ConnectionRefusedError:
                 time.sleep(0.05)
         raise SystemExit("gnap as doesn't listen")
 
-    def exchange(self, request):
-        """The status and the body of the reply to one request on a connection of its own."""
-        with self.connect() as conn:
+    def first_exchange(self, request):
+        """The status and the body of the reply to one request on the first connection."""
+        with self.first_connection() as conn:
             conn.sendall(request)
             held = bytearray()
             while (reply := first_reply(held)) is None:
