@@ -1,21 +1,19 @@
-//! What it costs to see whether rights cover others, where that costs most.
-//!
-//! Without words it is seen a few times, and printed how often they were covered. With a number it is seen so often, and the nanoseconds of one are
-//! printed behind that, the mean.
+//! Rights that cover others, where that takes longest.
 //!
 //! The granted rights and the wanted ones are 16 each, of 1,024 atoms each. The wanted values are found in the last granted right alone, and all values
 //! are of one length and differ in their last bytes: so in the other granted rights every value is compared with every other to its end.
-#![tactic(auto)]
 
 use access_rights::{Rights, covers, read_rights};
-use anyhow::{Result, bail};
+use gnap_io::memory::Mem;
 use json_objects::{member, read_body};
 use std::alloc::{AllocError, Global};
-use std::env;
-use std::time::{Duration, Instant};
 
-// How often it is seen where no number asks for more.
-const FEW: u64 = 3;
+/// Rights and those that they are to cover.
+#[derive(Drop)]
+pub struct Covering {
+    granted: Rights,
+    wanted: Rights,
+}
 
 // So many texts of 100 bytes between commas. They end with the letter and their place.
 fn texts(alloc: Global, letter: char, count: u8) -> Result<String, AllocError> {
@@ -59,37 +57,24 @@ fn rights(alloc: Global, first: char, last: char) -> Option<Rights> {
     read_rights(alloc, member(&body, "access")?).ok()
 }
 
-// How often of so many times the wanted rights are covered.
-fn covered(granted: &Rights, wanted: &Rights, times: u64) -> u64 {
-    let mut covered: u64 = 0;
-    for _ in 0..times {
-        if covers(granted, wanted) {
-            covered = covered.saturating_add(1);
+impl Covering {
+    /// The rights above.
+    pub fn new(alloc: Global) -> Result<Covering, Mem> {
+        let (Some(granted), Some(wanted)) = (rights(alloc, 'o', 'w'), rights(alloc, 'w', 'w'))
+        else {
+            return Err(Mem);
+        };
+        Ok(Covering { granted, wanted })
+    }
+
+    /// Asks so many times whether they are covered, and counts how often they are.
+    pub fn covered(&self, times: u64) -> u64 {
+        let mut covered: u64 = 0;
+        for _ in 0..times {
+            if covers(&self.granted, &self.wanted) {
+                covered = covered.saturating_add(1);
+            }
         }
+        covered
     }
-    covered
-}
-
-fn nanos_of_one(time: Duration, times: u64) -> u64 {
-    u64::try_from(time.as_nanos()).unwrap_or(u64::MAX) / times.max(1)
-}
-
-fn main(rt: HostRuntime) -> Result<()> {
-    let asked = match env::args(&rt)?.nth(1) {
-        Some(word) => Some(word.parse::<u64>()?),
-        None => None,
-    };
-    let (Some(granted), Some(wanted)) = (rights(rt.alloc(), 'o', 'w'), rights(rt.alloc(), 'w', 'w'))
-    else {
-        bail!("out of memory");
-    };
-    let times = asked.unwrap_or(FEW);
-    let start = Instant::now(&rt)?;
-    let count = covered(&granted, &wanted, times);
-    let nanos = nanos_of_one(start.elapsed(&rt)?, times);
-    match asked {
-        Some(_) => println!(rt; "covered {count} of {times}, {nanos} ns each")?,
-        None => println!(rt; "covered {count} of {times}")?,
-    }
-    Ok(())
 }
