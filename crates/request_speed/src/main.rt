@@ -1,0 +1,146 @@
+//! What reading and verifying a signed request costs, beside the two hashes that it takes.
+//!
+//! Standard input has four lines: a request, with `|` for each CR LF; its signature base, with `|` for each LF; and in base64 the SHA-256 of its body and
+//! the HMAC of its signature base. Another program made them. Without words each task is done three times, and what is printed is how often it came out
+//! as it has to. With a number each is done that many times, and behind that stand the nanoseconds of one, the mean, and how many that is a second.
+#![tactic(auto)]
+
+mod hashes;
+mod requests;
+
+use crate::hashes::Hashes;
+use crate::requests::{Verifier, requests_read};
+use gnap_io::bytes::Bytes;
+use gnap_io::memory::Mem;
+use gnap_io::memory_devices::MemSource;
+use std::alloc::Global;
+use std::io::{BufRead, BufReader};
+use std::rt::{Clock, Env};
+use std::time::{Duration, Instant};
+use std::{env, io};
+
+// How often a task is done where no number asks for more.
+const FEW: u64 = 3;
+
+// A task.
+#[derive(Clone, Copy)]
+enum Task {
+    Parse,
+    ParseAndVerify,
+    Hashes,
+}
+
+impl Task {
+    fn name(self) -> &'static str {
+        match self {
+            Task::Parse => "parse",
+            Task::ParseAndVerify => "parse and verify",
+            Task::Hashes => "hashes",
+        }
+    }
+}
+
+// What the tasks are done with.
+#[derive(Drop)]
+struct Subject {
+    request: Bytes,
+    verifier: Verifier,
+    hashes: Hashes,
+}
+
+// A line with this in place of each `|`.
+fn with_ends(alloc: Global, line: &str, end: &[u8]) -> Result<Bytes, Mem> {
+    let mut text = Bytes::new(alloc);
+    for byte in line.as_bytes() {
+        if *byte == b'|' {
+            text.extend(end)?;
+        } else {
+            text.push(*byte)?;
+        }
+    }
+    Ok(text)
+}
+
+impl Subject {
+    fn new(
+        alloc: Global,
+        request: &str,
+        base: &str,
+        digest: &str,
+        mac: &str,
+    ) -> Result<Subject, Mem> {
+        let body = request.split_once("||").unwrap_or(("", "")).1;
+        Ok(Subject {
+            request: with_ends(alloc, request, b"\r\n")?,
+            verifier: Verifier::new(alloc)?,
+            hashes: Hashes::new(alloc, body, with_ends(alloc, base, b"\n")?, digest, mac)?,
+        })
+    }
+
+    // A connection from which so many of the requests come.
+    fn connection(&self, alloc: Global, times: u64) -> Result<MemSource, Mem> {
+        let mut requests = Bytes::new(alloc);
+        for _ in 0..times {
+            requests.extend(self.request.as_slice())?;
+        }
+        Ok(MemSource::new(requests, Vec::new(alloc)))
+    }
+
+    // Does the task so many times, and counts how often it came out as it has to.
+    fn count(&self, alloc: Global, task: Task, times: u64, connection: &mut MemSource) -> u64 {
+        match task {
+            Task::Parse => requests_read(alloc, connection, times, None),
+            Task::ParseAndVerify => requests_read(alloc, connection, times, Some(&self.verifier)),
+            Task::Hashes => self.hashes.made(times),
+        }
+    }
+}
+
+fn nanos_of_one(time: Duration, times: u64) -> u64 {
+    u64::try_from(time.as_nanos()).unwrap_or(u64::MAX) / times.max(1)
+}
+
+// Does a task, and prints what came of it.
+fn report<R: Clock + Print + AllocGlobal>(
+    rt: &R,
+    subject: &Subject,
+    task: Task,
+    asked: Option<u64>,
+) -> io::Result<()> {
+    let (name, times) = (task.name(), asked.unwrap_or(FEW));
+    let Ok(mut connection) = subject.connection(rt.alloc(), times) else {
+        return println!(rt; "{name}: out of memory");
+    };
+    let start = Instant::now(rt)?;
+    let count = subject.count(rt.alloc(), task, times, &mut connection);
+    let nanos = nanos_of_one(start.elapsed(rt)?, times);
+    let per_second = 1_000_000_000 / nanos.max(1);
+    match asked {
+        Some(_) => println!(rt;
+            "{name}: {count} of {times}, {nanos} ns each, {per_second} a second"
+        ),
+        None => println!(rt; "{name}: {count} of {times}"),
+    }
+}
+
+fn main(rt: HostRuntime) -> io::Result<()> {
+    let asked = match env::args(&rt)?.nth(1) {
+        Some(word) => word.parse::<u64>().ok(),
+        None => None,
+    };
+    let mut lines = Vec::new(rt.alloc());
+    for line in BufReader::new(rt.alloc(), rt.reader())?.lines(rt.alloc()) {
+        lines.push(line?)?;
+    }
+    let [request, base, digest, mac] = lines.as_slice() else {
+        return println!(rt; "standard input has not four lines");
+    };
+    let Ok(subject) = Subject::new(rt.alloc(), request, base, digest, mac) else {
+        return println!(rt; "out of memory, or no base64");
+    };
+    println!(rt; "a request of {} bytes", subject.request.len())?;
+    for task in [Task::Parse, Task::ParseAndVerify, Task::Hashes] {
+        report(&rt, &subject, task, asked)?;
+    }
+    Ok(())
+}

@@ -1,0 +1,65 @@
+//! Requests of a connection, read and verified.
+
+use gnap_io::bytes::Bytes;
+use gnap_io::memory::Mem;
+use gnap_io::memory_devices::MemSource;
+use gnap_io::message::Message;
+use hmac_key::Keyring;
+use http_edge::{Held, next_message};
+use message_signature::verify;
+use std::alloc::Global;
+
+// When the request was signed and is verified, in seconds since 1970.
+const MOMENT: u64 = 1000;
+
+/// The secret of the key that signs the request.
+pub const SECRET: &[u8] = b"secret-key-of-c1";
+
+/// What verifying takes beside the message.
+#[derive(Drop)]
+pub struct Verifier {
+    base: Bytes,
+    ring: Keyring,
+    tag: Bytes,
+}
+
+impl Verifier {
+    /// The one of the key `c1`.
+    pub fn new(alloc: Global) -> Result<Verifier, Mem> {
+        let mut ring = Keyring::new(alloc);
+        let id = Bytes::from_slice(alloc, b"c1")?;
+        let secret = Bytes::from_slice(alloc, SECRET)?;
+        ring.add(&id, &secret)?;
+        let base = Bytes::from_slice(alloc, b"https://as.example")?;
+        let tag = Bytes::from_slice(alloc, b"gnap")?;
+        Ok(Verifier { base, ring, tag })
+    }
+
+    fn passes(&self, alloc: Global, message: &Message) -> bool {
+        verify(alloc, message, &self.base, &self.ring, MOMENT, &self.tag).is_ok()
+    }
+}
+
+/// Reads so many requests from the connection, verifies them where there is a verifier, and counts those that pass, up to the first that can't be read.
+pub fn requests_read(
+    alloc: Global,
+    connection: &mut MemSource,
+    times: u64,
+    verifier: Option<&Verifier>,
+) -> u64 {
+    let mut held = Held::new(alloc);
+    let mut passed: u64 = 0;
+    for _ in 0..times {
+        let Ok(Some(message)) = next_message(alloc, connection, &mut held) else {
+            return passed;
+        };
+        let passes = match verifier {
+            Some(verifier) => verifier.passes(alloc, &message),
+            None => true,
+        };
+        if passes {
+            passed = passed.saturating_add(1);
+        }
+    }
+    passed
+}
