@@ -1,0 +1,109 @@
+"""What the scripts of this folder share: a setup, signed requests (RFC 9421), replies off a socket, and `gnap as` as a child process."""
+
+import base64
+import hashlib
+import hmac
+import json
+import os
+import socket
+import subprocess
+import tempfile
+import time
+
+TOP = os.path.dirname(os.path.dirname(os.path.abspath(__file__)))
+BASE = "https://as.example"
+SECRETS = {"c1": b"secret-key-of-c1", "r1": b"secret-key-of-r1"}
+BEGIN = b'{"access_token":{"access":["photos"]},"client":"c1"}'
+
+
+def text_of(secret):
+    return base64.b64encode(secret).decode()
+
+
+SETUP = json.dumps({"base": BASE, "front": "https://front.example", "keys": [
+    {"id": "c1", "role": "client", "secret": text_of(SECRETS["c1"]), "auto": ["photos"], "ask": []},
+    {"id": "r1", "role": "server", "secret": text_of(SECRETS["r1"]), "serves": ["photos"]},
+]})
+
+
+def signed_post(path, key, body, created=None):
+    """The bytes of a POST with a body, signed by a key of the setup."""
+    created = int(time.time()) if created is None else created
+    digest = f"sha-256=:{text_of(hashlib.sha256(body).digest())}:"
+    params = f'("@method" "@target-uri" "content-digest");created={created};keyid="{key}";tag="gnap"'
+    signature_base = f'"@method": POST\n"@target-uri": {BASE}{path}\n"content-digest": {digest}\n"@signature-params": {params}'
+    code = text_of(hmac.new(SECRETS[key], signature_base.encode(), hashlib.sha256).digest())
+    head = [f"POST {path} HTTP/1.1", "Host: as.example", "Content-Type: application/json", f"Content-Length: {len(body)}",
+            f"Content-Digest: {digest}", f"Signature-Input: sig1={params}", f"Signature: sig1=:{code}:"]
+    return ("\r\n".join(head) + "\r\n\r\n").encode() + body
+
+
+def grant_request():
+    return signed_post("/gnap", "c1", BEGIN)
+
+
+def introspection(value):
+    return signed_post("/introspect", "r1", json.dumps({"access_token": value, "resource_server": "r1"}).encode())
+
+
+def first_reply(held):
+    """The status, the head and the body of the reply that the bytes begin with, and how many bytes it has; None where it isn't whole."""
+    end = held.find(b"\r\n\r\n")
+    if end < 0:
+        return None
+    head = bytes(held[:end]).lower()
+    length = 0
+    for line in head.split(b"\r\n")[1:]:
+        if line.startswith(b"content-length:"):
+            length = int(line[15:])
+    whole = end + 4 + length
+    if len(held) < whole:
+        return None
+    return int(head.split(b" ")[1]), head, bytes(held[end + 4:whole]), whole
+
+
+class Served:
+    """`gnap as` over the setup at a free port of this machine."""
+
+    def __init__(self, workers, quota):
+        self.folder = tempfile.TemporaryDirectory()
+        config = os.path.join(self.folder.name, "setup.json")
+        with open(config, "w") as file:
+            file.write(SETUP)
+        with socket.socket() as probe:
+            probe.bind(("127.0.0.1", 0))
+            self.address = probe.getsockname()
+        listen = f"{self.address[0]}:{self.address[1]}"
+        program = os.environ.get("GNAP", os.path.join(TOP, "gnap"))
+        self.process = subprocess.Popen([program, "as", config, listen, str(workers), str(quota)])
+
+    def connect(self):
+        conn = socket.create_connection(self.address, timeout=30)
+        conn.setsockopt(socket.IPPROTO_TCP, socket.TCP_NODELAY, 1)
+        return conn
+
+    def first_connection(self):
+        """A connection as soon as the program listens. One that is refused doesn't count for its quota."""
+        while self.process.poll() is None:
+            try:
+                return self.connect()
+            except ConnectionRefusedError:
+                time.sleep(0.05)
+        raise SystemExit("gnap as doesn't listen")
+
+    def first_exchange(self, request):
+        """The status and the body of the reply to one request on the first connection."""
+        with self.first_connection() as conn:
+            conn.sendall(request)
+            held = bytearray()
+            while (reply := first_reply(held)) is None:
+                piece = conn.recv(65536)
+                if not piece:
+                    raise SystemExit("no reply")
+                held += piece
+            return reply[0], reply[2]
+
+    def stop(self):
+        self.process.terminate()
+        self.process.wait()
+        self.folder.cleanup()
