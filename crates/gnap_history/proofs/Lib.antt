@@ -6,7 +6,6 @@ pub mod FitsThrough
 pub mod FoundFits
 pub mod Holders
 pub mod Interactions
-pub mod Issuing
 pub mod Deciding
 pub mod Decisions
 pub mod Modifying

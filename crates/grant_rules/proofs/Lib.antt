@@ -1,2 +1,3 @@
+pub mod Issuing
 pub mod UserCodes
 pub mod WholeDecisions

@@ -1,6 +1,5 @@
 pub mod CancelledGrants
 pub mod FoundInteractions
-pub mod Issuing
 pub mod ModifyingPlans
 pub mod OpeningPlans
 pub mod PlanLemmas
