@@ -3,7 +3,7 @@ pub mod FoundInteractions
 pub mod ModifyingPlans
 pub mod OpeningPlans
 pub mod PlanLemmas
-pub mod Renumbered
+pub mod PlannedCalls
 pub mod RevokedTokens
 pub mod Rising
 pub mod RotatedTokens

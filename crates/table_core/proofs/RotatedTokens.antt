@@ -16,7 +16,9 @@ use Rattle.gnap_tables.specs.declared.rows.GrantRow.{GrantRow}
 use Rattle.gnap_tables.specs.declared.rows.TokenRow.{TokenRow}
 use Rattle.gnap_tables.specs.Tables.{drop_token, new_token}
 use Rattle.gnap_tables.specs.RowSearches.{opening_of, token_of, row_by_number, row_by_manage, is_live_row}
-use Rattle.gnap_tables.specs.ActionsByRows.{on_row, row_action}
+use Rattle.gnap_tables.specs.ActionsByRows.{on_row, row_action, row_supply}
+use Rattle.grant_rules.specs.declared.supply.Supply.{Supply as EntrySupply}
+use Rattle.grant_rules.specs.Drawn.{supply_with}
 use Rattle.row_store.specs.Tokens.{IsTokenRow}
 use Rattle.table_core.specs.CallEffects.{ActsBy, tables_in}
 use Rattle.table_core.specs.Choices.{rotated_to, rotation_for, rotation_of}
@@ -71,13 +73,24 @@ rotation_acts supply key new_key grants tokens (Some token) small = live (is_liv
     live true = on (row_by_number token.grant grants)
     live false = no_notes supply (Refuse InvalidRotation) (tables_in grants tokens) (Error InvalidRotation) refl refl
 
--- the same as the code has it
-pub rotation_done : (supply : Supply) (rules : Setup) (next : ℕ) (key value key' value' : Text) (new_key : Option Text) (grants : List GrantRow) (tokens : List TokenRow) (found : Option TokenRow) (r : Rotation)
-    → supply.first < 2 ^ 63 → key' ≡ key → value' ≡ value → found ≡ row_by_manage value' tokens → r ≡ rotation_of supply key' new_key grants found
-    → RotationActs supply r grants tokens (row_action rules next (tables_in grants tokens) supply.now (Rotate key value new_key))
-rotation_done supply rules next key value key' value' new_key grants tokens found r small same_key same_value is says =
-    let e : r ≡ rotation_of supply key new_key grants (row_by_manage value tokens) =
-    says ∙ ap (λ (k : Text). rotation_of supply k new_key grants found) same_key
-    ∙ ap (λ (x : Option TokenRow). rotation_of supply key new_key grants x) (is ∙ ap (λ (v : Text). row_by_manage v tokens) same_value) in
+-- the new row, as the code has it
+pub successor_is : (entry : EntrySupply) (key : Text) (new_key : Option Text) (grants : List GrantRow) (found : Option TokenRow) (r : Rotation) (serial : ℕ) (row : TokenRow) (out : TokenOut)
+    → entry.first < 2 ^ 63 → ((taken : List Text) → r ≡ rotation_of (supply_with entry taken) key new_key grants found) → r ≡ Succeeded serial row out → IsTokenRow row × (row.serial ≡ entry.first)
+successor_is entry key new_key grants found r serial row out small says is =
+    let supply : Supply = supply_with entry [] in
+    let chosen : rotation_of supply key new_key grants found ≡ Succeeded serial row out = sym (says []) ∙ is in
+    let all = subst (λ (x : Rotation). RotationActs supply x grants [] (rotate_with key new_key supply.now grants found)) chosen (rotation_acts supply key new_key grants [] found small) in
+    (all.1, all.2)
+
+-- what is done, as the code has it
+pub rotation_done : (entry : EntrySupply) (rules : Setup) (next : ℕ) (key value key' value' : Text) (new_key : Option Text) (grants : List GrantRow) (tokens : List TokenRow) (found : Option TokenRow)
+    (r chosen : Rotation) → entry.first < 2 ^ 63 → key' ≡ key → value' ≡ value → found ≡ row_by_manage value' tokens
+    → ((taken : List Text) → r ≡ rotation_of (supply_with entry taken) key' new_key grants found) → r ≡ chosen
+    → RotationActs (row_supply entry.first (tables_in grants tokens) entry.moment entry.words.now) chosen grants tokens (row_action rules next (tables_in grants tokens) entry.moment (Rotate key value new_key))
+rotation_done entry rules next key value key' value' new_key grants tokens found r chosen small same_key same_value found_is says is =
+    let supply : Supply = row_supply entry.first (tables_in grants tokens) entry.moment entry.words.now in
+    let e : chosen ≡ rotation_of supply key new_key grants (row_by_manage value tokens) =
+    sym is ∙ says supply.taken ∙ ap (λ (k : Text). rotation_of supply k new_key grants found) same_key
+    ∙ ap (λ (x : Option TokenRow). rotation_of supply key new_key grants x) (found_is ∙ ap (λ (v : Text). row_by_manage v tokens) same_value) in
     subst (λ (x : Rotation). RotationActs supply x grants tokens (rotate_with key new_key supply.now grants (row_by_manage value tokens))) (sym e)
     (rotation_acts supply key new_key grants tokens (row_by_manage value tokens) small)

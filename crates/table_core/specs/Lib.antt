@@ -8,3 +8,4 @@ pub mod Fronts
 pub mod Continued
 pub mod Askings
 pub mod Planned
+pub mod Renumbered

@@ -7,7 +7,7 @@ ghost use Rattle.table_core.specs.CallEffects.{tables_in, moved, HasRoom, Answer
 ghost use Rattle.table_core.specs.Frugal.{IsFrugal};
 ghost use Rattle.table_core.specs.Planned.{IsPlanned};
 ghost use Rattle.table_core.specs.StandsInTables.{StandsInTables};
-ghost use Rattle.table_core.proofs.Renumbered.{stands-renumbered};
+ghost use Rattle.table_core.specs.Renumbered.{stands-renumbered};
 
 use crate::answered::Answered;
 use crate::cancelling::cancel;

@@ -1,5 +1,5 @@
 -- What tables stand for doesn't look at the numbers in entries.
-use Rattle.std.proofs.Common.{ℕ, List}
+use Rattle.std.specs.Prelude.{ℕ, List}
 use Rattle.histories.specs.History.{Renumbered}
 use Rattle.gnap_model.specs.declared.objects.Setup.{Setup}
 use Rattle.gnap_model.specs.Notes.{Event}
