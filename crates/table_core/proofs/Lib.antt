@@ -1,6 +1,7 @@
 pub mod CancelledGrants
+pub mod CarriedChanges
 pub mod FoundInteractions
-pub mod Issuing
+pub mod IssuedTokens
 pub mod ModifyingPlans
 pub mod OpeningPlans
 pub mod PlanLemmas

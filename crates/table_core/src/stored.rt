@@ -11,11 +11,13 @@ use gnap_tables::rows::{Round, TokenRow};
 pub fn stored_token(token: TokenNote) -> TokenRow
     ensures { result ≡ new_token token }
 {
+    let value = token.value;
+    let manage = token.manage;
     TokenRow {
         serial: token.serial,
         grant: token.grant,
-        value: token.value,
-        manage: token.manage,
+        value,
+        manage,
         label: token.label,
         rights: token.rights,
         bearer: token.bearer,
@@ -30,8 +32,9 @@ pub fn stored_token(token: TokenNote) -> TokenRow
 pub fn stored_round(round: RoundNote) -> Round
     ensures { result ≡ round_row 0 None round }
 {
+    let handle = round.handle;
     Round {
-        handle: round.handle,
+        handle,
         code: round.code,
         nonce: round.nonce,
         modes: round.modes,

@@ -2,7 +2,7 @@ use Rattle.std.proofs.Common.{◌+◌, ◌∷◌, [], take, refl, ap, ◌∙◌,
 use Rattle.std.specs.Global.{Box}
 use Rattle.std.proofs.lemmas.List.{map-append}
 use Rattle.gnap_model.specs.Actions.{tokens_for, token_out}
-use Rattle.table_core.proofs.Issuing.{issued_more, made_more}
+use Rattle.table_core.proofs.IssuedTokens.{issued_more, made_more}
 use Rattle.gnap_tables.specs.declared.rows.TokenRow.{TokenRow}
 use Rattle.gnap_tables.specs.RowSearches.{opening_of}
 use Rattle.gnap_tables.specs.Tables.{new_token}
