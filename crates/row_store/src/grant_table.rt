@@ -114,16 +114,7 @@ fn door_grant(doors: &[DoorPlace], at: usize, serial: u64) -> Option<u64>
 fn with_door<'a>(row: Option<&'a GrantRow>, value: &[u8]) -> Option<&'a GrantRow>
     ensures { option_map (λ row. row.now) result ≡ option_and_then (λ (row : GrantRow). some_if (same_text row.door value.now) row) (option_map (λ row. row.now) row.entry) }
 {
-    match row {
-        Some(row) => {
-            if row.door.as_slice() == value {
-                Some(row)
-            } else {
-                None
-            }
-        }
-        None => None,
-    }
+    row.filter(|row| row.door.as_slice() == value)
 }
 
 // The last row with the interaction of this name.

@@ -68,32 +68,14 @@ fn row_at(places: &[TokenPlace], at: usize) -> Option<&TokenRow>
 fn with_value<'a>(row: Option<&'a TokenRow>, value: &[u8]) -> Option<&'a TokenRow>
     ensures { option_map (λ row. row.now) result ≡ option_and_then (λ (row : TokenRow). some_if (same_text row.value value.now) row) (option_map (λ row. row.now) row.entry) }
 {
-    match row {
-        Some(row) => {
-            if row.value.as_slice() == value {
-                Some(row)
-            } else {
-                None
-            }
-        }
-        None => None,
-    }
+    row.filter(|row| row.value.as_slice() == value)
 }
 
 // The row, where it has this management value.
 fn with_manage<'a>(row: Option<&'a TokenRow>, value: &[u8]) -> Option<&'a TokenRow>
     ensures { option_map (λ row. row.now) result ≡ option_and_then (λ (row : TokenRow). some_if (same_text row.manage value.now) row) (option_map (λ row. row.now) row.entry) }
 {
-    match row {
-        Some(row) => {
-            if row.manage.as_slice() == value {
-                Some(row)
-            } else {
-                None
-            }
-        }
-        None => None,
-    }
+    row.filter(|row| row.manage.as_slice() == value)
 }
 
 // The row is live.

@@ -1,4 +1,5 @@
 pub mod CancelledGrants
+pub mod CarriedChanges
 pub mod FoundInteractions
 pub mod ModifyingPlans
 pub mod OpeningPlans

@@ -1,6 +1,6 @@
 -- What plans come to: of each action the reply, the tables after its notes, and what they count.
 use Rattle.std.proofs.Common.{ℕ, ◌≡◌, ◌≤◌, ◌<◌, ◌+◌, ◌*◌, ◌^◌, Bool, true, false, List, [], ◌∷◌, ◌++◌, length, map, refl, sym, ◌∙◌, ap, subst, arith, append-nil, length-append, Option, Some, None}
-use Rattle.std.specs.Prelude.{Result, IfOk, is_some, option_map, slice_index, if◌then◌else◌, ◌==◌}
+use Rattle.std.specs.Prelude.{Result, Ok, Err, IfOk, OnOk, is_some, option_map, slice_index, if◌then◌else◌, ◌==◌}
 use Rattle.std.specs.Global.{Box}
 use Rattle.std.specs.List.{count_by, flat_map}
 use Rattle.std.specs.Option.{option_to_list}
@@ -42,7 +42,8 @@ use Rattle.table_core.specs.Plans.{Plans, nothing_with, rows_in, carried, opened
 use Rattle.table_core.specs.declared.answered.Answered.{Answered}
 use Rattle.table_core.specs.declared.entering.Entering.{Entering}
 use Rattle.table_core.specs.declared.entering.Plan.{Plan}
-use Rattle.table_core.specs.declared.entering.TableChange.TheVariants.{Alter, End, Renew}
+use Rattle.table_core.specs.declared.entering.TableChange.{TableChange}
+use Rattle.table_core.specs.declared.entering.TableChange.TheVariants.{Nothing, Open, Alter, End, Renew, Pend}
 
 -- ---- a plan that was carried out, and another name of its action
 
@@ -55,6 +56,27 @@ carried_acts entering action plan after answered plans is becomes = record {
   opened = ap (λ (a : Answered). a.opened) is ∙ plans.opened;
   drawn = ap (λ (a : Answered). a.drawn) is ∙ plans.drawn;
 }
+
+-- the same of what may run out of memory
+pub carried_ok : (entering : Entering) (action : Action) (plan : Plan) (after : Tables) (result : Result Answered Mem) → Plans entering action plan
+    → IfOk result (λ (answered : Answered). answered ≡ record { reply = plan.reply; opened = opened_by plan.change; drawn = plan.drawn }) → OnOk result (after ≡ carried plan.change (tables entering))
+    → IfOk result (ActsBy (supply entering) action (tables entering) after)
+carried_ok entering action plan after (Ok answered) plans is becomes = carried_acts entering action plan after answered plans is becomes
+carried_ok entering action plan after (Err e) plans is becomes = tt
+
+opened_once : (change : TableChange) → opened_by change ≤ 1
+opened_once Nothing = omega arith
+opened_once (Open row serial tokens) = omega arith
+opened_once (End number) = omega arith
+opened_once (Alter number change) = omega arith
+opened_once (Renew renewal) = omega arith
+opened_once (Pend terms round door serial earliest) = omega arith
+
+pub counted_few : (plan : Plan) (result : Result Answered Mem) → plan.drawn ≤ 17
+    → IfOk result (λ (answered : Answered). answered ≡ record { reply = plan.reply; opened = opened_by plan.change; drawn = plan.drawn })
+    → IfOk result (λ (answered : Answered). (answered.opened ≤ 1) × (answered.drawn ≤ 17))
+counted_few plan (Ok answered) few is = rw is (opened_once plan.change, few)
+counted_few plan (Err e) few is = tt
 
 pub plan_as : (entering : Entering) (plan : Plan) (a b : Action) → a ≡ b → Plans entering a plan → Plans entering b plan
 plan_as entering plan a b same plans = subst (λ (x : Action). Plans entering x plan) same plans

@@ -1,12 +1,13 @@
 -- Rows of tokens with rising serials, appended one by one.
-use Rattle.std.proofs.Common.{ℕ, suc, ◌≡◌, ◌≤◌, ◌<◌, ◌+◌, List, [], ◌∷◌, ◌++◌, length, map, refl, sym, ◌∙◌, ap, subst, arith, append_assoc}
+use Rattle.std.proofs.Common.{ℕ, suc, Bool, true, false, ◌≡◌, ◌≤◌, ◌<◌, ◌+◌, List, [], ◌∷◌, ◌++◌, length, map, refl, sym, ◌∙◌, ap, subst, arith, append_assoc}
+use Rattle.std.specs.Prelude.{not, ◌==◌}
 use Rattle.std.specs.Global.{Box}
 use Rattle.std.specs.List.{All}
 use Rattle.std.proofs.lemmas.List.{map-append}
-use Rattle.std.proofs.lemmas.List.Elements.{All-push}
+use Rattle.std.proofs.lemmas.List.Elements.{All-filter, All-push}
 use Rattle.gnap_tables.specs.declared.rows.TokenRow.{TokenRow}
 use Rattle.row_store.specs.Tokens.{IsTokenRow}
-use Rattle.table_core.specs.Plans.{rows_in, RiseFrom}
+use Rattle.table_core.specs.Plans.{rows_in, RiseFrom, unretired}
 
 -- the number from which on serials are free after these rows
 abbrev pub free_after : ℕ → List TokenRow → ℕ
@@ -48,3 +49,9 @@ rows_below first rows after yielded box le below is =
     (subst (λ (rs : List TokenRow). All (λ (row : TokenRow). row.serial < box.value.serial + 1) rs) (sym is)
     (All-push (λ (row : TokenRow). row.serial < box.value.serial + 1) rows box.value
     (row_above rows (free_after first (rows_in yielded)) (box.value.serial + 1) (omega arith) below) (omega arith)))
+
+-- the rows that are left are below too
+pub unretired_below : (retires : Bool) (number first : ℕ) (rows : List TokenRow) → All (λ (row : TokenRow). row.serial < first) rows
+    → All (λ (row : TokenRow). row.serial < first) (unretired retires number rows)
+unretired_below true number first rows below = All-filter (λ (row : TokenRow). not (number == row.grant)) (λ (row : TokenRow). row.serial < first) rows below
+unretired_below false number first rows below = below

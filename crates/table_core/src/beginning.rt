@@ -10,7 +10,7 @@ ghost use Rattle.gnap_tables.specs.ActionsByRows.{begin_rows, row_action};
 ghost use Rattle.table_core.specs.Entries.{tables};
 ghost use Rattle.table_core.specs.Plans.{Plans};
 
-use crate::asking::{Asking, ask};
+use crate::asking::ask;
 use crate::entering::{Entering, Plan, TableChange, refused};
 use crate::issuing::grant;
 use crate::stored::stored_round;
@@ -133,17 +133,18 @@ fn open_asking(
 {
     let terms = terms(opening.grant, request)?;
     let instance = instance_of(&opening)?;
-    let Asking {
-        reply,
-        drawn,
-        door,
-        round,
-    } = ask(alloc, entering, opening.grant, opening.end, modes, instance)?;
-    let mut row = opened_row(alloc, opening, terms, door, entering.supply.moment + WAIT);
-    pend(&mut row, round);
+    let asking = ask(alloc, entering, opening.grant, opening.end, modes, instance)?;
+    let mut row = opened_row(
+        alloc,
+        opening,
+        terms,
+        asking.door,
+        entering.supply.moment + WAIT,
+    );
+    pend(&mut row, asking.round);
     Ok(Plan {
-        reply,
-        drawn,
+        reply: asking.reply,
+        drawn: asking.drawn,
         change: TableChange::Open {
             row: Box::new(alloc, row)?,
             serial: entering.supply.first,

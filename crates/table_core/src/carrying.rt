@@ -4,7 +4,7 @@ ghost use Rattle.std.specs.List.{All};
 ghost use Rattle.gnap_tables.specs.declared.rows.TokenRow.{TokenRow};
 ghost use Rattle.row_store.specs.Grants.{BeginsWith};
 ghost use Rattle.table_core.specs.CallEffects.{HasRoom, tables_in};
-ghost use Rattle.table_core.specs.Plans.{rows_in, RiseFrom, retermed, approved, carried, opened_by, renewed, pended, CanCarry};
+ghost use Rattle.table_core.specs.Plans.{rows_in, RiseFrom, retermed, approved, unretired, carried, opened_by, renewed, pended, CanCarry};
 
 use crate::answered::Answered;
 use crate::entering::{NewTokens, Plan, Renewal, TableChange};
@@ -56,6 +56,16 @@ fn approve(grants: &mut GrantTable, number: u64, consent: Option<Rights>)
     }
 }
 
+// The tokens that the grant had are retired, where they are to be.
+fn retire_old(tokens: &mut TokenTable, retires: bool, number: u64)
+    ensures rows { tokens.new.rows ≡ unretired retires number tokens.old.rows }
+    ensures spare { tokens.old.spare ≤ tokens.new.spare }
+{
+    if retires {
+        tokens.retire_all(number);
+    }
+}
+
 // A grant goes on with a new continuation value.
 fn renew(grants: &mut GrantTable, tokens: &mut TokenTable, first: u64, renewal: Renewal)
     requires room { 0 < grants.old.spare }
@@ -81,9 +91,7 @@ fn renew(grants: &mut GrantTable, tokens: &mut TokenTable, first: u64, renewal: 
     put_terms(grants, number, terms);
     approve(grants, number, consent);
     grants.renew_door(number, door, serial, earliest);
-    if retires {
-        tokens.retire_all(number);
-    }
+    retire_old(tokens, retires, number);
     issue_all(tokens, rows, first);
 }
 

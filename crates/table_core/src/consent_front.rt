@@ -53,9 +53,8 @@ fn hand(entering: &Entering, row: &GrantRow, round: &Round) -> Plan
     ensures { Plans entering.now (ShowHandle (round_of row.now.number round.now)) result }
 {
     let _seen = (entering, row);
-    told(Reply::Handle {
-        handle: round.handle,
-    })
+    let handle = round.handle;
+    told(Reply::Handle { handle })
 }
 
 /// The handle of the row's round.

@@ -1,5 +1,5 @@
 //! The continuation of a grant, by a poll or with an interaction reference (RFC 9635, sections 5.1 and 5.2).
-ghost use Rattle.std.specs.Prelude.{◌≤◌, option_map, length, IfOk, Some, None};
+ghost use Rattle.std.specs.Prelude.{◌≡◌, ◌≤◌, option_map, if◌then◌else◌, length, IfOk, Some, None};
 ghost use Rattle.std.specs.List.{All};
 ghost use Rattle.gnap_tables.specs.declared.rows.GrantRow.{GrantRow};
 ghost use Rattle.gnap_model.specs.Actions.Action.{RenewDoor, RefuseAndFinalize, WrongReference, LastWrongReference};
@@ -58,6 +58,17 @@ fn renew(alloc: Global, entering: &Entering, row: &GrantRow) -> Plan
     }
 }
 
+// The identifier that the user lets the client have, where it asked for one.
+fn subject_told(row: &GrantRow, decision: &Decision) -> Result<Option<Bytes>, Mem>
+    ensures { IfOk result (λ subject. subject ≡ (if row.now.subject then decision.now.subject else None)) }
+{
+    if row.subject {
+        decision.subject.copy()
+    } else {
+        Ok(None)
+    }
+}
+
 // The tokens for what the user granted are issued, if that doesn't pass the limit (RFC 9635, section 5.1).
 fn collect_grant(
     alloc: Global,
@@ -76,11 +87,7 @@ fn collect_grant(
     {
         return Ok(refused(entering, ErrorCode::RequestDenied));
     }
-    let subject = if row.subject {
-        decision.subject.copy()?
-    } else {
-        None
-    };
+    let subject = subject_told(row, decision)?;
     let granting = grant(
         alloc,
         entering,
@@ -90,6 +97,7 @@ fn collect_grant(
         subject,
         None,
     )?;
+    let door = entering.supply.value(2 * count);
     Ok(Plan {
         reply: granting.reply,
         drawn: 2 * count as u64 + 1,
@@ -98,7 +106,7 @@ fn collect_grant(
             retires: false,
             terms: None,
             consent: Some(decision.rights.copy()?),
-            door: entering.supply.value(2 * count),
+            door,
             serial: entering.supply.first + 2 * count as u64,
             earliest: entering.supply.moment + WAIT,
             tokens: granting.tokens,

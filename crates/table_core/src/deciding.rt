@@ -1,5 +1,5 @@
 //! The consent front hands in the user's decision (RFC 9635, section 4).
-ghost use Rattle.std.specs.Prelude.{◌≡◌, option_map, is_some, IfOk};
+ghost use Rattle.std.specs.Prelude.{◌≡◌, option_map, is_some, if◌then◌else◌, IfOk};
 ghost use Rattle.gnap_model.specs.Asked.{asked_rights};
 ghost use Rattle.gnap_model.specs.Actions.Action.{TakeDecision};
 ghost use Rattle.gnap_model.specs.Front.{decide_on as decided_on};
@@ -28,6 +28,13 @@ fn reference_in(finish: &Option<FinishOut>) -> Option<[u8; 32]>
     }
 }
 
+// How many values are drawn: the reference, where the front is told of one.
+fn reference_count(finish: &Option<FinishOut>) -> u64
+    ensures { result ≡ (if is_some finish.now then 1 else 0) }
+{
+    if finish.is_some() { 1 } else { 0 }
+}
+
 // The round is decided. Where it has a finish, an interaction reference is drawn (RFC 9635, section 4.2).
 fn hand_in(
     entering: &Entering,
@@ -39,7 +46,7 @@ fn hand_in(
     ensures { IfOk result (Plans entering.now (TakeDecision (round_of row.now.number round.now) rights request.now)) }
 {
     let finish = entering.supply.ending(&round.modes.finish, round.nonce)?;
-    let drawn = if finish.is_some() { 1 } else { 0 };
+    let drawn = reference_count(&finish);
     let decision = Decision {
         verdict: request.verdict,
         reference: reference_in(&finish),

@@ -88,9 +88,10 @@ pub fn grant(
     ensures tokens { IfOk result (λ granting. rows_in granting.tokens ≡ map new_token (tokens_for (supply entering.now) (opening_of row.now) asks.now 0)) }
 {
     let issued = issue(alloc, entering, row, asks)?;
+    let door = entering.supply.value(2 * asks.len());
     Ok(Granting {
         reply: Reply::Granted {
-            door: entering.supply.value(2 * asks.len()),
+            door,
             tokens: issued.told,
             single,
             subject,

@@ -9,7 +9,7 @@ ghost use Rattle.gnap_tables.specs.ActionsByRows.{modify_rows, rows_of_grant, ro
 ghost use Rattle.table_core.specs.Entries.{tables};
 ghost use Rattle.table_core.specs.Plans.{Plans};
 
-use crate::asking::{Asking, ask};
+use crate::asking::ask;
 use crate::entering::{Entering, Plan, Renewal, TableChange, refused};
 use crate::issuing::grant;
 use gnap_io::bytes::Bytes;
@@ -42,6 +42,7 @@ fn grant_anew(
         None,
         None,
     )?;
+    let door = entering.supply.value(2 * count);
     Ok(Plan {
         reply: granting.reply,
         drawn: 2 * count as u64 + 1,
@@ -50,7 +51,7 @@ fn grant_anew(
             retires: true,
             terms: Some(terms(row.number, request)?),
             consent: Some(row.consent.copy()?),
-            door: entering.supply.value(2 * count),
+            door,
             serial: entering.supply.first + 2 * count as u64,
             earliest: entering.supply.moment + WAIT,
             tokens: granting.tokens,
@@ -90,18 +91,14 @@ fn modify_asking(
     ensures { IfOk result (Plans entering.now (ModifyAsking (opening_of row.now) (map token_of (rows_of_grant row.now.number (tables entering.now).tokens)) request.now modes.now)) }
 {
     let _rows = entering.tokens.len();
-    let Asking {
-        reply,
-        drawn,
-        door,
-        round,
-    } = ask(alloc, entering, row.number, row.end, modes, None)?;
+    let asking = ask(alloc, entering, row.number, row.end, modes, None)?;
+    let door = asking.door;
     Ok(Plan {
-        reply,
-        drawn,
+        reply: asking.reply,
+        drawn: asking.drawn,
         change: TableChange::Pend {
             terms: terms(row.number, request)?,
-            round,
+            round: asking.round,
             door,
             serial: entering.supply.first,
             earliest: entering.supply.moment + WAIT,
