@@ -7,6 +7,8 @@ mod client_configs;
 #[cfg(test)]
 mod grant_texts;
 #[cfg(test)]
+mod guarded_requests;
+#[cfg(test)]
 mod message_files;
 #[cfg(test)]
 mod read_replies;
@@ -22,3 +24,5 @@ mod script_lines;
 mod served_messages;
 #[cfg(test)]
 mod services;
+#[cfg(test)]
+mod shown_resources;

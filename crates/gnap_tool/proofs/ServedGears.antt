@@ -14,7 +14,7 @@ use Rattle.gnap_io.specs.Worlds.{WorldState, with_opening, with_gears}
 use Rattle.gnap_io.specs.Openings.{Gives, gears_in, new_files}
 use Rattle.gnap_io.proofs.OpeningLemmas.{gives-gears, back-all}
 use Rattle.gnap_model.specs.declared.objects.Setup.{Setup}
-use Rattle.as_service.specs.Services.{has_failed, IsUsedUp, IsService, not_started, served}
+use Rattle.as_service.specs.Services.{has_failed, IsUsedUp, IsEndOfService, IsService, not_started, served}
 use Rattle.gnap_tool.specs.declared.ended.Ended.{Ended}
 use Rattle.gnap_tool.specs.declared.ended.Ended.TheVariants.{Done, Failed, Memory}
 use Rattle.gnap_tool.specs.Runs.{ended_service, NothingFailed, UsesWorld, new_openings}
@@ -80,13 +80,18 @@ module _ (address : List ℕ) (n quota : ℕ) (before after : WorldState) (gears
     to_end = λ is. absurd cc;
   }
 
+pub gears_used : (address : List ℕ) (n quota : ℕ) (before after : WorldState) (gears : List GearState) (answer : Result (Unit {0}) WorldFault)
+    → after ≡ with_gears gears (with_opening (Gears address n quota) before) → length gears ≡ n → IsEndOfService gears answer
+    → UsesWorld (Gears address n quota ∷ []) None before after (ended_service answer)
+gears_used address n quota before after gears (Ok done) back many ended =
+    whole address n quota before after gears back many Done (used_unfailed gears ended) (λ is. absurd cc) (inl refl)
+gears_used address n quota before after gears (Err faults.Failed) back many ended =
+    broken address n quota before after gears back many (failed_gears gears (Any-from_list_any has_failed gears ended))
+gears_used address n quota before after gears (Err faults.OutOfMemory) back many ended =
+    whole address n quota before after gears back many Memory (unused_unfailed gears ended) (λ is. absurd cc) (inr refl)
+
 pub service_used : (setup : Setup) (address : List ℕ) (n quota : ℕ) (before after : WorldState) (answer : Result (Unit {0}) WorldFault)
     → IsService setup address n quota before after answer → UsesWorld (Gears address n quota ∷ []) None before after (ended_service answer)
 service_used setup address n quota before after (Err faults.Failed) (not_started _ same cause) = unopened_failed (Gears address n quota ∷ []) None before after same cause
 service_used setup address n quota before after (Err faults.OutOfMemory) (not_started _ same cause) = unopened_starved (Gears address n quota ∷ []) None before after same cause
-service_used setup address n quota before after (Ok done) (served _ gears back many are ended) =
-    whole address n quota before after gears back many Done (used_unfailed gears ended) (λ is. absurd cc) (inl refl)
-service_used setup address n quota before after (Err faults.Failed) (served _ gears back many are ended) =
-    broken address n quota before after gears back many (failed_gears gears (Any-from_list_any has_failed gears ended))
-service_used setup address n quota before after (Err faults.OutOfMemory) (served _ gears back many are ended) =
-    whole address n quota before after gears back many Memory (unused_unfailed gears ended) (λ is. absurd cc) (inr refl)
+service_used setup address n quota before after answer (served _ gears back many are ended) = gears_used address n quota before after gears answer back many ended

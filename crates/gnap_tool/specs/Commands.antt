@@ -4,9 +4,9 @@ use Rattle.std.specs.List.{list_all}
 use Rattle.std.specs.Str.{bytes_eq}
 use Rattle.gnap_io.specs.Gears.{last_moment}
 use Rattle.gnap_io.specs.declared.world.Opening.{Opening}
-use Rattle.gnap_io.specs.declared.world.Opening.TheVariants.{File, Gears}
+use Rattle.gnap_io.specs.declared.world.Opening.TheVariants.{File, Gears, Link}
 use Rattle.gnap_tool.specs.declared.command.Command.{Command}
-use Rattle.gnap_tool.specs.declared.command.Command.TheVariants.{Replay, Field, Sign, Verify, As, Hash}
+use Rattle.gnap_tool.specs.declared.command.Command.TheVariants.{Replay, Field, Sign, Verify, As, Rs, Client, Hash}
 use Rattle.gnap_tool.specs.declared.fields.Kind.{Kind}
 use Rattle.gnap_tool.specs.declared.fields.Kind.TheVariants.{Item, List as AList, Dictionary}
 use Rattle.gnap_tool.specs.Numbers.{number_within}
@@ -63,6 +63,14 @@ as_words config listen workers quota =
     if are_arguments (config ∷ listen ∷ [])
     then option_and_then (λ n. option_map (λ most. As config listen n most) (number_within 0 1000000 quota)) (number_within 1 64 workers) else None
 
+-- at most 1,000,000 connections
+abbrev pub rs_words : List ℕ → List ℕ → List ℕ → List ℕ → Option Command
+rs_words config listen server quota =
+    if are_arguments (config ∷ listen ∷ server ∷ []) then option_map (λ most. Rs config listen server most) (number_within 0 1000000 quota) else None
+
+abbrev pub client_words : List ℕ → List ℕ → List ℕ → Option Command
+client_words config address script = if are_arguments (config ∷ address ∷ script ∷ []) then Some (Client config address script) else None
+
 -- whether a hash method is the long one (RFC 9635, section 4.2.3), where the word names one
 abbrev pub long_method : List ℕ → Option Bool
 long_method word = if bytes_eq word (codes "sha-256") then Some false else if bytes_eq word (codes "sha-512") then Some true else None
@@ -85,6 +93,8 @@ command_of (name ∷ arguments) =
     else if bytes_eq name (codes "sign") then with_four sign_words arguments
     else if bytes_eq name (codes "verify") then with_three verify_words arguments
     else if bytes_eq name (codes "as") then with_four as_words arguments
+    else if bytes_eq name (codes "rs") then with_four rs_words arguments
+    else if bytes_eq name (codes "client") then with_three client_words arguments
     else if bytes_eq name (codes "hash") then hash_of arguments
     else None
 
@@ -99,6 +109,8 @@ IsWithinRanges (Field kind file) = Unit {0}
 IsWithinRanges (Sign config key created file) = created ≤ last_moment
 IsWithinRanges (Verify config now file) = now ≤ last_moment
 IsWithinRanges (As config listen workers quota) = (1 ≤ workers) × (workers ≤ 64)
+IsWithinRanges (Rs config listen server quota) = Unit {0}
+IsWithinRanges (Client config address script) = Unit {0}
 IsWithinRanges (Hash texts) = Unit {0}
 
 -- ---- what they open
@@ -110,6 +122,8 @@ openings_of (Field kind file) = File file ∷ []
 openings_of (Sign config key created file) = File config ∷ File file ∷ []
 openings_of (Verify config now file) = File config ∷ File file ∷ []
 openings_of (As config listen workers quota) = File config ∷ Gears listen workers quota ∷ []
+openings_of (Rs config listen server quota) = File config ∷ Link server ∷ Gears listen 1 quota ∷ []
+openings_of (Client config address script) = File config ∷ Link address ∷ File script ∷ []
 openings_of (Hash texts) = []
 
 -- which of the files that a command opens is the input that may be too long, counted from 0; none where it has no such input
@@ -119,4 +133,6 @@ input_place (Field kind file) = Some 0
 input_place (Sign config key created file) = None
 input_place (Verify config now file) = None
 input_place (As config listen workers quota) = None
+input_place (Rs config listen server quota) = None
+input_place (Client config address script) = Some 1
 input_place (Hash texts) = None

@@ -1,7 +1,7 @@
 -- What a replay does with the lines of its file, and what it prints.
-use Rattle.std.specs.Prelude.{◌≡◌, ◌⊎◌, ◌≤◌, ℕ, false, List, [], ◌∷◌, ◌++◌, length, nat_lt, Option, Some, None, Result, Ok, Err, if◌then◌else◌}
+use Rattle.std.specs.Prelude.{◌≡◌, ◌≤◌, ℕ, false, List, [], ◌∷◌, ◌++◌, length, nat_lt, Option, Some, None, Result, Ok, Err, if◌then◌else◌}
 use Rattle.gnap_io.specs.Outside.{Told, Writes}
-use Rattle.histories.specs.Turns.{Turn, Face, IsTurn, Each, AllOn, OneMore, Cut, messages_in, entries_in, bytes_in}
+use Rattle.histories.specs.Turns.{Turn, Face, IsTurn, Each, messages_in, entries_in}
 use Rattle.histories.specs.Whole.{OneHistory}
 use Rattle.gnap_model.specs.declared.objects.Setup.{Setup}
 use Rattle.gnap_model.specs.declared.calls.Call.{Call}
@@ -15,6 +15,7 @@ use Rattle.gnap_tool.specs.declared.ended.Ended.{Ended}
 use Rattle.gnap_tool.specs.declared.ended.Ended.TheVariants.{Done, NoSetup, Failed, WriteFault, Memory, Refused, TooLong}
 use Rattle.gnap_tool.specs.CallLines.{line_step}
 use Rattle.gnap_tool.specs.Lines.{IsLine, lines_of, whole_lines}
+use Rattle.gnap_tool.specs.LineRuns.{EndsAs}
 use Rattle.gnap_tool.specs.ReplyLines.{reply_line}
 
 -- ---- lines
@@ -34,17 +35,6 @@ line_face = record {
 
 abbrev pub IsLineTurn : Setup → LineTurn → Type 0
 IsLineTurn setup = IsTurn gnap line_face setup false
-
--- How a replay ended, by its turns, the lines that were read whole, the lines that had no turn, and what was printed. Memory ran out at the last
--- of the turns, or at none. Where the reading failed, or came to the limit, all lines that were read whole had had their turns.
-abbrev pub EndsAs : Ended → List LineTurn → List (List ℕ) → List (List ℕ) → List ℕ → Type 0
-EndsAs Done turns whole later sent = AllOn turns × (later ≡ []) × (sent ≡ bytes_in turns)
-EndsAs (NoSetup why) turns whole later sent = ⊥
-EndsAs Refused turns whole later sent = ⊥
-EndsAs WriteFault turns whole later sent = (front : List LineTurn) × (last : LineTurn) × OneMore AllOn turns front last × Cut sent (bytes_in front) last.bytes
-EndsAs Memory turns whole later sent = (sent ≡ bytes_in turns) × (AllOn turns ⊎ ((front : List LineTurn) × (last : LineTurn) × OneMore AllOn turns front last))
-EndsAs Failed turns whole later sent = AllOn turns × (sent ≡ bytes_in turns) × (whole ≡ messages_in turns)
-EndsAs TooLong turns whole later sent = AllOn turns × (sent ≡ bytes_in turns) × (whole ≡ messages_in turns)
 
 -- The account of a replay: these entries are those of the turns of its first lines, in order, and this was printed.
 pub record IsReplay (setup : Setup) (whole lines : List (List ℕ)) (sent : List ℕ) (ended : Ended) (own : List GnapEntry) : Type 0 where

@@ -3,22 +3,27 @@ use Rattle.std.specs.Prelude.{◌≡◌, ◌≢◌, ◌<◌, ◌≤◌, ◌^◌,
 use Rattle.std.specs.Io.BufRead.{strip_last}
 use Rattle.gnap_io.specs.Outside.{Told, Served, Leaves, IsAtEnd, IsRest, Rose}
 use Rattle.gnap_io.specs.declared.world.Opening.{Opening}
+use Rattle.gnap_io.specs.Links.{LinkState}
 use Rattle.gnap_io.specs.Worlds.{WorldState}
 use Rattle.gnap_io.specs.declared.world.WorldFault.{WorldFault}
 use Rattle.gnap_io.specs.declared.world.WorldFault.TheVariants as faults
 use Rattle.as_service.specs.Services.{IsService}
 use Rattle.gnap_io.specs.Openings.{Gives, GivesBack, gears_in, new_files}
 use Rattle.gnap_tool.specs.declared.command.Command.{Command}
-use Rattle.gnap_tool.specs.declared.command.Command.TheVariants.{Replay, Field, Sign, Verify, As, Hash}
+use Rattle.gnap_tool.specs.declared.command.Command.TheVariants.{Replay, Field, Sign, Verify, As, Rs, Client, Hash}
 use Rattle.gnap_tool.specs.declared.purpose.Purpose.{Purpose}
 use Rattle.gnap_tool.specs.declared.purpose.Purpose.TheVariants as purposes
 use Rattle.gnap_tool.specs.declared.ended.Ended.{Ended}
 use Rattle.gnap_tool.specs.declared.ended.Ended.TheVariants.{Done, NoSetup, Failed, WriteFault, Memory, Refused, TooLong}
 use Rattle.gnap_tool.specs.Ends.{status_of, Took}
+use Rattle.gnap_tool.specs.ClientFiles.{client_config_in, RunsClient}
 use Rattle.gnap_tool.specs.Fields.{PrintsField}
 use Rattle.gnap_tool.specs.HashLines.{PrintsHash}
 use Rattle.gnap_tool.specs.Printing.{PrintsFor}
+use Rattle.gnap_tool.specs.ResourceFiles.{rs_setup_in}
 use Rattle.gnap_tool.specs.Replays.{ReplaysFile, setup_limit, setup_in}
+use Rattle.resource_server.specs.declared.setup.RsSetup.{RsSetup}
+use Rattle.rs_edge.specs.RsServices.{IsRsService}
 use Rattle.signed_files.specs.SignedText.{SignsFile}
 use Rattle.signed_files.specs.Verdicts.{VerifiesFile}
 use Rattle.gnap_model.specs.declared.objects.Setup.{Setup}
@@ -60,7 +65,7 @@ input_of (purposes.Verify setup now) = None
 -- ---- a setup in a file of its own, before what follows
 
 -- without a file there is no setup, for a fault or for want of memory
-abbrev pub HasNoConfig : Result Setup Ended → Type 0
+abbrev pub HasNoConfig : {X : Type 0} → Result X Ended → Type 0
 HasNoConfig result = (result ≡ Err Failed) ⊎ (result ≡ Err Memory)
 
 -- Without a setup nothing more is done: its text was read and is none, or the reading failed within the limit, or memory ran out.
@@ -73,19 +78,19 @@ EndsWithoutConfig WriteFault taken = ⊥
 EndsWithoutConfig Refused taken = ⊥
 EndsWithoutConfig TooLong taken = ⊥
 
--- What follows a file of which these bytes were taken, by the setup that its text is.
-abbrev pub Follows : Option Setup → List ℕ → WorldState → WorldState → Told → Told → Ended → (Setup → Type 0) → Type 0
+-- What follows a file of which these bytes were taken, by what its text reads as.
+abbrev pub Follows : {S : Type 0} → Option S → List ℕ → WorldState → WorldState → Told → Told → Ended → (S → Type 0) → Type 0
 Follows (Some setup) taken between after out out_now ended Then = Then setup
 Follows None taken between after out out_now ended Then = (after ≡ between) × (out_now ≡ out) × EndsWithoutConfig ended taken
 
--- The setup is a file's whole text. The file wasn't opened, and that is all; or the world has it back, and what follows is by the setup. Where a
--- read of it failed or memory ran out, what follows is that nothing more was opened.
-abbrev pub BySetup : Option (List ℕ) → WorldState → WorldState → Told → Told → Ended → (WorldState → Setup → Type 0) → Type 0
-BySetup text before after out out_now ended Then =
+-- The setup is what a file's whole text reads as. The file wasn't opened, and that is all; or the world has it back, and what follows is by the
+-- setup. Where a read of it failed or memory ran out, what follows is that nothing more was opened.
+abbrev pub BySetup : {S : Type 0} → (List ℕ → Option S) → Option (List ℕ) → WorldState → WorldState → Told → Told → Ended → (WorldState → S → Type 0) → Type 0
+BySetup read text before after out out_now ended Then =
     ((after.files ≡ before.files) × Unopened out out_now ended)
     ⊎ ((config : Served) × (between : WorldState) × (between.files ≡ before.files ++ config ∷ []) × Leaves config.told.taken text config.told.left
     × ((rest : List ℕ) → IsRest config.told rest
-    → Follows (setup_in (config.told.taken ++ rest)) config.told.taken between after out out_now ended (Then between)))
+    → Follows (read (config.told.taken ++ rest)) config.told.taken between after out out_now ended (Then between)))
 
 -- ---- a server at an address
 
@@ -100,6 +105,19 @@ abbrev pub Serves : Setup → List ℕ → ℕ → ℕ → WorldState → WorldS
 Serves setup listen workers quota before after ended = ((after ≡ before) × ((ended ≡ Failed) ⊎ (ended ≡ Memory)))
     ⊎ ((answer : Result (Unit {0}) WorldFault) × (ended ≡ ended_service answer) × IsService setup listen workers quota before after answer)
 
+-- the same of a resource server, with the authorization server at another address
+abbrev pub ServesRs : RsSetup → List ℕ → List ℕ → ℕ → WorldState → WorldState → Ended → Type 0
+ServesRs setup listen server quota before after ended = ((after ≡ before) × ((ended ≡ Failed) ⊎ (ended ≡ Memory)))
+    ⊎ ((answer : Result (Unit {0}) WorldFault) × (ended ≡ ended_service answer) × IsRsService setup listen server quota before after answer)
+
+-- ---- a link to an address
+
+-- A link was to be opened. It wasn't, and that is all; or the world has it back, and P holds of it and of the world as it was opened.
+abbrev pub Linked : WorldState → WorldState → Type 0 → (LinkState → WorldState → Type 0) → Type 0
+Linked before after Unlinked P =
+    ((after.files ≡ before.files) × Unlinked)
+    ⊎ ((link : LinkState) × (opened : WorldState) × (opened.files ≡ before.files) × (after.link ≡ Some link) × P link opened)
+
 -- What a command carries out.
 abbrev pub CarriesOut : Command → (List ℕ → Option (List ℕ)) → WorldState → WorldState → Told → Told → Ended → Type 0
 CarriesOut (Replay file) text before after out out_now ended =
@@ -107,14 +125,21 @@ CarriesOut (Replay file) text before after out out_now ended =
 CarriesOut (Field kind file) text before after out out_now ended =
     Over (text file) before after (Unopened out out_now ended) (λ taken rest. PrintsField kind (strip_last 10 (taken ++ rest)) out out_now ended)
 CarriesOut (Sign config key created file) text before after out out_now ended =
-    BySetup (text config) before after out out_now ended (λ between setup.
+    BySetup setup_in (text config) before after out out_now ended (λ between setup.
     Over (text file) between after (Unopened out out_now ended) (λ taken rest. PrintsFor (SignsFile setup key created (taken ++ rest)) out out_now ended))
 CarriesOut (Verify config now file) text before after out out_now ended =
-    BySetup (text config) before after out out_now ended (λ between setup.
+    BySetup setup_in (text config) before after out out_now ended (λ between setup.
     Over (text file) between after (Unopened out out_now ended) (λ taken rest. PrintsFor (VerifiesFile setup now (taken ++ rest)) out out_now ended))
 CarriesOut (As config listen workers quota) text before after out out_now ended =
-    BySetup (text config) before after out out_now ended (λ between setup.
+    BySetup setup_in (text config) before after out out_now ended (λ between setup.
     (out_now ≡ out) × Serves setup listen workers quota between after ended)
+CarriesOut (Rs config listen server quota) text before after out out_now ended =
+    BySetup rs_setup_in (text config) before after out out_now ended (λ between setup.
+    (out_now ≡ out) × ServesRs setup listen server quota between after ended)
+CarriesOut (Client config address script) text before after out out_now ended =
+    BySetup client_config_in (text config) before after out out_now ended (λ between parts.
+    Linked between after (Unopened out out_now ended) (λ link opened.
+    Over (text script) opened after (Unopened out out_now ended × (link.asked ≡ [])) (λ taken rest. RunsClient parts taken rest link.asked out out_now ended)))
 CarriesOut (Hash texts) text before after out out_now ended = (after ≡ before) × PrintsHash texts out out_now ended
 
 -- the same, of the status that says how it ended

@@ -1,7 +1,7 @@
 //! The commands, and which of them words are.
 ghost use Rattle.std.specs.Prelude.{◌≡◌, ◌≤◌, ℕ, List, Option, None, IfOk, IfSome, IfNone, map, string_bytes};
 ghost use Rattle.gnap_io.specs.Gears.{last_moment};
-ghost use Rattle.gnap_tool.specs.Commands.{IsReadAs, IsWithinRanges, is_argument, kind_of, moment_of, replay_of, field_of, with_three, with_four, sign_words, verify_words, as_words, long_method, hash_of, command_of};
+ghost use Rattle.gnap_tool.specs.Commands.{IsReadAs, IsWithinRanges, is_argument, kind_of, moment_of, replay_of, field_of, with_three, with_four, sign_words, verify_words, as_words, rs_words, client_words, long_method, hash_of, command_of};
 
 use crate::fields::Kind;
 use crate::hash_lines::HashedTexts;
@@ -23,6 +23,10 @@ pub enum Command {
     Verify(Bytes, u64, Bytes),
     /// `as CONFIG LISTEN WORKERS QUOTA`: the authorization server of a setup is served at an address, by so many workers, each for so many connections.
     As(Bytes, Bytes, usize, u32),
+    /// `rs CONFIG LISTEN SERVER QUOTA`: the resource server of a setup is served at an address, for so many connections, and introspects tokens at another.
+    Rs(Bytes, Bytes, Bytes, u32),
+    /// `client CONFIG ADDRESS SCRIPT`: a client of a configuration carries out the lines of a script, with the server at an address.
+    Client(Bytes, Bytes, Bytes),
     /// `hash METHOD CLIENT SERVER REF URI`: the interaction hash of the texts is printed.
     Hash(HashedTexts),
 }
@@ -175,6 +179,42 @@ fn as_of(alloc: Global, arguments: &[String]) -> Result<Option<Command>, Mem>
     Ok(Some(Command::As(config, listen, workers as usize, quota as u32)))
 }
 
+fn client_of(alloc: Global, arguments: &[String]) -> Result<Option<Command>, Mem>
+    ensures read { IsReadAs result (with_three client_words (map string_bytes arguments.now)) }
+    ensures ranges { IfOk result (λ command. IfSome command IsWithinRanges) }
+{
+    let Some((config, address, script)) = three(arguments) else {
+        return Ok(None);
+    };
+    if !(is_argument(config) && is_argument(address) && is_argument(script)) {
+        return Ok(None);
+    }
+    let config = owned(alloc, config)?;
+    let address = owned(alloc, address)?;
+    let script = owned(alloc, script)?;
+    Ok(Some(Command::Client(config, address, script)))
+}
+
+// At most 1,000,000 connections.
+fn rs_of(alloc: Global, arguments: &[String]) -> Result<Option<Command>, Mem>
+    ensures read { IsReadAs result (with_four rs_words (map string_bytes arguments.now)) }
+    ensures ranges { IfOk result (λ command. IfSome command IsWithinRanges) }
+{
+    let Some((config, listen, server, quota)) = four(arguments) else {
+        return Ok(None);
+    };
+    if !(is_argument(config) && is_argument(listen) && is_argument(server)) {
+        return Ok(None);
+    }
+    let Some(quota) = number_within(quota, 0, 1_000_000) else {
+        return Ok(None);
+    };
+    let config = owned(alloc, config)?;
+    let listen = owned(alloc, listen)?;
+    let server = owned(alloc, server)?;
+    Ok(Some(Command::Rs(config, listen, server, quota as u32)))
+}
+
 // Whether a hash method is the long one, where the word names one.
 fn long_method(word: &str) -> Option<bool>
     ensures { result ≡ long_method word.now }
@@ -233,6 +273,8 @@ pub fn command_of(alloc: Global, words: &[String]) -> Result<Option<Command>, Me
         "sign" => sign_of(alloc, arguments),
         "verify" => verify_of(alloc, arguments),
         "as" => as_of(alloc, arguments),
+        "rs" => rs_of(alloc, arguments),
+        "client" => client_of(alloc, arguments),
         "hash" => hash_of(alloc, arguments),
         _ => Ok(None),
     }

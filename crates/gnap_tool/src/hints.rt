@@ -50,9 +50,14 @@ fn tell_setup<E: Sink>(err: &mut E, command: &Command, why: &WrongSetup) {
         ),
         Command::Sign(config, _, _, _)
         | Command::Verify(config, _, _)
-        | Command::As(config, _, _, _) => {
+        | Command::As(config, _, _, _)
+        | Command::Rs(config, _, _, _) => {
             tell(err, &[b"gnap: ", config.as_slice(), b" is no setup: "])
         }
+        Command::Client(config, _, _) => tell(
+            err,
+            &[b"gnap: ", config.as_slice(), b" is no configuration: "],
+        ),
         // It reads none.
         Command::Hash(_) => return,
     }
@@ -83,6 +88,26 @@ fn tell_files<E: Sink>(err: &mut E, command: &Command) {
         Command::As(config, listen, _, _) => {
             tell(err, &[config.as_slice(), b" or ", listen.as_slice()])
         }
+        Command::Rs(config, listen, server, _) => tell(
+            err,
+            &[
+                config.as_slice(),
+                b", ",
+                server.as_slice(),
+                b" or ",
+                listen.as_slice(),
+            ],
+        ),
+        Command::Client(config, address, script) => tell(
+            err,
+            &[
+                config.as_slice(),
+                b", ",
+                address.as_slice(),
+                b" or ",
+                script.as_slice(),
+            ],
+        ),
         Command::Hash(_) => tell(err, &[b"the hash"]),
     }
 }
@@ -103,8 +128,12 @@ fn tell_refusal<E: Sink>(err: &mut E, command: &Command) {
                 b" is refused for what was printed\n",
             ],
         ),
+        Command::Client(_, _, script) => tell(
+            err,
+            &[b"gnap: a line of ", script.as_slice(), b" wasn't ok\n"],
+        ),
         // Nothing that they read is refused.
-        Command::As(_, _, _, _) | Command::Hash(_) => {}
+        Command::As(_, _, _, _) | Command::Rs(_, _, _, _) | Command::Hash(_) => {}
     }
 }
 

@@ -1,7 +1,7 @@
 //! What the program says of itself.
 
 /// The usage, line by line. The script that builds the program prints these strings too, so each stands on a line of its own.
-pub const USAGE: [&str; 10] = [
+pub const USAGE: [&str; 12] = [
     "usage: gnap COMMAND WORDS\n",
     "  gnap replay FILE            answers the calls in FILE, whose first line is a setup\n",
     "  gnap field item FILE        prints the canonical text of the structured field in FILE\n",
@@ -10,6 +10,8 @@ pub const USAGE: [&str; 10] = [
     "  gnap sign CONFIG KEY CREATED FILE  prints the request in FILE, signed by KEY of the setup in CONFIG at CREATED\n",
     "  gnap verify CONFIG NOW FILE        prints which key of the setup signed the request in FILE, at the moment NOW\n",
     "  gnap as CONFIG LISTEN WORKERS QUOTA  serves the setup in CONFIG over HTTP, each worker for QUOTA connections\n",
+    "  gnap rs CONFIG LISTEN SERVER QUOTA  serves the resource server in CONFIG over HTTP, with the authorization server at SERVER\n",
+    "  gnap client CONFIG ADDRESS SCRIPT  has the client in CONFIG carry out the lines of SCRIPT with the server at ADDRESS\n",
     "  gnap hash METHOD CLIENT SERVER REF URI  prints the interaction hash by METHOD, sha-256 or sha-512\n",
     "README.md has examples, docs/FORMATS.md the formats of files and output.\n",
 ];

@@ -1,6 +1,6 @@
-mod ConnectionLemmas
-mod MessageTurnLemmas
-mod WorkerLemmas
+pub mod ConnectionLemmas
+pub mod MessageTurnLemmas
+pub mod WorkerLemmas
 mod Starting
 mod Ending
 pub mod EntryCounts

@@ -4,7 +4,7 @@ import base64
 import hashlib
 import json
 
-from http_forms import request_bytes
+from http_forms import sent
 from rights import compact
 from run_cases import ROUTES
 from scripts import BASE, SETUP, V, asks
@@ -27,12 +27,6 @@ def request(method, target, body=b"", fields=()):
     if body:
         kept.append((b"content-type", b"application/json"))
     return Request(method, target, kept, body)
-
-
-def sent(message):
-    """The bytes of a request whose names are spelt as clients spell them."""
-    names = [("-".join(part.capitalize() for part in name.decode().split("-")).encode(), value) for name, value in message.fields]
-    return request_bytes(Request(message.method, message.target, names, message.body))
 
 
 def call(name, key, at, body=None, value=None, **how):

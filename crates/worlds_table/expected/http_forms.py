@@ -158,6 +158,12 @@ def request_bytes(request, version=b"HTTP/1.1", length=True, line_end=b"\r\n"):
     return line_end.join(lines + [b"", b""]) + request.body
 
 
+def sent(message):
+    """The bytes of a request whose names are spelt as clients spell them."""
+    names = [("-".join(part.capitalize() for part in name.decode().split("-")).encode(), value) for name, value in message.fields]
+    return request_bytes(Request(message.method, message.target, names, message.body))
+
+
 def reply_bytes(status, body=b"", last=False, allow=None):
     lines = [f"HTTP/1.1 {status} {PHRASES[status]}"]
     if body:

@@ -6,8 +6,10 @@ A case is the object of a line of ../stdin; src/case.rt has its members.
 import hashlib
 
 import as_server
+import client_side
 import http_forms
 import replays
+import resource_side
 import written_cases
 from calls import interaction_hash
 from json_forms import Fault, NotJson, read_setup
@@ -37,6 +39,7 @@ class World:
         self.out = b""
         self.written = 0
         self.served = []
+        self.asked = []
 
     def bytes_of(self, text):
         runs = self.case.get("runs", [])
@@ -61,14 +64,24 @@ class World:
                 return self.bytes_of(text)
         raise Stop(4)
 
-    def config(self, name):
+    def config(self, name, read=read_setup):
         text = self.file(name)
         try:
             if len(text) > CONFIG_BYTES:
                 raise NotJson
-            return read_setup(text)
+            return read(text)
         except (NotJson, Fault):
             raise Stop(3) from None
+
+    def exchange(self, request):
+        """The reply to a request over the link, where one comes."""
+        self.asked.append(request)
+        replies = self.case.get("replies", [])
+        bad = self.case.get("bad_exchanges", [])
+        place = len(self.asked) - 1 - sum(number < len(self.asked) for number in bad)
+        if len(self.asked) in bad or place >= len(replies):
+            return None
+        return self.bytes_of(replies[place])
 
     def print(self, text):
         self.written += 1
@@ -175,6 +188,37 @@ def serve(world, config, listen, workers, quota):
     return 4 if any(failed for _, failed in answers) else 0
 
 
+def serve_resources(world, config, listen, server, quota):
+    argument(config), argument(listen), argument(server)
+    quota = number(quota, 0, 1_000_000)
+    setup = world.config(config, resource_side.read_resource_setup)
+    world.open()
+    if server != "a":
+        raise Stop(4)
+    world.open()
+    gears = world.case.get("gears", [])
+    if listen != "a" or len(gears) != 1 or len(gears[0]["connections"]) > quota:
+        raise Stop(4)
+    connections, failed = as_server.served(world, resource_side.ResourceServer(setup, world.exchange), gears[0])
+    world.served = [connections]
+    return 4 if failed else 0
+
+
+def client(world, config, address, script):
+    argument(config), argument(address), argument(script)
+    scripted = client_side.Client(world.config(config, client_side.read_config))
+    world.open()
+    if address != "a":
+        raise Stop(4)
+    *lines, last = world.file(script).split(b"\n")
+    fine = True
+    for line in lines + [last] * bool(last):
+        printed, ok = client_side.carried_out(scripted, line, world.exchange)
+        world.print(printed.encode())
+        fine = fine and ok
+    return 0 if fine else 7
+
+
 def field(world, kind, name):
     if kind not in ("item", "list", "dictionary"):
         raise Stop(2)
@@ -191,7 +235,9 @@ def print_hash(world, method, *texts):
     return 0
 
 
-COMMANDS = {"replay": (replay, 1), "field": (field, 2), "sign": (sign, 4), "verify": (verify, 3), "as": (serve, 4), "hash": (print_hash, 5)}
+COMMANDS = {
+    "replay": (replay, 1), "field": (field, 2), "sign": (sign, 4), "verify": (verify, 3), "as": (serve, 4), "rs": (serve_resources, 4), "client": (client, 3), "hash": (print_hash, 5),
+}
 
 
 def shown(text):
@@ -208,7 +254,8 @@ def outcome(case):
     status = run(world)
     served = [[shown(text) for text in connections] for connections in world.served]
     told = written_cases.HINTS.get(case["name"], "")
-    return {"name": case["name"], "status": status, "out": shown(world.out), "served": served, "told": told}
+    came = {"name": case["name"], "status": status, "out": shown(world.out), "served": served, "told": told}
+    return {**came, "asked": [shown(request) for request in world.asked]} if world.asked else came
 
 
 def cut_outcome(case):

@@ -6,11 +6,13 @@ Run it anew where a rule or a case changes: python3 crates/worlds_table/expected
 import json
 from pathlib import Path
 
+import client_cases
 import edge_cases
 import generated_histories
 import http_cases
 import line_cases
 import outside_cases
+import resource_cases
 import rights_cases
 import run_cases
 import scripted_grants
@@ -22,7 +24,7 @@ from worlds import outcome
 
 
 def cases():
-    for module in (http_cases, edge_cases, outside_cases, rights_cases, line_cases, written_cases):
+    for module in (http_cases, edge_cases, outside_cases, rights_cases, line_cases, written_cases, client_cases, resource_cases):
         yield from module.cases()
     yield from run_cases.cases(scripted_grants.RUNS + scripted_interactions.RUNS)
     yield from map(run_cases.replay_case, generated_histories.runs() + stored_histories.runs())

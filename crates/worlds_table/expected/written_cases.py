@@ -1,5 +1,7 @@
 """Cases whose answers are written by hand: structured fields by RFC 8941, section 4; hashes; and what a person is told on standard error."""
 
+from client_cases import CONFIG_TEXT
+from resource_cases import RS_TEXT
 from outside_cases import SETUP_TEXT, UNSIGNED
 from http_cases import latin
 
@@ -47,6 +49,11 @@ TOLD = [
     (["sign", "s", "k", "0", "g"], "x", "gnap: s or g can't be opened or read\n"),
     (["field", "item", "f"], "1.", "gnap: f isn't a valid field\n"),
     (["as", "s", "b", "1", "1"], "x", "gnap: s or b can't be opened or read\n"),
+    (["client", "f", "a", "s"], "{}", "gnap: f is no configuration: member `server` is missing\n"),
+    (["client", "f", "a", "s"], CONFIG_TEXT, "gnap: a line of s wasn't ok\n"),
+    (["client", "g", "a", "f"], "x", "gnap: g, a or f can't be opened or read\n"),
+    (["rs", "s", "a", "a", "1"], "x", "gnap: s is no setup: member `server` is missing\n"),
+    (["rs", "f", "a", "b", "1"], RS_TEXT, "gnap: f, b or a can't be opened or read\n"),
     (["hash", "sha-256", *NONCES], "x", ""),
 ]
 

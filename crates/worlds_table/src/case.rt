@@ -17,6 +17,9 @@ pub struct Case {
     /// The gears at the address `a`.
     #[serde(default)]
     pub gears: Vec<GearCase>,
+    /// What comes back over the link to the address `a`, one reply after another.
+    #[serde(default)]
+    pub replies: Vec<String>,
     /// Long parts of the bytes of this case: bytes, and how often they come one behind another.
     #[serde(default)]
     pub runs: Vec<(String, u64)>,
@@ -29,6 +32,9 @@ pub struct Case {
     /// The numbers of the writes to standard output that fail.
     #[serde(default)]
     pub bad_writes: Vec<u64>,
+    /// The numbers of the exchanges over the link that fail.
+    #[serde(default)]
+    pub bad_exchanges: Vec<u64>,
     /// Whether the case is run for each beginning of the connections' bytes instead, from none of them to all.
     #[serde(default)]
     pub cut: bool,

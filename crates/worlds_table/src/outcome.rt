@@ -5,6 +5,7 @@ use crate::latin::{bytes_of, text_of};
 use crate::world::world;
 use gnap_io::memory_devices::MemSink;
 use gnap_io::memory_gear::MemGear;
+use gnap_io::memory_link::MemLink;
 use gnap_tool::run;
 use serde::Serialize;
 use std::alloc::Global;
@@ -25,6 +26,9 @@ pub struct Outcome {
     served: Vec<Vec<String>>,
     /// What was written to standard error, where the case asks for it.
     told: String,
+    /// The requests that were sent over the link.
+    #[serde(skip_serializing_if = "Vec::is_empty")]
+    asked: Vec<String>,
 }
 
 /// What came of a case for each beginning of its connections' bytes.
@@ -39,6 +43,16 @@ fn written(alloc: Global, gear: &MemGear) -> Result<Vec<String>, Fault> {
     let mut texts = Vec::new(alloc);
     for conn in gear.served() {
         texts.push(text_of(alloc, conn.written())?)?;
+    }
+    Ok(texts)
+}
+
+fn asked(alloc: Global, link: Option<&MemLink>) -> Result<Vec<String>, Fault> {
+    let mut texts = Vec::new(alloc);
+    if let Some(link) = link {
+        for (request, _) in link.asked() {
+            texts.push(text_of(alloc, request.as_slice())?)?;
+        }
     }
     Ok(texts)
 }
@@ -74,6 +88,7 @@ fn run_case<R: Threads + Wait + Sync>(
         } else {
             String::new(alloc)
         },
+        asked: asked(alloc, world.closed_link())?,
     })
 }
 

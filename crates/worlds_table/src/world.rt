@@ -1,7 +1,8 @@
 //! The worlds of the table.
-ghost use Rattle.std.specs.Prelude.{◌≤◌, IfOk, All};
+ghost use Rattle.std.specs.Prelude.{◌≡◌, ◌≤◌, IfOk, All};
 ghost use Rattle.gnap_io.specs.Gears.{IsUnused, last_moment};
-ghost use Rattle.gnap_io.specs.MemoryForms.{IsUnusedConn};
+ghost use Rattle.gnap_io.specs.Links.{new_link};
+ghost use Rattle.gnap_io.specs.MemoryForms.{IsUnusedConn, link_state};
 
 use crate::case::{Case, GearCase};
 use crate::fault::Fault;
@@ -11,6 +12,7 @@ use gnap_io::gear::Counted;
 use gnap_io::memory_conn::MemConn;
 use gnap_io::memory_devices::MemSource;
 use gnap_io::memory_gear::MemGear;
+use gnap_io::memory_link::MemLink;
 use gnap_io::memory_world::MemWorld;
 use std::alloc::Global;
 
@@ -122,14 +124,21 @@ fn gears(alloc: Global, case: &Case, most: usize) -> Result<Vec<MemGear>, Fault>
     Ok(gears)
 }
 
+fn link(alloc: Global, case: &Case) -> Result<MemLink, Fault>
+    ensures { IfOk result (λ link. link_state link ≡ new_link) }
+{
+    let mut replies = Vec::new(alloc);
+    for text in &case.replies {
+        replies.push(bytes_of(alloc, case, text.as_str())?)?;
+    }
+    Ok(MemLink::new(replies, case.bad_exchanges.clone()?))
+}
+
 /// The world of the case, whose connections have at most so many of their bytes.
 pub fn world(alloc: Global, case: &Case, most: usize) -> Result<MemWorld, Fault> {
     let mut at = Vec::new(alloc);
     at.push((Bytes::from_slice(alloc, b"a")?, gears(alloc, case, most)?))?;
-    Ok(MemWorld::new(
-        files(alloc, case)?,
-        at,
-        Vec::new(alloc),
-        case.bad_opens.clone()?,
-    ))
+    let mut links = Vec::new(alloc);
+    links.push((Bytes::from_slice(alloc, b"a")?, link(alloc, case)?))?;
+    Ok(MemWorld::new(files(alloc, case)?, at, links, case.bad_opens.clone()?))
 }

@@ -7,7 +7,7 @@ use Rattle.gnap_history.proofs.FitsThrough.{entered_fits}
 use Rattle.gnap_tool.specs.CallLines.{line_step}
 use Rattle.gnap_tool.specs.ReplyLines.{reply_line}
 use Rattle.histories.specs.Turns.{direct, called, starved, lapsed, unsaid}
-use Rattle.gnap_tool.specs.Replaying.{Prints}
+use Rattle.gnap_tool.specs.LineRuns.{Prints}
 use Rattle.gnap_tool.proofs.LineTurns.{goes_on, without_entry, with_entry, with_lapse}
 use Rattle.gnap_tool.proofs.answering.answer_line.Goals as goal
 

@@ -22,3 +22,9 @@ returns-in-Hash-clause-world g c =
     let world = g.W.World.state c.args.world.now in
     let P : Command → Type 0 = λ command. UsesWorld (openings_of command) (input_place command) world world c.print_hash.result in
     subst P (sym c.in-Hash.is) (nothing_used world c.print_hash.result c.print_hash.ensures.prints.1)
+
+pub returns-in-Rs-clause-carried : goal.returns-in-Rs-clause-carried
+returns-in-Rs-clause-carried g c =
+    let out = g.O.Device.told c.args.out.now in
+    let P : Command → Type 0 = λ command. CarriesOut command (g.W.World.text c.args.world.now) (g.W.World.state c.args.world.now) (g.W.World.state c.serve_rs.new.world) out out c.serve_rs.result in
+    subst P (sym c.in-Rs.is) (c.serve_rs.ensures.carried out)

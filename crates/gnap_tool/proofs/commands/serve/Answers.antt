@@ -4,6 +4,7 @@ use Rattle.gnap_io.specs.Worlds.{WorldState}
 use Rattle.gnap_io.specs.declared.world.Opening.TheVariants.{File, Gears}
 use Rattle.gnap_model.specs.declared.objects.Setup.{Setup}
 use Rattle.gnap_tool.specs.declared.ended.Ended.{Ended}
+use Rattle.gnap_tool.specs.Replays.{setup_in}
 use Rattle.gnap_tool.specs.Runs.{Serves, UsesWorld}
 use Rattle.gnap_tool.proofs.AfterConfig.{stopped, stopped_writes, by_setup_on, by_setup_off, uses_stopped, uses_then}
 use Rattle.gnap_tool.proofs.ServedGears.{service_used}
@@ -17,7 +18,7 @@ returns-in-Ok-clause-carried g c out =
     let after = g.W.World.state c.serve_at.new.world in
     let ended = c.ended_service.result in
     let Then : WorldState → Setup → Type 0 = λ b setup. (out ≡ out) × Serves setup c.args.listen.now c.args.workers c.args.quota b after ended in
-    by_setup_on (text c.args.config.now) before between Then c.in-Ok.setup after out out ended c.in-Ok.ensures.config
+    by_setup_on (λ (setup : Setup). setup) setup_in (text c.args.config.now) before between Then c.in-Ok.setup after out out ended c.in-Ok.ensures.config
     (refl, inr (c.serve_at.result, c.ended_service.ensures, c.serve_at.ensures.served))
 
 pub returns-in-Err-clause-carried : goal.returns-in-Err-clause-carried
@@ -26,7 +27,7 @@ returns-in-Err-clause-carried g c out =
     let after = g.W.World.state c.open_config.new.world in
     let ended = c.in-Err.ended in
     let Then : WorldState → Setup → Type 0 = λ b setup. (out ≡ out) × Serves setup c.args.listen.now c.args.workers c.args.quota b after ended in
-    by_setup_off (text c.args.config.now) (g.W.World.state c.args.world.now) after Then out ended (λ is setup. (refl, inl (refl, is))) c.in-Err.ensures.config
+    by_setup_off (λ (setup : Setup). setup) setup_in (text c.args.config.now) (g.W.World.state c.args.world.now) after Then out ended (λ is setup. (refl, inl (refl, is))) c.in-Err.ensures.config
 
 pub returns-in-Ok-clause-world : goal.returns-in-Ok-clause-world
 returns-in-Ok-clause-world g c =
@@ -35,15 +36,15 @@ returns-in-Ok-clause-world g c =
     let after = g.W.World.state c.serve_at.new.world in
     let listen = Gears c.args.listen.now c.args.workers c.args.quota ∷ [] in
     let U : Ended → Type 0 = λ ended. UsesWorld listen None between after ended in
-    uses_then c.args.config.now before between after c.in-Ok.ensures.world listen c.ended_service.result
+    uses_then c.args.config.now before between after c.in-Ok.ensures.world listen None c.ended_service.result
     (subst U (sym c.ended_service.ensures)
     (service_used c.in-Ok.setup c.args.listen.now c.args.workers c.args.quota between after c.serve_at.result c.serve_at.ensures.served))
 
 pub returns-in-Err-clause-world : goal.returns-in-Err-clause-world
 returns-in-Err-clause-world g c =
-    uses_stopped (File c.args.config.now ∷ []) (Gears c.args.listen.now c.args.workers c.args.quota ∷ []) _ _ c.in-Err.ended c.in-Err.ensures.world
-    (stopped (g.W.World.text c.args.world.now c.args.config.now) (g.W.World.state c.args.world.now) (g.W.World.state c.open_config.new.world) c.in-Err.ended c.in-Err.ensures.config)
+    uses_stopped (File c.args.config.now ∷ []) (Gears c.args.listen.now c.args.workers c.args.quota ∷ []) None _ _ c.in-Err.ended c.in-Err.ensures.world
+    (stopped (λ (setup : Setup). setup) setup_in (g.W.World.text c.args.world.now c.args.config.now) (g.W.World.state c.args.world.now) (g.W.World.state c.open_config.new.world) c.in-Err.ended c.in-Err.ensures.config)
 
 pub returns-in-Err-clause-writes : goal.returns-in-Err-clause-writes
 returns-in-Err-clause-writes g c faults = stopped_writes c.in-Err.ended faults
-    (stopped (g.W.World.text c.args.world.now c.args.config.now) (g.W.World.state c.args.world.now) (g.W.World.state c.open_config.new.world) c.in-Err.ended c.in-Err.ensures.config)
+    (stopped (λ (setup : Setup). setup) setup_in (g.W.World.text c.args.world.now c.args.config.now) (g.W.World.state c.args.world.now) (g.W.World.state c.open_config.new.world) c.in-Err.ended c.in-Err.ensures.config)

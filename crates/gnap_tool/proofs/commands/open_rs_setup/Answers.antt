@@ -1,0 +1,16 @@
+use Rattle.resource_server.specs.declared.setup.RsSetup.{RsSetup}
+use Rattle.gnap_tool.specs.ResourceFiles.{rs_setup_in}
+use Rattle.gnap_tool.proofs.AfterConfig.{config_read_as, config_unread, uses_read}
+use Rattle.gnap_tool.proofs.ServedResources.{rs_setup_long}
+use Rattle.gnap_tool.proofs.commands.open_rs_setup.Goals as goal
+
+pub returns-in-Ok-clause-config : goal.returns-in-Ok-clause-config
+returns-in-Ok-clause-config g c =
+    config_read_as (λ (setup : RsSetup). setup) rs_setup_in (g.W.World.text c.args.world.now c.args.file.now) (g.W.World.state c.args.world.now) (g.W.World.state c.open_text.new.world) c.in-Ok.text c.rs_setup_in.result c.in-Ok.ensures.config c.rs_setup_in.ensures.setup
+
+pub returns-in-Ok-clause-world : goal.returns-in-Ok-clause-world
+returns-in-Ok-clause-world g c =
+    uses_read (λ (setup : RsSetup). setup) _ _ _ (rs_setup_in c.in-Ok.text) c.rs_setup_in.result c.in-Ok.ensures.world c.rs_setup_in.ensures.setup
+
+pub returns-in-Err-clause-config : goal.returns-in-Err-clause-config
+returns-in-Err-clause-config g c = config_unread (λ (setup : RsSetup). setup) rs_setup_in (g.W.World.text c.args.world.now c.args.file.now) (g.W.World.state c.args.world.now) (g.W.World.state c.open_text.new.world) rs_setup_long c.in-Err.ended c.in-Err.ensures.config

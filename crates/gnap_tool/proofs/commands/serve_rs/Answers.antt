@@ -1,0 +1,50 @@
+use Rattle.std.proofs.Common.{◌≡◌, ◌∷◌, [], sym, subst, inl, inr, refl}
+use Rattle.std.specs.Prelude.{None}
+use Rattle.gnap_io.specs.Worlds.{WorldState}
+use Rattle.gnap_io.specs.declared.world.Opening.TheVariants.{File, Gears, Link}
+use Rattle.resource_server.specs.declared.setup.RsSetup.{RsSetup}
+use Rattle.gnap_tool.specs.declared.ended.Ended.{Ended}
+use Rattle.gnap_tool.specs.ResourceFiles.{rs_setup_in}
+use Rattle.gnap_tool.specs.Runs.{ServesRs, UsesWorld}
+use Rattle.gnap_tool.proofs.AfterConfig.{stopped, stopped_writes, by_setup_on, by_setup_off, uses_stopped, uses_then}
+use Rattle.gnap_tool.proofs.ServedResources.{resources_used}
+use Rattle.gnap_tool.proofs.commands.serve_rs.Goals as goal
+
+pub returns-in-Ok-clause-carried : goal.returns-in-Ok-clause-carried
+returns-in-Ok-clause-carried g c out =
+    let text = g.W.World.text c.args.world.now in
+    let before = g.W.World.state c.args.world.now in
+    let between = g.W.World.state c.open_rs_setup.new.world in
+    let after = g.W.World.state c.serve_resources_at.new.world in
+    let ended = c.ended_service.result in
+    let Then : WorldState → RsSetup → Type 0 = λ b setup. (out ≡ out) × ServesRs setup c.args.listen.now c.args.server.now c.args.quota b after ended in
+    by_setup_on (λ (setup : RsSetup). setup) rs_setup_in (text c.args.config.now) before between Then c.in-Ok.setup after out out ended c.in-Ok.ensures.config
+    (refl, inr (c.serve_resources_at.result, c.ended_service.ensures, c.serve_resources_at.ensures.served))
+
+pub returns-in-Err-clause-carried : goal.returns-in-Err-clause-carried
+returns-in-Err-clause-carried g c out =
+    let text = g.W.World.text c.args.world.now in
+    let after = g.W.World.state c.open_rs_setup.new.world in
+    let ended = c.in-Err.ended in
+    let Then : WorldState → RsSetup → Type 0 = λ b setup. (out ≡ out) × ServesRs setup c.args.listen.now c.args.server.now c.args.quota b after ended in
+    by_setup_off (λ (setup : RsSetup). setup) rs_setup_in (text c.args.config.now) (g.W.World.state c.args.world.now) after Then out ended (λ is setup. (refl, inl (refl, is))) c.in-Err.ensures.config
+
+pub returns-in-Ok-clause-world : goal.returns-in-Ok-clause-world
+returns-in-Ok-clause-world g c =
+    let before = g.W.World.state c.args.world.now in
+    let between = g.W.World.state c.open_rs_setup.new.world in
+    let after = g.W.World.state c.serve_resources_at.new.world in
+    let openings = Link c.args.server.now ∷ Gears c.args.listen.now 1 c.args.quota ∷ [] in
+    let U : Ended → Type 0 = λ ended. UsesWorld openings None between after ended in
+    uses_then c.args.config.now before between after c.in-Ok.ensures.world openings None c.ended_service.result
+    (subst U (sym c.ended_service.ensures)
+    (resources_used c.in-Ok.setup c.args.listen.now c.args.server.now c.args.quota between after c.serve_resources_at.result c.serve_resources_at.ensures.served))
+
+pub returns-in-Err-clause-world : goal.returns-in-Err-clause-world
+returns-in-Err-clause-world g c =
+    uses_stopped (File c.args.config.now ∷ []) (Link c.args.server.now ∷ Gears c.args.listen.now 1 c.args.quota ∷ []) None _ _ c.in-Err.ended c.in-Err.ensures.world
+    (stopped (λ (setup : RsSetup). setup) rs_setup_in (g.W.World.text c.args.world.now c.args.config.now) (g.W.World.state c.args.world.now) (g.W.World.state c.open_rs_setup.new.world) c.in-Err.ended c.in-Err.ensures.config)
+
+pub returns-in-Err-clause-writes : goal.returns-in-Err-clause-writes
+returns-in-Err-clause-writes g c faults = stopped_writes c.in-Err.ended faults
+    (stopped (λ (setup : RsSetup). setup) rs_setup_in (g.W.World.text c.args.world.now c.args.config.now) (g.W.World.state c.args.world.now) (g.W.World.state c.open_rs_setup.new.world) c.in-Err.ended c.in-Err.ensures.config)

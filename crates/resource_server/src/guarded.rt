@@ -1,0 +1,34 @@
+//! What a resource server answers.
+use gnap_io::bytes::Bytes;
+
+/// What a request comes to.
+#[derive(Drop)]
+pub enum Guarded {
+    /// The route of this place, counted from 0, is shown.
+    Allow(usize),
+    /// It is refused with this HTTP status.
+    Deny(u16, Why),
+    /// The link to the authorization server failed.
+    LinkFault,
+    /// Memory ran out.
+    Memory,
+}
+
+/// Why a request is refused.
+#[derive(Drop)]
+pub enum Why {
+    /// No route has the path: 404.
+    NoRoute,
+    /// No route with the path has the method: 405.
+    NoMethod,
+    /// No token is presented: 401.
+    NoToken,
+    /// The authorization server's reply, which is here, says nothing of the token: 502.
+    BadReply(Bytes),
+    /// There is no such token: 401.
+    Inactive,
+    /// The token's rights don't cover the route's: 403.
+    TooNarrow,
+    /// The token's key hasn't signed the request: 401.
+    Signature,
+}

@@ -1,0 +1,104 @@
+//! The introspection of a token, as bytes.
+ghost use Rattle.std.specs.Prelude.{◌≡◌, ◌<◌, ◌^◌, [], ◌∷◌, Some, IfOk, IsUtf8};
+ghost use Rattle.std.specs.List.{AllByRecursion};
+ghost use Rattle.serde_json.specs.View.{view};
+ghost use Rattle.access_rights.specs.Fits.{Fits};
+ghost use Rattle.resource_server.specs.Fits.{RsSetupFits};
+ghost use Rattle.resource_server.specs.Introspecting.{proof_of, introspection_data, introspection, introspection_bytes};
+
+use crate::setup::{Route, RsSetup};
+use access_rights::printing::rights_value;
+use gnap_io::bytes::Bytes;
+use gnap_io::memory::{Duplicate, Mem};
+use gnap_io::seq::Seq;
+use gnap_model::rights::Rights;
+use json_objects::{compact_text, put, text_value};
+use serde_json::{Map, Value};
+use signed_requests::{Scheme, UnsignedRequest, signed_request};
+use std::alloc::Global;
+
+/// The right of a route, alone.
+pub(crate) fn wanted_of(alloc: Global, route: &Route) -> Result<Rights, Mem>
+    requires { Fits route.now.right }
+    ensures value { IfOk result (λ r. r ≡ route.now.right ∷ []) }
+    ensures fits { IfOk result (AllByRecursion Fits) }
+{
+    let mut wanted = Seq::new(alloc);
+    wanted.push(route.right.copy()?)?;
+    Ok(wanted)
+}
+
+fn proof_of(scheme: Scheme) -> &'static str
+    ensures { result.now ≡ proof_of scheme }
+{
+    match scheme {
+        Scheme::Gnap => "httpsig",
+        Scheme::Bearer => "bearer",
+    }
+}
+
+#[tactic(auto, unfolding(crate::specs::Introspecting::introspection_data))]
+fn introspection_value(
+    alloc: Global,
+    id: &Bytes,
+    wanted: &Rights,
+    scheme: Scheme,
+    value: &[u8],
+) -> Result<Value, Mem>
+    requires id { IsUtf8 id.now }
+    requires wanted { AllByRecursion Fits wanted.now }
+    requires value { IsUtf8 value.now }
+    ensures { IfOk result (λ v. view v ≡ introspection_data id.now wanted.now (scheme, value.now)) }
+{
+    let mut map = Map::new(alloc);
+    let server = text_value(alloc, id.as_slice())?;
+    put(&mut map, alloc, "resource_server", Some(server))?;
+    let proof = Value::try_from_str(alloc, proof_of(scheme))?;
+    put(&mut map, alloc, "proof", Some(proof))?;
+    let token = text_value(alloc, value)?;
+    put(&mut map, alloc, "access_token", Some(token))?;
+    let access = rights_value(alloc, wanted)?;
+    put(&mut map, alloc, "access", Some(access))?;
+    Ok(Value::Object(map))
+}
+
+#[tactic(auto, using(crate::proofs::Shown::introspection_whole))]
+fn introspection(
+    alloc: Global,
+    id: &Bytes,
+    wanted: &Rights,
+    scheme: Scheme,
+    value: &[u8],
+) -> Result<UnsignedRequest, Mem>
+    requires id { IsUtf8 id.now }
+    requires wanted { AllByRecursion Fits wanted.now }
+    requires value { IsUtf8 value.now }
+    ensures { IfOk result (λ m. m ≡ introspection id.now wanted.now (scheme, value.now)) }
+{
+    let body = introspection_value(alloc, id, wanted, scheme, value)?;
+    Ok(UnsignedRequest {
+        method: Bytes::from_slice(alloc, b"POST")?,
+        target: Bytes::from_slice(alloc, b"/introspect")?,
+        presented: None,
+        body: compact_text(alloc, &body)?,
+    })
+}
+
+/// The bytes of the signed request that introspects the token for these rights.
+pub(crate) fn introspection_bytes(
+    alloc: Global,
+    setup: &RsSetup,
+    wanted: &Rights,
+    scheme: Scheme,
+    value: &[u8],
+    now: u64,
+) -> Result<Bytes, Mem>
+    requires wanted { AllByRecursion Fits wanted.now }
+    requires value { IsUtf8 value.now }
+    requires setup { RsSetupFits setup.now }
+    requires now { now < 10 ^ 15 }
+    ensures { IfOk result (λ b. introspection_bytes setup.now now wanted.now (scheme, value.now) ≡ Some b) }
+{
+    let request = introspection(alloc, &setup.id, wanted, scheme, value)?;
+    signed_request(alloc, &setup.server, &setup.id, &setup.secret, now, request)
+}

@@ -1,0 +1,5 @@
+pub mod RsReplies
+pub mod RsTurns
+pub mod RsSessions
+pub mod RsWholes
+pub mod RsServices

@@ -1,0 +1,35 @@
+-- What serving a resource server at an address leaves behind.
+use Rattle.std.specs.Prelude.{◌≡◌, ℕ, Bool, false, List, [], ◌∷◌, Result, Ok, Err}
+use Rattle.gnap_io.specs.Gears.{GearState}
+use Rattle.gnap_io.specs.Links.{LinkState, new_link}
+use Rattle.gnap_io.specs.Worlds.{WorldState, HasWorldCause, with_opening, with_gears, with_link}
+use Rattle.gnap_io.specs.declared.world.Opening.{Opening}
+use Rattle.gnap_io.specs.declared.world.Opening.TheVariants as opening
+use Rattle.gnap_io.specs.declared.world.WorldFault.{WorldFault}
+use Rattle.as_service.specs.Services.{has_failed, IsUsedUp, IsEndOfService}
+use Rattle.resource_server.specs.declared.setup.RsSetup.{RsSetup}
+use Rattle.rs_edge.specs.RsSessions.{IsRsAccount}
+
+-- A gear served all that its door gave, over a link. What both tell are turns, in order; no connection is out.
+pub record ServedOver (setup : RsSetup) (link : LinkState) (gear : GearState) : Type 0 where
+  pub account : IsRsAccount setup gear.log link.asked
+  pub out : gear.out ≡ 0
+
+-- The same of the one gear of a list. The Bool tells whether its door failed; where it didn't, it gave all its connections.
+pub record ServesOneGear (setup : RsSetup) (link : LinkState) (gears : List GearState) (failed : Bool) : Type 0 where
+  pub gear : GearState
+  pub one : gears ≡ gear ∷ []
+  pub over : ServedOver setup link gear
+  pub failed_is : failed ≡ has_failed gear
+  pub used_up : failed ≡ false → IsUsedUp gear
+
+-- Either the link wasn't opened; or it was, and no gear was started; or one was started at the address and served over the link. What was opened was
+-- taken back.
+pub data IsRsService {Done : Type 0} (setup : RsSetup) (listen server : List ℕ) (quota : ℕ) (before after : WorldState) : Result Done WorldFault → Type 0 where
+  not_linked : (fault : WorldFault) → after ≡ record before { faults = after.faults } → HasWorldCause before.faults after.faults fault
+      → IsRsService setup listen server quota before after (Err fault)
+  not_started : (fault : WorldFault) → after ≡ record (with_link new_link (with_opening (opening.Link server) before)) { faults = after.faults }
+      → HasWorldCause before.faults after.faults fault → IsRsService setup listen server quota before after (Err fault)
+  served : (result : Result Done WorldFault) (link : LinkState) (gear : GearState)
+      → after ≡ with_link link (with_gears (gear ∷ []) (with_opening (opening.Gears listen 1 quota) (with_opening (opening.Link server) before)))
+      → ServedOver setup link gear → IsEndOfService (gear ∷ []) result → IsRsService setup listen server quota before after result

@@ -1,0 +1,42 @@
+//! All connections of a gear.
+ghost use Rattle.std.specs.Prelude.{◌≡◌, [], true, false};
+ghost use Rattle.gnap_io.specs.Gears.{IsUnused};
+ghost use Rattle.resource_server.specs.Fits.{RsSetupFits};
+ghost use Rattle.serving.specs.Workers.{HasServedOne, HasServedAll};
+ghost use Rattle.rs_edge.specs.RsSessions.{IsRsAccount};
+
+use crate::connections::serve_resources;
+use gnap_io::gear::{Door, Gear};
+use gnap_io::link::Link;
+use resource_server::RsSetup;
+use std::alloc::Global;
+
+// Serves one connection. It is false where the door gave none: it may give no more, or it failed.
+fn serve_one<L: Link, G: Gear>(alloc: Global, setup: &RsSetup, link: &mut L, gear: &mut G) -> bool
+    requires setup { RsSetupFits setup.now }
+    requires account { IsRsAccount setup.now (G.state gear.old).log (L.link link.old).asked }
+    ensures account { IsRsAccount setup.now (G.state gear.new).log (L.link link.new).asked }
+    ensures out { (G.state gear.new).out ≡ (G.state gear.old).out }
+    ensures more { result ≡ true → HasServedOne (G.state gear.old) (G.state gear.new) }
+    ensures done { result ≡ false → HasServedAll (G.state gear.old) (G.state gear.new) }
+{
+    let Ok(Some(conn)) = gear.accept() else {
+        return false;
+    };
+    let mut conn = conn;
+    serve_resources(alloc, setup, link, &mut conn, gear);
+    gear.leave(conn);
+    true
+}
+
+/// Serves all connections that the door of a gear gives, in order, over one link. The gear and the link have done nothing before.
+pub fn serve_door<L: Link, G: Gear>(alloc: Global, setup: &RsSetup, link: &mut L, gear: &mut G)
+    requires setup { RsSetupFits setup.now }
+    requires gear { IsUnused (G.state gear.old) }
+    requires link { (L.link link.old).asked ≡ [] }
+    ensures account { IsRsAccount setup.now (G.state gear.new).log (L.link link.new).asked }
+    ensures out { (G.state gear.new).out ≡ 0 }
+    ensures done { HasServedAll (G.state gear.old) (G.state gear.new) }
+{
+    while serve_one(alloc, setup, link, gear) {}
+}

@@ -1,0 +1,73 @@
+//! Serving at an address of a world.
+ghost use Rattle.std.specs.Prelude.{◌≡◌, All, length, map};
+ghost use Rattle.gnap_io.specs.Gears.{IsUnused};
+ghost use Rattle.gnap_io.specs.Links.{new_link};
+ghost use Rattle.resource_server.specs.Fits.{RsSetupFits};
+ghost use Rattle.rs_edge.specs.RsServices.{IsRsService, ServesOneGear};
+
+use crate::doors::serve_door;
+use gnap_io::bytes::Bytes;
+use gnap_io::gear::{Door, Gear};
+use gnap_io::link::Link;
+use gnap_io::world::{World, WorldFault};
+use resource_server::RsSetup;
+use std::alloc::Global;
+
+// Serves all that the door of the one gear gives, and answers whether it failed.
+fn serve_gear<L: Link, G: Gear>(
+    alloc: Global,
+    setup: &RsSetup,
+    link: &mut L,
+    gears: Vec<G>,
+) -> (Vec<G>, bool)
+    requires setup { RsSetupFits setup.now }
+    requires one { length gears.items ≡ 1 }
+    requires unused { All (λ gear. IsUnused (G.state gear)) gears.items }
+    requires link { L.link link.old ≡ new_link }
+    ensures { ServesOneGear setup.now (L.link link.new) (map G.state result.0.items) result.1 }
+{
+    let mut gears = gears;
+    let gear = &mut gears[0];
+    serve_door(alloc, setup, link, gear);
+    let failed = gear.has_failed();
+    (gears, failed)
+}
+
+/// Serves a resource server at the address `listen` of the world, for at most `quota` connections, and introspects tokens at the address `server`. The link
+/// to that is opened first, then one gear is started; both are given back.
+///
+/// `Ok` where all these connections came and were served. `Failed` where one of the addresses couldn't be opened, or later no connection be accepted any
+/// more; `OutOfMemory` where memory ran out before the first connection. Later want of memory ends the connection that it meets, not the service.
+pub fn serve_resources_at<W: World>(
+    alloc: Global,
+    world: &mut W,
+    setup: &RsSetup,
+    listen: &Bytes,
+    server: &Bytes,
+    quota: u32,
+) -> Result<(), WorldFault>
+    requires { RsSetupFits setup.now }
+    ensures text { W.text world.new ≡ W.text world.old }
+    ensures served { IsRsService setup.now listen.now server.now quota (W.state world.old) (W.state world.new) result }
+{
+    let mut link = match world.open_link(server) {
+        Ok(link) => link,
+        Err(fault) => return Err(fault),
+    };
+    match world.start_gears(listen, 1, quota) {
+        Err(fault) => {
+            world.close_link(link);
+            Err(fault)
+        }
+        Ok(gears) => {
+            let (gears, failed) = serve_gear(alloc, setup, &mut link, gears);
+            world.stop_gears(gears);
+            world.close_link(link);
+            if failed {
+                Err(WorldFault::Failed)
+            } else {
+                Ok(())
+            }
+        }
+    }
+}

@@ -1,0 +1,84 @@
+//! One message's turn.
+ghost use Rattle.std.specs.Prelude.{◌≡◌, ◌≢◌, IfOk};
+ghost use Rattle.http_edge.specs.Replies.{reply_bytes, busy_reply, MayWrite};
+ghost use Rattle.resource_server.specs.Fits.{RsSetupFits};
+ghost use Rattle.resource_server.specs.Guarding.{IsAnswer};
+ghost use Rattle.serving.specs.MessageTurns.{HasWrittenText};
+ghost use Rattle.rs_edge.specs.RsReplies.{rs_reply};
+ghost use Rattle.rs_edge.specs.RsTurns.{TakesRsTurn};
+
+use crate::replies::answer_reply;
+use gnap_io::device::{Sink, Source};
+use gnap_io::gear::Clock;
+use gnap_io::link::Link;
+use gnap_io::memory::Mem;
+use gnap_io::message::Message;
+use http_edge::{HttpReply, WriteFault, write_reply};
+use resource_server::{Guarded, RsSetup, guard};
+use serving::ends::AfterTurn;
+use std::alloc::Global;
+
+fn say<K: Sink>(reply: &HttpReply, conn: &mut K) -> AfterTurn
+    requires { MayWrite reply.now }
+    ensures written { HasWrittenText (reply_bytes reply.now) (K.told conn.old) (K.told conn.new) (K.faults conn.old) (K.faults conn.new) result }
+    ensures fed { result ≢ AfterTurn.OutOfMemory }
+{
+    match write_reply(conn, reply) {
+        Ok(()) => AfterTurn::MoreMayCome,
+        Err(WriteFault) => AfterTurn::WriteFailed,
+    }
+}
+
+fn say_busy<K: Sink>(conn: &mut K) -> AfterTurn
+    ensures written { HasWrittenText (reply_bytes busy_reply) (K.told conn.old) (K.told conn.new) (K.faults conn.old) (K.faults conn.new) result }
+    ensures starved { result ≢ AfterTurn.MoreMayCome }
+{
+    match write_reply(conn, &HttpReply::busy()) {
+        Ok(()) => AfterTurn::OutOfMemory,
+        Err(WriteFault) => AfterTurn::WriteFailed,
+    }
+}
+
+// The reply to an answer that isn't want of memory.
+fn reply_of(
+    alloc: Global,
+    setup: &RsSetup,
+    message: &Message,
+    answer: &Guarded,
+    last: bool,
+) -> Result<HttpReply, Mem>
+    requires setup { RsSetupFits setup.now }
+    requires answer { IsAnswer setup.now answer.now }
+    ensures value { IfOk result (λ r. r ≡ rs_reply setup.now message.now last answer.now) }
+    ensures fits { IfOk result MayWrite }
+    ensures fed { IfOk result (λ _. answer.now ≢ Guarded.Memory) }
+{
+    match answer {
+        Guarded::Memory => Err(Mem),
+        Guarded::Allow(_) | Guarded::Deny(_, _) | Guarded::LinkFault => answer_reply(
+            alloc, setup, message, answer, last,
+        ),
+    }
+}
+
+/// One message's turn: it is guarded, and the reply to the answer is written.
+pub(crate) fn turn<L: Link, S: Source + Sink, G: Clock>(
+    alloc: Global,
+    setup: &RsSetup,
+    link: &mut L,
+    conn: &mut S,
+    gear: &mut G,
+    message: &Message,
+    last: bool,
+) -> AfterTurn
+    requires { RsSetupFits setup.now }
+    ensures { TakesRsTurn setup.now last message.now (L.link link.old) (L.link link.new) (G.state gear.old) (G.state gear.new) (S.told conn.old) (S.told conn.new)
+        (S.faults conn.old) (S.faults conn.new) result }
+{
+    let moment = gear.now();
+    let answer = guard(alloc, message, setup, link, moment);
+    match reply_of(alloc, setup, message, &answer, last) {
+        Ok(reply) => say(&reply, conn),
+        Err(Mem) => say_busy(conn),
+    }
+}
