@@ -53,7 +53,7 @@ TOLD = [
     (["client", "f", "a", "s"], CONFIG_TEXT, "gnap: a line of s wasn't ok\n"),
     (["client", "g", "a", "f"], "x", "gnap: g, a or f can't be opened or read\n"),
     (["rs", "s", "a", "a", "1"], "x", "gnap: s is no setup: member `server` is missing\n"),
-    (["rs", "f", "a", "b", "1"], RS_TEXT, "gnap: f, b or a can't be opened or read\n"),
+    (["rs", "f", "a", "b", "1"], latin(RS_TEXT.encode()), "gnap: f, b or a can't be opened or read\n"),
     (["hash", "sha-256", *NONCES], "x", ""),
 ]
 
