@@ -1,4 +1,4 @@
-//! Two workers at once: each connection takes its second reply only once the other one has got its first.
+//! Two workers at once: what a connection brings second can be read only once the other one has got a reply.
 ghost use Rattle.std.specs.Prelude.{◌≡◌, IfOk};
 ghost use Rattle.gnap_io.specs.Gears.{new_gear};
 ghost use Rattle.gnap_io.specs.MemoryForms.{IsUnusedConn};
@@ -18,10 +18,10 @@ use std::sync::Wait;
 use std::sync::atomic::{AtomicU64, Ordering};
 use std::thread::Threads;
 
-/// How often a write that waits looks.
+/// How often a read that waits looks.
 const LOOKS: u32 = 500_000_000;
 
-/// How many replies each of two connections took, and how many were waited for in vain.
+/// How many replies each of two connections got, and how many were waited for in vain.
 #[derive(Drop)]
 struct Gate {
     first: AtomicU64,
@@ -30,22 +30,21 @@ struct Gate {
 }
 
 impl Gate {
-    // The counts of one of the two connections and of the other one.
-    fn sides(&self, is_first: bool) -> (&AtomicU64, &AtomicU64) {
-        if is_first {
-            (&self.first, &self.second)
-        } else {
-            (&self.second, &self.first)
+    // The count of one of the two connections.
+    fn count_of(&self, is_first: bool) -> &AtomicU64 {
+        if is_first { &self.first } else { &self.second }
+    }
+
+    // Waits until the other connection has got a reply.
+    fn wait(&self, is_first: bool) {
+        if !comes(self.count_of(!is_first)) {
+            self.late.fetch_add(1, Ordering::SeqCst);
         }
     }
 
-    // Waits until the other connection has got a reply, where this one has got one, and counts one more of this one.
-    fn pass(&self, is_first: bool) {
-        let (mine, other) = self.sides(is_first);
-        if 0 < mine.load(Ordering::SeqCst) && !comes(other) {
-            self.late.fetch_add(1, Ordering::SeqCst);
-        }
-        mine.fetch_add(1, Ordering::SeqCst);
+    // Counts a reply.
+    fn count(&self, is_first: bool) {
+        self.count_of(is_first).fetch_add(1, Ordering::SeqCst);
     }
 }
 
@@ -60,12 +59,13 @@ fn comes(count: &AtomicU64) -> bool {
     false
 }
 
-/// A connection in memory, behind the gate.
+/// A connection in memory. All reads but its first wait at the gate.
 #[derive(Drop)]
 struct GatedConn<'a> {
     conn: MemConn,
     gate: &'a Gate,
     is_first: bool,
+    was_read: bool,
 }
 
 impl<'a> Device for GatedConn<'a> {
@@ -76,18 +76,22 @@ impl<'a> Device for GatedConn<'a> {
 
 impl<'a> Source for GatedConn<'a> {
     fn read(&mut self, buf: &mut [u8]) -> Result<usize, Failed> {
+        if self.was_read {
+            self.gate.wait(self.is_first);
+        }
+        self.was_read = true;
         self.conn.read(buf)
     }
 }
 
 impl<'a> Sink for GatedConn<'a> {
     fn write(&mut self, piece: &[u8]) -> Result<usize, Failed> {
-        self.gate.pass(self.is_first);
+        self.gate.count(self.is_first);
         self.conn.write(piece)
     }
 }
 
-/// A gear in memory whose connections are behind the gate.
+/// A gear in memory whose connections wait at the gate.
 #[derive(Drop)]
 struct GatedGear<'a> {
     gear: MemGear,
@@ -108,6 +112,7 @@ impl<'a> Door for GatedGear<'a> {
                 conn,
                 gate: self.gate,
                 is_first: self.is_first,
+                was_read: false,
             })),
             Ok(None) => Ok(None),
             Err(Failed) => Err(Failed),
@@ -119,6 +124,7 @@ impl<'a> Door for GatedGear<'a> {
             conn,
             gate: _,
             is_first: _,
+            was_read: _,
         } = conn;
         self.gear.leave(conn);
     }
@@ -142,11 +148,11 @@ impl<'a> Draws for GatedGear<'a> {
 
 impl<'a> Gear for GatedGear<'a> {}
 
-// A gear with one connection that brings two messages.
+// A gear with one connection that brings four messages by its first read and one by its second.
 fn gear_in_memory(alloc: Global) -> Result<MemGear, Mem>
     ensures { IfOk result (λ gear. ⟦<MemGear as Counted>⟧.state gear ≡ new_gear 1) }
 {
-    let bytes = Bytes::from_slice(alloc, &[1, 1])?;
+    let bytes = Bytes::from_slice(alloc, &[1; 5])?;
     let conn = MemConn::new(alloc, bytes, 10, Vec::new(alloc), Vec::new(alloc))?;
     let mut conns = Vec::new(alloc);
     conns.push(conn)?;
@@ -179,7 +185,7 @@ fn replies_to_both<R: Threads + Wait + Sync>(
     Ok(counts)
 }
 
-/// Workers that came one after the other would leave the first connection waiting for its second reply.
+/// Workers that came one after the other would leave the first connection waiting for what it brings second.
 #[test]
 fn two_workers_serve_at_once(rt: HostRuntime) {
     let gate = Gate {
@@ -190,6 +196,6 @@ fn two_workers_serve_at_once(rt: HostRuntime) {
     let Ok(counts) = replies_to_both(&rt, rt.alloc(), &gate) else {
         panic!(rt; "no memory");
     };
-    assert_eq!(rt; counts.as_slice(), &[2usize, 2][..], "replies");
+    assert_eq!(rt; counts.as_slice(), &[5usize, 5][..], "replies");
     assert_eq!(rt; gate.late.load(Ordering::SeqCst), 0, "waited in vain");
 }
