@@ -1,7 +1,7 @@
 -- What a desk has seen, call by call.
 use Rattle.std.proofs.Common.{◌≡◌, ◌∙◌, ℕ, zero, suc, ◌+◌, ◌*◌, ◌<◌, ◌≤◌, ◌^◌, Bool, true, false, List, [], ◌∷◌, ◌++◌, map, length, length-append, refl, ap, sym, subst, arith, append_assoc}
 use Rattle.std.proofs.lemmas.List.{append-nil}
-use Rattle.std.specs.Prelude.{All, ◌%◌, ◌==◌, Some}
+use Rattle.std.specs.Prelude.{All, ◌%◌, ◌==◌, Some, Result, Ok, Err, IfOk}
 use Rattle.std.specs.Str.{IsUtf8}
 use Rattle.histories.specs.History.{entry_of, places}
 use Rattle.histories.specs.Steps.{Enters}
@@ -13,7 +13,7 @@ use Rattle.gnap_model.specs.declared.objects.Setup.{Setup}
 use Rattle.gnap_history.specs.Gnap.{gnap, GnapEntry}
 use Rattle.desk_load.specs.declared.tally.Tally.{Tally}
 use Rattle.desk_load.specs.LoadCalls.{opening_call, question_about, rotation_of, cancellation_of, calls_after, calls_through}
-use Rattle.desk_load.specs.Tallies.{count_by, tally_of, tally_of_reply, none_counted, Adds}
+use Rattle.desk_load.specs.Tallies.{count_by, one_if_active, one_if_inactive, one_if_done, tally_of, tally_of_reply, none_counted, Adds}
 use Rattle.desk_load.specs.Loads.{load_moment, HasRoom, Grows, Asks, PutsThrough, EndsGrant, IsPutThrough, IsPart, IsShare}
 
 count-append : (one : Reply → ℕ) (h k : List GnapEntry) → count_by one (h ++ k) ≡ count_by one h + count_by one k
@@ -26,17 +26,24 @@ adds-none t = record { active = omega arith; inactive = omega arith; done = omeg
 module _ (es fs : List GnapEntry) (t u v : Tally) where
   adds-append : Adds (tally_of es) t u → Adds (tally_of fs) u v → Adds (tally_of (es ++ fs)) t v
   adds-append first second = record {
-    active = (let a = first.active in let b = second.active in let c = count-append _ es fs in omega (arith, a, b, c));
-    inactive = (let a = first.inactive in let b = second.inactive in let c = count-append _ es fs in omega (arith, a, b, c));
-    done = (let a = first.done in let b = second.done in let c = count-append _ es fs in omega (arith, a, b, c));
+    active = (let a = first.active in let b = second.active in let c = count-append one_if_active es fs in omega (arith, a, b, c));
+    inactive = (let a = first.inactive in let b = second.inactive in let c = count-append one_if_inactive es fs in omega (arith, a, b, c));
+    done = (let a = first.done in let b = second.done in let c = count-append one_if_done es fs in omega (arith, a, b, c));
   }
+
+adds-one : (e : GnapEntry) (reply : Reply) (t u : Tally) → e.reply ≡ reply → Adds (tally_of_reply reply) t u → Adds (tally_of (e ∷ [])) t u
+adds-one e reply t u is counted = record {
+  active = (let a = counted.active in let b = ap one_if_active is in omega (arith, a, b));
+  inactive = (let a = counted.inactive in let b = ap one_if_inactive is in omega (arith, a, b));
+  done = (let a = counted.done in let b = ap one_if_done is in omega (arith, a, b));
+}
 
 -- ---- entries more
 
 pub grows-none : (n : ℕ) (seen : List GnapEntry → Type 0) (h : List GnapEntry) (t : Tally) → seen h → Grows n seen h t t []
 grows-none n seen h t s = record { history = h; seen_now = s; own = sym (append-nil (own_of n h)); counted = adds-none t }
 
-pub grows-then : (n n' : ℕ) (seen seen' : List GnapEntry → Type 0) (h : List GnapEntry) (t u v : Tally) (es fs : List GnapEntry)
+abbrev grows-then : (n n' : ℕ) (seen seen' : List GnapEntry → Type 0) (h : List GnapEntry) (t u v : Tally) (es fs : List GnapEntry)
     → n' ≡ n → (first : Grows n seen h t u es) → Grows n' seen' first.history u v fs → Grows n seen' h t v (es ++ fs)
 grows-then n n' seen seen' h t u v es fs same first second =
     let own : own_of n second.history ≡ own_of n first.history ++ fs
@@ -63,11 +70,7 @@ asks-entered rules n h draw call reply seen t u e counted =
         history = h ++ e.others ++ made ∷ [];
         seen_now = e.seen_now;
         own = own-next n h e.others made e.not_mine refl;
-        counted = record {
-          active = (let a = counted.active in let b = ap (λ r. (tally_of_reply r).active) replied in omega (arith, a, b));
-          inactive = (let a = counted.inactive in let b = ap (λ r. (tally_of_reply r).inactive) replied in omega (arith, a, b));
-          done = (let a = counted.done in let b = ap (λ r. (tally_of_reply r).done) replied in omega (arith, a, b));
-        };
+        counted = adds-one made reply t u replied counted;
       };
     }
 
@@ -93,10 +96,10 @@ room-after n n' seen seen' call reply t u m same room asks =
 
 at_moment : (e : GnapEntry) (es : List GnapEntry) → e.moment ≡ load_moment → All (λ x. x.moment ≡ load_moment) es → All (λ x. x.moment ≡ load_moment) (e ∷ es)
 at_moment e es is rest zero d lt = is
-at_moment e es is rest (suc k) d lt = rest k d (omega (arith, lt))
+at_moment e es is rest (suc k) d lt = rest k d (let lt' : suc k < length (e ∷ es) = lt in omega (arith, lt'))
 
 none_at : All (λ (x : GnapEntry). x.moment ≡ load_moment) []
-none_at k d lt = absurd (omega (arith, lt))
+none_at k d lt = absurd (let lt' : k < 0 = lt in omega (arith, lt'))
 
 -- the number that two desks have
 asks-of : (call : Call) (reply : Reply) (n n' : ℕ) (seen : List GnapEntry → Type 0) (h : List GnapEntry) (t u : Tally) → n' ≡ n → Asks call reply n' seen h t u → Asks call reply n seen h t u
@@ -175,3 +178,22 @@ share-next workers worker grant n n' seen seen' h t u v same first second =
       is_done = subst (λ k. IsShare workers worker k (first.entries ++ second.entries)) (let next : suc grant ≡ grant + 1 = omega arith in next) done;
       grows = grows-then n n' seen seen' h t u v first.entries second.entries same first.grows second.grows;
     }
+
+-- ---- what was seen by whom alone tells
+
+pub if-ok-then : {T E : Type 0} (r : Result T E) (P Q : T → Type 0) → IfOk r P → ((x : T) → P x → Q x) → IfOk r Q
+if-ok-then (Ok x) P Q p f = f x p
+if-ok-then (Err e) P Q p f = tt
+
+module _ (P : List GnapEntry → Type 0) (n n' : ℕ) (same : n ≡ n') (seen : List GnapEntry → Type 0) (k : List GnapEntry) (one : (h : List GnapEntry) → seen h → h ≡ k) where
+  -- who has seen nothing before has done all of its entries
+  pub own-done : (t : Tally) → PutsThrough P n seen [] none_counted t → P (own_of n' k) × Adds (tally_of (own_of n' k)) none_counted t
+  own-done t p =
+      let whole : own_of n k ≡ p.entries = ap (own_of n) (sym (one p.grows.history p.grows.seen_now)) ∙ p.grows.own in
+      let here : own_of n' k ≡ p.entries = subst (λ m. own_of m k ≡ p.entries) same whole in
+      (subst P (sym here) p.is_done, subst (λ l. Adds (tally_of l) none_counted t) (sym here) p.grows.counted)
+
+-- the same of a call that is made by this definition
+pub asks-as : (made call : Call) (reply : Reply) (n : ℕ) (seen seen' : List GnapEntry → Type 0) (t u : Tally) → made ≡ call
+    → ((h : List GnapEntry) → seen h → Asks made reply n seen' h t u) → (h : List GnapEntry) → seen h → Asks call reply n seen' h t u
+asks-as made call reply n seen seen' t u same asks h s = subst (λ k. Asks k reply n seen' h t u) same (asks h s)

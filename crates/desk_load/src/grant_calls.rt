@@ -1,7 +1,6 @@
 //! The calls that put a grant through.
 ghost use Rattle.std.specs.Prelude.{◌≡◌, option_map, codes, IfOk};
 ghost use Rattle.desk_load.specs.LoadCalls.{photos_request, token_in, value_of, manage_of, door_in, opening_call, question_about, rotation_of, cancellation_of};
-ghost use Rattle.desk_load.specs.Loads.{MayBeMade};
 
 use crate::setup::reference_to;
 use gnap_io::bytes::Bytes;
@@ -22,7 +21,7 @@ fn token_in(reply: &Reply) -> Option<&TokenOut>
 }
 
 fn value_of(alloc: Global, token: Option<&TokenOut>) -> Result<Bytes, Mem>
-    ensures { IfOk result (λ value. value ≡ value_of (option_map (λ t. t.now) token)) }
+    ensures { IfOk result (λ value. value ≡ value_of (option_map (λ t. t.now) token.entry)) }
 {
     match token {
         None => Ok(Bytes::new(alloc)),
@@ -31,7 +30,7 @@ fn value_of(alloc: Global, token: Option<&TokenOut>) -> Result<Bytes, Mem>
 }
 
 fn manage_of(alloc: Global, token: Option<&TokenOut>) -> Result<Bytes, Mem>
-    ensures { IfOk result (λ value. value ≡ manage_of (option_map (λ t. t.now) token)) }
+    ensures { IfOk result (λ value. value ≡ manage_of (option_map (λ t. t.now) token.entry)) }
 {
     match token {
         None => Ok(Bytes::new(alloc)),
@@ -73,7 +72,6 @@ fn photos_request(alloc: Global) -> Result<GrantRequest, Mem>
 /// The client asks for a token for photos.
 pub fn opening_call(alloc: Global) -> Result<Call, Mem>
     ensures call { IfOk result (λ call. call ≡ opening_call) }
-    ensures may { IfOk result MayBeMade }
 {
     Ok(Call::Begin {
         key: Bytes::from_slice(alloc, b"c1")?,
@@ -85,7 +83,6 @@ pub fn opening_call(alloc: Global) -> Result<Call, Mem>
 /// The resource server asks about the token of a reply.
 pub fn question_about(alloc: Global, reply: &Reply) -> Result<Call, Mem>
     ensures call { IfOk result (λ call. call ≡ question_about reply.now) }
-    ensures may { IfOk result MayBeMade }
 {
     Ok(Call::Introspect {
         server: Bytes::from_slice(alloc, b"r1")?,
@@ -98,7 +95,6 @@ pub fn question_about(alloc: Global, reply: &Reply) -> Result<Call, Mem>
 /// The client exchanges the token of a reply.
 pub fn rotation_of(alloc: Global, reply: &Reply) -> Result<Call, Mem>
     ensures call { IfOk result (λ call. call ≡ rotation_of reply.now) }
-    ensures may { IfOk result MayBeMade }
 {
     Ok(Call::Rotate {
         key: Bytes::from_slice(alloc, b"c1")?,
@@ -110,7 +106,6 @@ pub fn rotation_of(alloc: Global, reply: &Reply) -> Result<Call, Mem>
 /// The client ends the grant of a reply.
 pub fn cancellation_of(alloc: Global, reply: &Reply) -> Result<Call, Mem>
     ensures call { IfOk result (λ call. call ≡ cancellation_of reply.now) }
-    ensures may { IfOk result MayBeMade }
 {
     Ok(Call::Cancel {
         key: Bytes::from_slice(alloc, b"c1")?,

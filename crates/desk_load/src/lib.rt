@@ -11,10 +11,9 @@ mod setup;
 mod share;
 mod tally;
 mod words;
+mod worker;
 mod workers;
 
+pub use setup::load_setup;
 pub use tally::Tally;
-pub use workers::{list_load, put_load};
-
-#[cfg(test)]
-mod tests;
+pub use workers::put_load;
