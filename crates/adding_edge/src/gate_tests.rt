@@ -159,6 +159,16 @@ fn gear_in_memory(alloc: Global) -> Result<MemGear, Mem>
     MemGear::new(conns, Vec::new(alloc), Vec::new(alloc), Vec::new(alloc))
 }
 
+fn gated(alloc: Global, gate: &Gate, is_first: bool) -> Result<GatedGear, Mem>
+    ensures { IfOk result (λ gear. ⟦<GatedGear as Counted>⟧.state gear ≡ new_gear 1) }
+{
+    Ok(GatedGear {
+        gear: gear_in_memory(alloc)?,
+        gate,
+        is_first,
+    })
+}
+
 // How many bytes were written to the connections of both gears.
 fn replies_to_both<R: Threads + Wait + Sync>(
     rt: &R,
@@ -166,13 +176,8 @@ fn replies_to_both<R: Threads + Wait + Sync>(
     gate: &Gate,
 ) -> Result<Vec<usize>, Mem> {
     let mut gears = Vec::new(alloc);
-    for is_first in [true, false] {
-        gears.push(GatedGear {
-            gear: gear_in_memory(alloc)?,
-            gate,
-            is_first,
-        })?;
-    }
+    gears.push(gated(alloc, gate, true)?)?;
+    gears.push(gated(alloc, gate, false)?)?;
     let front = Bytewise { start: 0 };
     let (gears, served) = serve_gears(rt, alloc, Adder::new(alloc, 0, 0), &front, gears);
     served?;
