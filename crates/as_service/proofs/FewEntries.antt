@@ -1,5 +1,5 @@
 -- The history that gears account for is short enough for what is known of legal histories.
-use Rattle.std.proofs.Common.{◌≡◌, ◌∙◌, ◌⊎◌, ℕ, suc, ◌+◌, ◌*◌, ◌^◌, ◌<◌, ◌≤◌, List, [], ◌∷◌, map, length, ap, arith}
+use Rattle.std.proofs.Common.{◌≡◌, ℕ, suc, ◌*◌, ◌^◌, ◌≤◌, List, [], ◌∷◌, map, length, ap, arith}
 use Rattle.std.specs.Prelude.{All}
 use Rattle.std.proofs.lemmas.List.Elements.{All-map, All-weaker}
 use Rattle.gnap_io.specs.Outside.{Served}
@@ -8,7 +8,7 @@ use Rattle.gnap_io.specs.Gears.{GearState, IsUnused, AreStarted}
 use Rattle.histories.specs.History.{Legal}
 use Rattle.histories.specs.Turns.{Turn, entries_in}
 use Rattle.histories.specs.Whole.{OneHistory}
-use Rattle.serving.specs.Workers.{HasServedAll, HaveServedAll, accounts_of}
+use Rattle.serving.specs.Workers.{HaveServedAll, accounts_of}
 use Rattle.serving.proofs.EntryCounts.{connections_of, history_few, session_few}
 use Rattle.gnap_model.specs.declared.objects.Setup.{Setup}
 use Rattle.gnap_history.specs.Gnap.{GnapEntry, gnap}

@@ -3,7 +3,6 @@ use Rattle.std.specs.Prelude.{◌≡◌, ℕ, nat_lt, Bool, true, List, All, len
 use Rattle.std.specs.List.{list_any}
 use Rattle.gnap_io.specs.Gears.{GearState, IsUnused}
 use Rattle.gnap_io.specs.Worlds.{WorldState, HasWorldCause, with_opening, with_gears}
-use Rattle.gnap_io.specs.declared.world.Opening.{Opening}
 use Rattle.gnap_io.specs.declared.world.Opening.TheVariants as opening
 use Rattle.gnap_io.specs.declared.world.WorldFault.{WorldFault}
 use Rattle.gnap_io.specs.declared.world.WorldFault.TheVariants.{Failed, OutOfMemory}

@@ -1,17 +1,10 @@
--- What a decision has, where it says nothing of it.
-use Rattle.std.proofs.Common.{◌≡◌, true, List, refl, Option, Some, None}
+-- What a decision has by its round.
+use Rattle.std.proofs.Common.{◌≡◌, refl, Option, Some, None}
 use Rattle.std.specs.Prelude.{is_some, option_map}
 use Rattle.gnap_model.specs.Common.{some_if}
-use Rattle.gnap_model.specs.Rights.{covers}
-use Rattle.gnap_model.specs.declared.rights.Right.{Right}
 use Rattle.gnap_model.specs.declared.objects.Finish.{Finish}
 use Rattle.gnap_model.specs.Actions.{Supply, drawn_value, finish_of}
 use Rattle.gnap_model.specs.declared.notes.RoundNote.{RoundNote}
-use Rattle.gnap_model.proofs.Covering.{covers_includes}
-
--- Rights cover themselves.
-pub covers_itself : (rights : List Right) → covers rights rights ≡ true
-covers_itself rights = (covers_includes rights rights).1 (λ atom has. has)
 
 -- The reference that the front is told is drawn where there is a finish.
 pub reference_told : (supply : Supply) (round : RoundNote) (finish : Option Finish)

@@ -6,11 +6,10 @@ pub mod FitsThrough
 pub mod FoundFits
 pub mod Holders
 pub mod Interactions
-pub mod Issuing
 pub mod Deciding
 pub mod Decisions
 pub mod Modifying
 pub mod Retiring
+pub mod Supplied
 pub mod Terms
-pub mod UserCodes
 pub mod Weaker

@@ -1,5 +1,4 @@
 pub mod Counts
-pub mod Courses
 pub mod Drawings
 pub mod Gnap
 pub mod Holders
@@ -7,4 +6,3 @@ pub mod Interactions
 pub mod Laws
 pub mod Rounds
 pub mod Terms
-pub mod UserCodes

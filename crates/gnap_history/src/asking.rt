@@ -1,26 +1,20 @@
 //! The user is asked: a grant is pending in a new round of interaction (RFC 9635, section 3.3).
-ghost use Rattle.std.specs.Prelude.{◌≡◌, IfOk, is_some};
+ghost use Rattle.std.specs.Prelude.{◌≡◌, IfOk};
 ghost use Rattle.gnap_model.specs.Common.{some_if};
 ghost use Rattle.gnap_model.specs.Asked.{wants_code as code_wanted};
-ghost use Rattle.gnap_model.specs.Actions.{drawn_value, round_for, pending_outcome};
+ghost use Rattle.gnap_model.specs.Actions.{round_for, pending_outcome};
 ghost use Rattle.gnap_history.specs.Drawings.{supply, IsAnswer};
-ghost use Rattle.gnap_history.specs.UserCodes.{code_for};
+ghost use Rattle.grant_rules.specs.UserCodes.{code_for};
 
 use crate::drawing::{Drawing, NotedReply};
 use crate::user_codes::user_code;
 use gnap_io::bytes::Bytes;
 use gnap_io::memory::{Duplicate, Mem};
 use gnap_io::seq::Seq;
-use gnap_model::calls::Reply;
 use gnap_model::notes::{Note, OpeningNote, RoundNote};
 use gnap_model::objects::Modes;
+use grant_rules::drawing::pending_reply;
 use std::alloc::Global;
-
-/// The user may decide for so many seconds, if the grant lasts so long.
-pub const INTERACTION_TIME: u64 = 600;
-
-/// A round is over after so many seconds.
-pub const ROUND_TIME: u64 = 1_200;
 
 /// The user code, where the client can show one.
 fn wanted_code(alloc: Global, drawing: &Drawing, modes: &Modes) -> Result<Option<[u8; 8]>, Mem>
@@ -33,17 +27,6 @@ fn wanted_code(alloc: Global, drawing: &Drawing, modes: &Modes) -> Result<Option
     }
 }
 
-/// The nonce, where the client asks to be told of the end.
-fn wanted_nonce(drawing: &Drawing, modes: &Modes) -> Option<[u8; 32]>
-    ensures { result ≡ some_if (is_some modes.now.finish) (drawn_value (supply drawing.now) 2) }
-{
-    if modes.finish.is_some() {
-        Some(drawing.value(2))
-    } else {
-        None
-    }
-}
-
 /// A new round of interaction.
 fn round(
     alloc: Global,
@@ -53,15 +36,10 @@ fn round(
 ) -> Result<RoundNote, Mem>
     ensures { IfOk result (λ round. round ≡ round_for (supply drawing.now) opening.now modes.now) }
 {
-    Ok(RoundNote {
-        grant: opening.grant,
-        until: (drawing.moment + INTERACTION_TIME).min(opening.end),
-        over: drawing.moment + ROUND_TIME,
-        modes: modes.copy()?,
-        handle: drawing.value(1),
-        code: wanted_code(alloc, drawing, modes)?,
-        nonce: wanted_nonce(drawing, modes),
-    })
+    let code = wanted_code(alloc, drawing, modes)?;
+    drawing
+        .supply()
+        .round(opening.grant, opening.end, modes, code)
 }
 
 /// The user is asked: a new continuation value and a round of interaction, after the notes `before` (RFC 9635, sections 3.1 and 3.3).
@@ -77,15 +55,7 @@ pub fn pending(
 {
     let round = round(alloc, drawing, opening, modes)?;
     let door = drawing.value(0);
-    let reply = Reply::Pending {
-        door,
-        modes: modes.copy()?,
-        handle: round.handle,
-        code: round.code.unwrap_or([0; 8]),
-        nonce: round.nonce.unwrap_or([0; 32]),
-        expires_in: round.until.saturating_sub(drawing.moment),
-        instance,
-    };
+    let reply = pending_reply(&round, drawing.moment, door, instance)?;
     let mut notes = before;
     notes.push(drawing.door(opening, door))?;
     notes.push(Note::Pended(round))?;

@@ -12,10 +12,8 @@ use crate::asking::pending;
 use crate::drawing::{Drawing, NotedReply, noted, refuse};
 use crate::granting::grant;
 use crate::limits::others_pass_limit;
-use crate::opening::terms;
 use crate::presented_values::{is_managed, named_grant, of_key};
 use crate::rounds::consent_of;
-use crate::settling::{Course, settle};
 use gnap_io::bytes::Bytes;
 use gnap_io::memory::{Duplicate, Mem};
 use gnap_io::seq::Seq;
@@ -23,6 +21,8 @@ use gnap_model::calls::Reply;
 use gnap_model::notes::{Note, OpeningNote, Why};
 use gnap_model::objects::{ErrorCode, GrantRequest, Modes, Setup};
 use gnap_model::rights::Rights;
+use grant_rules::opening::terms;
+use grant_rules::settling::{Course, settle};
 use std::alloc::Global;
 
 /// The notes that retire the grant's tokens, where they can still be managed.
@@ -65,7 +65,7 @@ fn modify_at_once(
         return Ok(refuse(alloc, ErrorCode::RequestDenied));
     }
     let mut before = retirements(alloc, notes, opening, drawing.moment)?;
-    before.push(Note::Terms(terms(opening, request)?))?;
+    before.push(Note::Terms(terms(opening.grant, request)?))?;
     before.push(Note::Approved {
         grant: opening.grant,
         consent: consent.copy()?,
@@ -93,7 +93,7 @@ fn modify_asking(
     ensures { IfOk result (IsAnswer (outcome_of (supply drawing.now) (ModifyAsking opening.now (tokens_of (trail drawing.now) drawing.now.moment opening.now) request.now modes.now))) }
 {
     let mut before = retirements(alloc, drawing.notes.as_slice(), opening, drawing.moment)?;
-    before.push(Note::Terms(terms(opening, request)?))?;
+    before.push(Note::Terms(terms(opening.grant, request)?))?;
     pending(alloc, drawing, opening, before, modes, None)
 }
 

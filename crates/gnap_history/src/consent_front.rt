@@ -5,21 +5,20 @@ ghost use Rattle.gnap_model.specs.Actions.{on_found, finish_of, outcome_of};
 ghost use Rattle.gnap_model.specs.Actions.Action.{ShowRound, TakeDecision};
 ghost use Rattle.gnap_model.specs.Standing.{opening_in, terms_of};
 ghost use Rattle.gnap_model.specs.Common.{first_of};
-ghost use Rattle.gnap_model.specs.Front.{look as looked_at, find_code as found_by_code, rights_or, may_decide as may_be_decided, decide_on as decided_on, decide as decided};
+ghost use Rattle.gnap_model.specs.Front.{look as looked_at, find_code as found_by_code, decide_on as decided_on, decide as decided};
 ghost use Rattle.gnap_model.specs.declared.objects.ErrorCode.TheVariants.{UnknownInteraction};
 ghost use Rattle.gnap_history.specs.Drawings.{trail, supply, IsAnswer};
 
 use crate::drawing::{Drawing, NotedReply, noted, refuse, silent};
 use crate::live_rounds::{round_by_code, round_by_handle};
 use crate::look_ups::opening_of;
-use access_rights::covers;
 use gnap_io::bytes::Bytes;
 use gnap_io::memory::{Duplicate, Mem};
-use gnap_io::seq::Seq;
 use gnap_model::calls::{FinishOut, Reply};
 use gnap_model::notes::{DecisionNote, Note, OpeningNote, RoundNote, TermsNote};
 use gnap_model::objects::{Ask, DecideRequest, ErrorCode, Verdict};
 use gnap_model::rights::Rights;
+use grant_rules::deciding::{may_decide, rights_of_decision};
 use std::alloc::Global;
 
 /// What the user is asked in the round, and how long the answer is waited for.
@@ -83,51 +82,11 @@ pub fn find_code(alloc: Global, drawing: &Drawing, code: &[u8; 8]) -> NotedReply
     }
 }
 
-/// All rights of the asks.
-fn asked_rights(alloc: Global, asks: &[Ask]) -> Result<Rights, Mem>
-    ensures { IfOk result (λ rights. rights ≡ all_asked_rights asks.now) }
-{
-    let mut rights = Seq::new(alloc);
-    for ask in asks {
-        rights.append(ask.rights.copy()?)?;
-    }
-    Ok(rights)
-}
-
-/// The user grants no more than was asked for.
-fn may_decide(alloc: Global, request: &DecideRequest, asks: &[Ask]) -> Result<bool, Mem>
-    ensures { IfOk result (λ b. b ≡ may_be_decided request.now.verdict (all_asked_rights asks.now) (rights_or (all_asked_rights asks.now) request.now.rights)) }
-{
-    match (request.verdict, &request.rights) {
-        (Verdict::Grant, Some(rights)) => Ok(covers(&asked_rights(alloc, asks)?, rights)),
-        (Verdict::Grant, None) => Ok(true),
-        (Verdict::Deny, _) => Ok(true),
-        (Verdict::Unknown, _) => Ok(true),
-    }
-}
-
-/// The rights of the decision; without them it has all that were asked for.
-fn rights_of_decision(alloc: Global, request: &DecideRequest, asks: &[Ask]) -> Result<Rights, Mem>
-    ensures { IfOk result (λ rights. rights ≡ rights_or (all_asked_rights asks.now) request.now.rights) }
-{
-    match &request.rights {
-        Some(rights) => rights.copy(),
-        None => asked_rights(alloc, asks),
-    }
-}
-
 /// What the front needs to tell the client that the interaction is over, where the client asked for that (RFC 9635, section 4.2).
 fn ending(drawing: &Drawing, round: &RoundNote) -> Result<Option<FinishOut>, Mem>
     ensures { IfOk result (λ ending. ending ≡ finish_of (supply drawing.now) round.now round.now.modes.finish) }
 {
-    match &round.modes.finish {
-        Some(finish) => Ok(Some(FinishOut {
-            finish: finish.copy()?,
-            server_nonce: round.nonce.unwrap_or([0; 32]),
-            reference: drawing.value(0),
-        })),
-        None => Ok(None),
-    }
+    drawing.supply().ending(&round.modes.finish, round.nonce)
 }
 
 /// The interaction reference that the front is told, and that the decision has.

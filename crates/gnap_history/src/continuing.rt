@@ -11,7 +11,6 @@ ghost use Rattle.gnap_model.specs.Continue.{is_wrong as is_wrong_for, wrong_refe
 ghost use Rattle.gnap_model.specs.declared.objects.Verdict.TheVariants.{Grant};
 ghost use Rattle.gnap_history.specs.Drawings.{trail, supply, IsAnswer};
 
-use crate::decided_asks::decided_asks;
 use crate::drawing::{Drawing, NotedReply, noted, refuse};
 use crate::granting::grant;
 use crate::limits::passes_limit;
@@ -23,10 +22,9 @@ use gnap_io::seq::Seq;
 use gnap_model::calls::Reply;
 use gnap_model::notes::{DecisionNote, Note, OpeningNote, RoundNote, TermsNote};
 use gnap_model::objects::{ErrorCode, Verdict};
+use grant_rules::decided_asks::decided_asks;
+use grant_rules::limits::WRONG_LIMIT;
 use std::alloc::Global;
-
-/// So many wrong references in a round end the grant.
-pub const WRONG_LIMIT: usize = 5;
 
 /// An error reply that ends the grant.
 fn refuse_and_finalize(

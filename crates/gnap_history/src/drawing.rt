@@ -5,16 +5,14 @@ ghost use Rattle.gnap_model.specs.declared.notes.Note.TheVariants.{Door};
 ghost use Rattle.gnap_model.specs.declared.calls.Reply.TheVariants.{Error};
 
 use crate::note_list::NoteList;
-use crate::values::value_text;
 use gnap_io::memory::Mem;
 use gnap_io::seq::Seq;
 use gnap_model::calls::Reply;
 use gnap_model::notes::{Note, OpeningNote};
 use gnap_model::objects::ErrorCode;
+use grant_rules::drawing::Supply;
+use grant_rules::limits::WAIT;
 use std::alloc::Global;
-
-/// A continuation value may be used for a poll after so many seconds.
-pub const WAIT: u64 = 5;
 
 /// What an entry draws on: the notes so far, the greatest moment, and its random words.
 #[derive(Clone, Copy)]
@@ -30,7 +28,21 @@ pub struct Drawing<'a> {
 
 impl<'a> Drawing<'a> {
     ghost use Rattle.gnap_model.specs.Actions.{drawn_value};
-    ghost use Rattle.gnap_history.specs.Drawings.{supply};
+    ghost use Rattle.gnap_history.specs.Drawings.{trail, supply};
+    ghost use Rattle.gnap_model.specs.Notes.{first_serial};
+
+    /// What the entry draws on, without the notes.
+    pub fn supply(&self) -> Supply<'a>
+        ensures moment { result.moment ≡ self.now.moment }
+        ensures first { result.first ≡ first_serial (trail self.now) }
+        ensures words { result.words.now ≡ self.now.words.now }
+    {
+        Supply {
+            moment: self.moment,
+            first: self.notes.first_serial(),
+            words: self.words,
+        }
+    }
 
     /// The value with this index among those of the entry, counted from 0. Its serial is so many after the entry's first one, and two of the
     /// words belong to it.
@@ -38,11 +50,7 @@ impl<'a> Drawing<'a> {
         requires { index < 24 }
         ensures { result ≡ drawn_value (supply self.now) index }
     {
-        value_text(
-            self.notes.first_serial() + index as u64,
-            self.words[2 * index],
-            self.words[2 * index + 1],
-        )
+        self.supply().value(index)
     }
 
     /// The note that the grant has a new continuation value (RFC 9635, section 3.1).

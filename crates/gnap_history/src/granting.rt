@@ -8,14 +8,12 @@ use crate::drawing::{Drawing, NotedReply};
 use gnap_io::bytes::Bytes;
 use gnap_io::memory::{Duplicate, Mem};
 use gnap_io::seq::Seq;
-use gnap_model::calls::{Reply, TokenOut, Tokens};
+use gnap_model::calls::{Reply, Tokens};
 use gnap_model::notes::{Note, OpeningNote, TokenNote};
 use gnap_model::objects::Ask;
 use gnap_model::rights::Rights;
+use grant_rules::tokens::token_out;
 use std::alloc::Global;
-
-/// A token lasts so many seconds, if its grant does.
-pub const TOKEN_TIME: u64 = 3_600;
 
 /// The token with this label and these rights: its value is that of the entry with this index, its management value the next one (RFC 9635, section 3.2.1).
 pub fn token_with(
@@ -29,18 +27,15 @@ pub fn token_with(
     requires { index < 23 }
     ensures { IfOk result (λ token. token ≡ token_for (supply drawing.now) opening.now (record { label = label; rights = rights; bearer = bearer }) index) }
 {
-    Ok(TokenNote {
-        serial: drawing.notes.first_serial() + index as u64,
-        grant: opening.grant,
+    drawing.supply().token(
+        opening.grant,
+        &opening.key,
+        opening.end,
         label,
         rights,
         bearer,
-        key: opening.key.copy()?,
-        issued: drawing.moment,
-        until: (drawing.moment + TOKEN_TIME).min(opening.end),
-        value: drawing.value(index),
-        manage: drawing.value(index + 1),
-    })
+        index,
+    )
 }
 
 /// The token for an ask.
@@ -56,20 +51,6 @@ fn token(
     let label = ask.label.copy()?;
     let rights = ask.rights.copy()?;
     token_with(drawing, opening, label, rights, ask.bearer, index)
-}
-
-/// The token as it is handed out (RFC 9635, section 3.2.1).
-pub fn token_out(token: &TokenNote, now: u64) -> Result<TokenOut, Mem>
-    ensures { IfOk result (λ out. out ≡ token_shown now token.now) }
-{
-    Ok(TokenOut {
-        value: token.value,
-        manage: token.manage,
-        label: token.label.copy()?,
-        rights: token.rights.copy()?,
-        expires_in: token.until.saturating_sub(now),
-        bearer: token.bearer,
-    })
 }
 
 /// Issues a token for each ask, the values in turn, and adds their notes to `added`. After an `Err` some may be added.

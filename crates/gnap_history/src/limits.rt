@@ -10,9 +10,7 @@ ghost use Rattle.gnap_history.specs.Counts.{is_unexpired, lets_go_on};
 use crate::look_ups::{is_finalized, is_live};
 use crate::note_list::NoteList;
 use gnap_model::notes::{Note, OpeningNote};
-
-/// So many grants may be live, and so many tokens.
-pub const LIVE_LIMIT: usize = 65_536;
+use grant_rules::limits::LIVE_LIMIT;
 
 /// How many grants are live at this moment.
 fn live_grants(notes: &[Note], now: u64) -> usize

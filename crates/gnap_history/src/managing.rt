@@ -9,7 +9,7 @@ ghost use Rattle.std.specs.List.{list_any};
 ghost use Rattle.gnap_history.specs.Drawings.{trail, supply, IsAnswer};
 
 use crate::drawing::{Drawing, NotedReply, noted, refuse, silent};
-use crate::granting::{token_out, token_with};
+use crate::granting::token_with;
 use crate::look_ups::{is_live, is_retired, opening_of};
 use crate::presented_values::{managed_token, of_key};
 use gnap_io::bytes::Bytes;
@@ -18,6 +18,7 @@ use gnap_io::seq::Seq;
 use gnap_model::calls::Reply;
 use gnap_model::notes::{Note, OpeningNote, TokenNote, Why};
 use gnap_model::objects::ErrorCode;
+use grant_rules::tokens::token_out;
 use std::alloc::Global;
 
 /// The token gets a successor, with its label, its rights and its flag (RFC 9635, section 6.1).

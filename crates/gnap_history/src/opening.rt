@@ -1,8 +1,8 @@
 //! The answer to a grant request (RFC 9635, section 2).
 ghost use Rattle.std.specs.Prelude.{◌≡◌, ◌≤◌, length, IfOk};
-ghost use Rattle.gnap_model.specs.Actions.{terms_for, instance_of as instance_named, outcome_of};
+ghost use Rattle.gnap_model.specs.Actions.{outcome_of};
 ghost use Rattle.gnap_model.specs.Actions.Action.{OpenAtOnce, OpenAsking};
-ghost use Rattle.gnap_model.specs.Begin.{is_past as has_passed, opening as opening_for, begin_by as begun_by, begin as begun};
+ghost use Rattle.gnap_model.specs.Begin.{opening as opening_for, begin_by as begun_by, begin as begun};
 ghost use Rattle.gnap_model.specs.Judging.Settled.{AtOnce as SettledAtOnce, ByAsking as SettledByAsking};
 ghost use Rattle.gnap_history.specs.Drawings.{trail, supply, IsAnswer};
 
@@ -10,29 +10,17 @@ use crate::asking::pending;
 use crate::drawing::{Drawing, NotedReply, refuse};
 use crate::granting::grant;
 use crate::limits::{has_many_grants, passes_limit};
-use crate::settling::{Course, settle};
 use gnap_io::bytes::Bytes;
 use gnap_io::memory::{Duplicate, Mem};
 use gnap_io::seq::Seq;
-use gnap_model::notes::{Note, OpeningNote, TermsNote};
+use gnap_model::notes::{Note, OpeningNote};
 use gnap_model::objects::{ErrorCode, GrantRequest, Modes, Setup};
+use grant_rules::opening::{instance_of, is_past, opening, terms};
+use grant_rules::settling::{Course, settle};
 use std::alloc::Global;
 
-/// A grant lasts so many seconds.
-pub const GRANT_TIME: u64 = 2_592_000;
-
-/// The asked end has come.
-fn is_past(now: u64, not_after: Option<u64>) -> bool
-    ensures { result ≡ has_passed now not_after }
-{
-    match not_after {
-        Some(end) => end <= now,
-        None => false,
-    }
-}
-
-/// The grant that the request opens. It ends after `GRANT_TIME` seconds, or at `not_after` where that is sooner.
-fn opening(
+/// The grant that the request opens.
+fn opened(
     drawing: &Drawing,
     key: &Bytes,
     request: &GrantRequest,
@@ -40,40 +28,13 @@ fn opening(
 ) -> Result<OpeningNote, Mem>
     ensures { IfOk result (λ opening. opening ≡ opening_for (trail drawing.now) drawing.now.moment key.now request.now not_after) }
 {
-    let end = drawing.moment + GRANT_TIME;
-    Ok(OpeningNote {
-        grant: drawing.notes.next_grant(),
-        key: key.copy()?,
-        by_object: request.by_object,
-        user: request.user.copy()?,
-        end: match not_after {
-            Some(not_after) => end.min(not_after),
-            None => end,
-        },
-    })
-}
-
-/// What the grant is asked for from now on.
-pub fn terms(opening: &OpeningNote, request: &GrantRequest) -> Result<TermsNote, Mem>
-    ensures { IfOk result (λ terms. terms ≡ terms_for opening.now request.now) }
-{
-    Ok(TermsNote {
-        grant: opening.grant,
-        asks: request.asks.copy()?,
-        single: request.single,
-        subject: request.subject,
-    })
-}
-
-/// The client's instance id, where the request named the client by an object (RFC 9635, section 3.5).
-fn instance_of(opening: &OpeningNote) -> Result<Option<Bytes>, Mem>
-    ensures { IfOk result (λ instance. instance ≡ instance_named opening.now) }
-{
-    if opening.by_object {
-        Ok(Some(opening.key.copy()?))
-    } else {
-        Ok(None)
-    }
+    opening(
+        drawing.notes.next_grant(),
+        drawing.moment,
+        key,
+        request,
+        not_after,
+    )
 }
 
 /// A new grant, whose tokens are issued at once (RFC 9635, section 3.2).
@@ -88,7 +49,7 @@ fn open_at_once(
 {
     let mut before = Seq::new(alloc);
     before.push(Note::Opened(opening.copy()?))?;
-    before.push(Note::Terms(terms(opening, request)?))?;
+    before.push(Note::Terms(terms(opening.grant, request)?))?;
     before.push(Note::Approved {
         grant: opening.grant,
         consent: Seq::new(alloc),
@@ -133,7 +94,7 @@ fn open_asking(
 {
     let mut before = Seq::new(alloc);
     before.push(Note::Opened(opening.copy()?))?;
-    before.push(Note::Terms(terms(opening, request)?))?;
+    before.push(Note::Terms(terms(opening.grant, request)?))?;
     pending(
         alloc,
         drawing,
@@ -177,11 +138,11 @@ pub fn begin(
     match settle(alloc, setup, key.as_slice(), &Seq::new(alloc), request)? {
         Course::Never => Ok(refuse(alloc, ErrorCode::RequestDenied)),
         Course::AtOnce => {
-            let opening = opening(drawing, key, request, not_after)?;
+            let opening = opened(drawing, key, request, not_after)?;
             begin_at_once(alloc, drawing, &opening, request)
         }
         Course::ByAsking => {
-            let opening = opening(drawing, key, request, not_after)?;
+            let opening = opened(drawing, key, request, not_after)?;
             begin_by_asking(alloc, drawing, &opening, request)
         }
     }

@@ -1,23 +1,22 @@
 -- A script that goes on, and how it ends.
-use Rattle.std.proofs.Common.{◌≡◌, ◌∙◌, ℕ, ◌+◌, ◌<◌, ◌≤◌, List, [], ◌∷◌, ◌++◌, length, take, Bool, true, false, refl, ap, sym, subst, arith, append_assoc, length-append, ◌⊎◌, inl, inr}
-use Rattle.std.specs.Prelude.{◌≢◌, ◌&&◌, Option, Some, None, flat_map}
-use Rattle.std.specs.List.{list_all}
+use Rattle.std.proofs.Common.{◌≡◌, ◌∙◌, ℕ, ◌+◌, ◌<◌, ◌≤◌, List, [], ◌∷◌, ◌++◌, length, take, Bool, true, false, refl, ap, sym, subst, arith, append_assoc, length-append, inl, inr}
+use Rattle.std.specs.Prelude.{◌≢◌, ◌&&◌, None}
 use Rattle.std.proofs.lemmas.Bool.Decides.{nat_tests}
 use Rattle.std.proofs.lemmas.List.{append-nil, take_all}
 use Rattle.std.proofs.lemmas.List.Concat.{flat_map-append}
 use Rattle.std.proofs.lemmas.List.Folds.{list_all-append}
 use Rattle.gnap_io.specs.Outside.{Told, IsAtEnd, IsRest, IsPrefix, Writes}
 use Rattle.gnap_io.specs.Links.{Exchange}
-use Rattle.histories.specs.Turns.{Each, AllOn, messages_in, entries_in, bytes_in}
+use Rattle.histories.specs.Turns.{AllOn, messages_in, entries_in, bytes_in}
 use Rattle.histories.proofs.TurnLemmas.{messages_in-append, entries_in-next, each-next}
 use Rattle.gnap_client.specs.declared.client.Client.{Client}
 use Rattle.client_scripts.specs.Turns.{ScriptEntry, ScriptTurn, IsScriptTurn, Chained, entry_exchanges, exchanges_in, turn_of, bytes_said, fine_said, was_said}
 use Rattle.gnap_tool.specs.declared.answering.After.{After}
 use Rattle.gnap_tool.specs.declared.ended.Ended.{Ended}
-use Rattle.gnap_tool.specs.declared.ended.Ended.TheVariants.{Done, NoSetup, Failed, WriteFault, Memory, Refused, TooLong}
+use Rattle.gnap_tool.specs.declared.ended.Ended.TheVariants.{Done, Failed, WriteFault, Memory, TooLong}
 use Rattle.gnap_tool.specs.Lines.{IsLine, lines_of, whole_lines}
 use Rattle.gnap_tool.specs.Reading.{Came}
-use Rattle.gnap_tool.specs.LineRuns.{EndsAs, GoesOn, RunsLines}
+use Rattle.gnap_tool.specs.LineRuns.{EndsAs, RunsLines}
 use Rattle.gnap_tool.specs.Replays.{setup_limit}
 use Rattle.gnap_tool.specs.ClientFiles.{client_config_in, SaysLine, all_fine, is_fine_entry, ScriptHad, ScriptGoes, AllHad, EndsInText, EndsScript, RunsScript, ended_script}
 use Rattle.gnap_tool.specs.Ends.{CountsReads, CountsWrites, EndsAt, Took}

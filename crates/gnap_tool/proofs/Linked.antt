@@ -1,6 +1,6 @@
 -- What a command does to the world while a link is open.
-use Rattle.std.proofs.Common.{◌≡◌, ◌≢◌, ◌∙◌, ℕ, List, [], ◌∷◌, ◌++◌, length, refl, ap, sym, subst, append_assoc, ◌⊎◌, inl, inr}
-use Rattle.std.specs.Prelude.{Option, Some, None, IsSome, All, Any, drop, slice_get}
+use Rattle.std.proofs.Common.{◌≡◌, ◌≢◌, ◌∙◌, ℕ, List, [], ◌∷◌, ◌++◌, length, ap, sym, subst, append_assoc, inl, inr}
+use Rattle.std.specs.Prelude.{Option, Some, IsSome, All, Any, drop, slice_get}
 use Rattle.std.proofs.Math.Seq.{drop-append_seam}
 use Rattle.gnap_io.specs.declared.world.Opening.{Opening}
 use Rattle.gnap_io.specs.declared.world.Opening.TheVariants.{Link}
@@ -11,7 +11,6 @@ use Rattle.gnap_io.specs.Worlds.{WorldState, with_opening, with_link}
 use Rattle.gnap_io.specs.Openings.{gears_in, new_files}
 use Rattle.gnap_io.proofs.OpeningLemmas.{gives-around, back-around}
 use Rattle.gnap_tool.specs.declared.ended.Ended.{Ended}
-use Rattle.gnap_tool.specs.Ends.{Took}
 use Rattle.gnap_client.specs.declared.client.Client.{Client}
 use Rattle.gnap_client.specs.Configs.{Parts}
 use Rattle.gnap_tool.specs.ClientFiles.{IsNewClient, RunsScript, RunsClient}

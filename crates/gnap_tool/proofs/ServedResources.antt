@@ -1,14 +1,12 @@
 -- What serving resources at an address does to the world.
 use Rattle.std.proofs.Common.{◌≡◌, ◌<◌, ℕ, List, [], ◌∷◌, length, refl, arith}
 use Rattle.std.proofs.lemmas.Bool.Decides.{nat_tests}
-use Rattle.std.specs.Prelude.{None, Result, Ok, Err}
+use Rattle.std.specs.Prelude.{None, Result, Err}
 use Rattle.gnap_io.specs.declared.world.Opening.TheVariants.{Gears, Link}
 use Rattle.gnap_io.specs.declared.world.WorldFault.{WorldFault}
 use Rattle.gnap_io.specs.declared.world.WorldFault.TheVariants as faults
-use Rattle.gnap_io.specs.Gears.{GearState}
-use Rattle.gnap_io.specs.Links.{LinkState, new_link}
+use Rattle.gnap_io.specs.Links.{new_link}
 use Rattle.gnap_io.specs.Worlds.{WorldState, HasWorldCause, with_opening, with_gears}
-use Rattle.as_service.specs.Services.{IsEndOfService}
 use Rattle.resource_server.specs.declared.setup.RsSetup.{RsSetup}
 use Rattle.rs_edge.specs.RsServices.{IsRsService, not_linked, not_started, served}
 use Rattle.gnap_tool.specs.Replays.{setup_limit}

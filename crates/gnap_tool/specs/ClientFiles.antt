@@ -1,7 +1,7 @@
 -- The configuration of a client as a file has it, and the account of a script.
 use Rattle.std.specs.Prelude.{◌≡◌, ◌⊎◌, ◌&&◌, ℕ, Bool, true, false, List, [], ◌∷◌, ◌++◌, length, nat_lt, Option, Some, None, Result, Ok, Err, if◌then◌else◌}
 use Rattle.std.specs.List.{list_all}
-use Rattle.gnap_io.specs.Outside.{Told, IsRest, Writes}
+use Rattle.gnap_io.specs.Outside.{Told, Writes}
 use Rattle.gnap_io.specs.Links.{Exchange}
 use Rattle.histories.specs.Turns.{Each, AllOn, messages_in, entries_in, bytes_in}
 use Rattle.gnap_objects.specs.declared.setups.SetupFault.{SetupFault}
@@ -13,7 +13,7 @@ use Rattle.client_scripts.specs.Turns.{ScriptEntry, ScriptTurn, IsScriptTurn, Ha
 use Rattle.gnap_tool.specs.declared.answering.After.{After}
 use Rattle.gnap_tool.specs.declared.ended.Ended.{Ended}
 use Rattle.gnap_tool.specs.declared.ended.Ended.TheVariants.{Done, NoSetup, Failed, WriteFault, Memory, Refused, TooLong}
-use Rattle.gnap_tool.specs.LineRuns.{GoesBy, Prints, EndsAs, GoesOn, RunsLines}
+use Rattle.gnap_tool.specs.LineRuns.{GoesBy, Prints, EndsAs, GoesOn}
 use Rattle.gnap_tool.specs.Lines.{lines_of, whole_lines}
 use Rattle.gnap_tool.specs.Replays.{setup_limit}
 

@@ -5,4 +5,5 @@ pub mod Changed
 pub mod TokenLemmas
 pub mod GrantLemmas
 pub mod InteractionLemmas
+pub mod OpenCodes
 pub mod LiveRows

@@ -1,21 +1,23 @@
 //! The rows of grants.
-ghost use Rattle.std.specs.Prelude.{◌≡◌, ◌+◌, ◌-◌, ◌*◌, ◌^◌, ◌<◌, ◌≤◌, [], ◌∷◌, ◌++◌, length, map, filter, option_map, slice_get, OnOk, not, ◌==◌};
+ghost use Rattle.std.specs.Prelude.{◌≡◌, ◌+◌, ◌-◌, ◌*◌, ◌^◌, ◌<◌, ◌≤◌, [], ◌∷◌, ◌++◌, length, map, filter, reverse, option_map, slice_get, IfOk, OnOk, not, ◌==◌};
 ghost use Rattle.std.specs.Option.{option_and_then};
-ghost use Rattle.std.specs.List.{All};
+ghost use Rattle.std.specs.List.{All, filter_map};
 ghost use Rattle.gnap_model.specs.Common.{same_text, some_if};
+ghost use Rattle.gnap_model.specs.Standing.{code_in};
 ghost use Rattle.gnap_tables.specs.declared.rows.GrantRow.{GrantRow};
 ghost use Rattle.gnap_tables.specs.Tables.{is_row_over as over, is_round_over as round_over, sweep_grants, drop_grant, has_grant, change_grant, with_door};
-ghost use Rattle.gnap_tables.specs.RowSearches.{Interaction, interaction_where, newest, row_by_door, row_by_number, is_approved_grant};
+ghost use Rattle.gnap_tables.specs.RowSearches.{Interaction, interaction_where, open_rounds, newest, row_by_door, row_by_number, is_approved_grant};
 ghost use Rattle.ordered_search.specs.Order.{IsAscending};
 ghost use Rattle.row_store.specs.Grants.{BeginsWith, changed_by, CanChange, ChangesAll, is_door_of, where_some, is_current_door, grant_in};
-ghost use Rattle.row_store.specs.Interactions.{goes_by, is_open_by};
+ghost use Rattle.row_store.specs.Interactions.{goes_by, is_open_by, open_code_in};
 ghost use Rattle.row_store.specs.declared.grant_table.GrantPlace.{GrantPlace};
 ghost use Rattle.row_store.specs.declared.grant_table.DoorPlace.{DoorPlace};
 
 use crate::changes::{Change, apply};
-use crate::interactions::{InteractionName, is_open};
+use crate::interactions::{InteractionName, is_open, open_code};
 use crate::serials::serial_in_value;
 use gnap_io::memory::Mem;
+use gnap_io::seq::Seq;
 use gnap_tables::rows::{GrantRow, Round};
 use ordered_search::{Keyed, Steps, place, place_of};
 use std::alloc::Global;
@@ -126,6 +128,19 @@ fn last_named<'a>(places: &'a [GrantPlace], now: u64, name: InteractionName) -> 
         }
     }
     found
+}
+
+// The user codes of the interactions in which the user may still decide.
+fn codes_at(alloc: Global, places: &[GrantPlace], now: u64) -> Result<Seq<[u8; 8]>, Mem>
+    ensures { IfOk result (λ codes. codes ≡ filter_map (λ place. open_code_in now (grant_in place).round) places.now) }
+{
+    let mut codes = Seq::new(alloc);
+    for place in places {
+        if let Some(code) = open_code(&place.row.as_ref().round, now) {
+            codes.push(code)?;
+        }
+    }
+    Ok(codes)
 }
 
 /// The end of the round has come.
@@ -292,6 +307,13 @@ impl GrantTable {
         ensures { option_map (λ row. row.now) result ≡ option_map (λ (i : Interaction). i.row) (newest (interaction_where (goes_by name.entry) now) self.now.rows) }
     {
         last_named(self.places.as_slice(), now, name)
+    }
+
+    /// The user codes of the interactions in which the user may still decide, that of the oldest grant first. A pass over all rows.
+    pub fn open_codes(&self, alloc: Global, now: u64) -> Result<Seq<[u8; 8]>, Mem>
+        ensures { IfOk result (λ codes. codes ≡ reverse (filter_map code_in (open_rounds now self.now.rows))) }
+    {
+        codes_at(alloc, self.places.as_slice(), now)
     }
 
     // Leaves out of the index what grants had before, where that is more than there are rows.

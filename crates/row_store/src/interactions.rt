@@ -1,6 +1,6 @@
 //! By what an interaction is found (RFC 9635, section 4.1).
 ghost use Rattle.std.specs.Prelude.{◌≡◌};
-ghost use Rattle.row_store.specs.Interactions.{is_called, is_open_by};
+ghost use Rattle.row_store.specs.Interactions.{is_called, is_open_by, open_code_in};
 
 use gnap_tables::rows::Round;
 
@@ -33,5 +33,21 @@ pub fn is_open(round: &Option<Round>, now: u64, name: InteractionName) -> bool
     match round {
         Some(round) => round.decision.is_none() && now < round.until && has_name(round, name),
         None => false,
+    }
+}
+
+/// The user code of a round in which the user may still decide, where one was asked for.
+pub fn open_code(round: &Option<Round>, now: u64) -> Option<[u8; 8]>
+    ensures { result ≡ open_code_in now round.now }
+{
+    match round {
+        Some(round) => {
+            if round.decision.is_none() && now < round.until {
+                round.code
+            } else {
+                None
+            }
+        }
+        None => None,
     }
 }

@@ -1,7 +1,7 @@
 -- The account of a gear and a link after one more connection.
-use Rattle.std.proofs.Common.{◌≡◌, ◌∙◌, ℕ, ◌+◌, ◌-◌, ◌<◌, List, [], ◌∷◌, ◌++◌, length, refl, ap, sym, subst, arith, append_assoc, length-append}
+use Rattle.std.proofs.Common.{◌≡◌, ◌∙◌, ◌+◌, ◌-◌, ◌<◌, List, [], ◌∷◌, ◌++◌, length, refl, ap, sym, subst, arith, append_assoc, length-append}
 use Rattle.std.proofs.lemmas.List.{append-nil}
-use Rattle.gnap_io.specs.Gears.{Log, GearState, IsUnused, with_served, with_uses, log_served, empty_log}
+use Rattle.gnap_io.specs.Gears.{GearState, IsUnused, with_served, empty_log}
 use Rattle.gnap_io.specs.Links.{Exchange, LinkState}
 use Rattle.gnap_io.specs.Outside.{Served}
 use Rattle.histories.specs.Logs.{joined}

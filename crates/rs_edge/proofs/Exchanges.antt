@@ -1,8 +1,8 @@
 -- Exchanges after exchanges.
-use Rattle.std.proofs.Common.{◌≡◌, ◌∙◌, ℕ, List, [], ◌∷◌, ◌++◌, refl, ap, sym, subst, append_assoc}
+use Rattle.std.proofs.Common.{◌∙◌, ℕ, List, [], ◌∷◌, ◌++◌, refl, ap, sym, subst, append_assoc}
 use Rattle.std.proofs.lemmas.List.{append-nil}
 use Rattle.gnap_io.specs.Links.{Exchange, LinkState}
-use Rattle.resource_server.specs.Guarding.{CountsReply, CountsExchanges, AddsExchanges}
+use Rattle.resource_server.specs.Guarding.{CountsExchanges, AddsExchanges}
 
 counts-append : (es fs : List Exchange) (a b c : ℕ) → CountsExchanges es a b → CountsExchanges fs b c → CountsExchanges (es ++ fs) a c
 counts-append [] fs a b c first second = subst (λ (n : ℕ). CountsExchanges fs n c) first second

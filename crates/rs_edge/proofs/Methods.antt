@@ -1,11 +1,11 @@
 -- Methods behind one another, and the routes of a setup.
-use Rattle.std.proofs.Common.{◌≡◌, ◌∙◌, ℕ, List, [], ◌∷◌, ◌++◌, drop, map, filter, Bool, true, false, refl, ap, sym}
-use Rattle.std.specs.Prelude.{Option, Some, None, slice_get, zero, suc, cond, ◌&&◌, ◌||◌, nat_le, nat_lt, length, ◌==◌}
+use Rattle.std.proofs.Common.{◌≡◌, ◌∙◌, ℕ, List, [], ◌∷◌, drop, map, filter, Bool, true, false, refl, sym}
+use Rattle.std.specs.Prelude.{Some, slice_get, zero, suc, cond, ◌&&◌, ◌||◌, nat_le, nat_lt, length, ◌==◌}
 use Rattle.std.specs.List.{AllByRecursion, list_all}
 use Rattle.std.specs.Str.{IsUtf8}
 use Rattle.std.proofs.lemmas.Bool.{and_parts}
 use Rattle.std.proofs.lemmas.List.Folds.{list_all-append}
-use Rattle.structured_fields.specs.Canonical.{further_text, separated_text}
+use Rattle.structured_fields.specs.Canonical.{further_text}
 use Rattle.signed_requests.specs.Forms.{is_capital, is_method}
 use Rattle.http_edge.specs.Replies.{is_method_byte}
 use Rattle.resource_server.specs.declared.setup.Route.{Route}

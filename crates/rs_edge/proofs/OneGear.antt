@@ -9,7 +9,7 @@ use Rattle.gnap_io.specs.declared.world.Opening.TheVariants as opening
 use Rattle.gnap_io.specs.declared.world.WorldFault.{WorldFault}
 use Rattle.gnap_io.specs.declared.world.WorldFault.TheVariants as faults
 use Rattle.serving.specs.Workers.{HasServedAll}
-use Rattle.as_service.specs.Services.{has_failed, IsUsedUp, IsEndOfService}
+use Rattle.as_service.specs.Services.{has_failed, IsUsedUp}
 use Rattle.as_service.proofs.UsedUp.{used_up}
 use Rattle.resource_server.specs.declared.setup.RsSetup.{RsSetup}
 use Rattle.rs_edge.specs.RsSessions.{IsRsAccount}

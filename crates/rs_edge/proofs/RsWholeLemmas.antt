@@ -1,9 +1,8 @@
 -- Connections on which nothing failed.
-use Rattle.std.proofs.Common.{◌≡◌, ℕ, List, [], ◌∷◌, ◌++◌, ap, arith}
+use Rattle.std.proofs.Common.{◌≡◌, ℕ, List, arith}
 use Rattle.gnap_io.specs.Outside.{Served}
-use Rattle.gnap_io.specs.declared.message.Message.{Message}
 use Rattle.http_edge.specs.declared.fault.EdgeFault.{EdgeFault}
-use Rattle.serving.specs.Connections.{AreMessages, Finishes, whole, cut_response, cut_closing, Session}
+use Rattle.serving.specs.Connections.{Finishes, whole, cut_response, cut_closing, Session}
 use Rattle.serving.specs.declared.ends.ConnectionEnd.{ConnectionEnd}
 use Rattle.as_edge.specs.EdgeWire.{edge_wire}
 use Rattle.resource_server.specs.declared.setup.RsSetup.{RsSetup}

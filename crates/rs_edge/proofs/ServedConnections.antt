@@ -7,7 +7,7 @@ use Rattle.gnap_io.specs.Outside.{Told, Takes, Writes, IsPrefix, Rose, served_of
 use Rattle.gnap_io.specs.Gears.{GearState, with_moment, with_uses}
 use Rattle.gnap_io.specs.Links.{LinkState}
 use Rattle.gnap_io.specs.declared.message.Message.{Message}
-use Rattle.histories.specs.Turns.{Turn, OneMore, messages_in, moments_in, entries_in, bytes_in}
+use Rattle.histories.specs.Turns.{OneMore, messages_in, moments_in, entries_in, bytes_in}
 use Rattle.histories.proofs.TurnLemmas.{messages_in-append, moments_in-append, entries_in-next, bytes_in-next, length-next}
 use Rattle.http_edge.specs.declared.fault.EdgeFault.{EdgeFault}
 use Rattle.serving.specs.declared.ends.ConnectionEnd.{ConnectionEnd}
@@ -15,7 +15,7 @@ use Rattle.serving.specs.declared.ends.ConnectionEnd.TheVariants as closed
 use Rattle.serving.specs.declared.ends.NoMessage.{NoMessage}
 use Rattle.serving.specs.declared.ends.NoMessage.TheVariants as no
 use Rattle.serving.specs.declared.ends.AfterTurn.{AfterTurn}
-use Rattle.serving.specs.Connections.{AreMessages, is_closing, GoesOn, AreTurns, Ends, at_last, at_end, at_quota, cut_off, at_fault, at_want, reading_at_want, at_read, Finishes, whole, cut_response, cut_closing, Session}
+use Rattle.serving.specs.Connections.{AreMessages, is_closing, GoesOn, AreTurns, Ends, at_last, at_end, at_quota, cut_off, at_fault, at_want, reading_at_want, at_read, Finishes, whole, cut_response, cut_closing}
 use Rattle.serving.specs.Reading.{ReadsMessage, HasReadCause, Stops, truncated, failed, refused, refused_cut, starved, starved_cut}
 use Rattle.as_edge.specs.EdgeWire.{edge_wire, stays}
 use Rattle.resource_server.specs.declared.setup.RsSetup.{RsSetup}

@@ -1,5 +1,5 @@
 -- One message's turn, put together.
-use Rattle.std.proofs.Common.{◌≡◌, ◌≢◌, ℕ, refl, subst, sym, true, false}
+use Rattle.std.proofs.Common.{◌≡◌, ◌≢◌, ℕ, refl, subst, true, false}
 use Rattle.std.specs.Prelude.{Bool}
 use Rattle.gnap_io.specs.Gears.{GearState, with_moment}
 use Rattle.gnap_io.specs.Links.{LinkState}
@@ -11,12 +11,12 @@ use Rattle.resource_server.specs.declared.setup.RsSetup.{RsSetup}
 use Rattle.resource_server.specs.declared.guarded.Guarded.{Guarded}
 use Rattle.resource_server.specs.declared.guarded.Guarded.TheVariants as guarded
 use Rattle.resource_server.specs.Guarding.{GuardsOver}
-use Rattle.serving.specs.MessageTurns.{LetsFollow, HasWrittenText}
+use Rattle.serving.specs.MessageTurns.{HasWrittenText}
 use Rattle.serving.specs.declared.ends.AfterTurn.{AfterTurn}
-use Rattle.serving.specs.declared.ends.AfterTurn.TheVariants.{MoreMayCome, OutOfMemory, WriteFailed}
+use Rattle.serving.specs.declared.ends.AfterTurn.TheVariants.{MoreMayCome, OutOfMemory}
 use Rattle.serving.proofs.MessageTurnLemmas.{follows_on, follows_none}
 use Rattle.rs_edge.specs.RsReplies.{rs_reply}
-use Rattle.rs_edge.specs.RsTurns.{IsRsTurn, answered, starved, TakesRsTurn}
+use Rattle.rs_edge.specs.RsTurns.{answered, starved, TakesRsTurn}
 
 module _ (setup : RsSetup) (last : Bool) (m : Message) (moment : ℕ) (answer : Guarded) (link link_now : LinkState) (gear gear_now : GearState) (conn conn_now : Told)
     (faults faults_now : ℕ) (after : AfterTurn) (over : GuardsOver setup m moment link link_now answer) (used : gear_now ≡ with_moment moment gear) where

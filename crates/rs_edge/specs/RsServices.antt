@@ -1,9 +1,8 @@
 -- What serving a resource server at an address leaves behind.
-use Rattle.std.specs.Prelude.{◌≡◌, ℕ, Bool, false, List, [], ◌∷◌, Result, Ok, Err}
+use Rattle.std.specs.Prelude.{◌≡◌, ℕ, Bool, false, List, [], ◌∷◌, Result, Err}
 use Rattle.gnap_io.specs.Gears.{GearState}
 use Rattle.gnap_io.specs.Links.{LinkState, new_link}
 use Rattle.gnap_io.specs.Worlds.{WorldState, HasWorldCause, with_opening, with_gears, with_link}
-use Rattle.gnap_io.specs.declared.world.Opening.{Opening}
 use Rattle.gnap_io.specs.declared.world.Opening.TheVariants as opening
 use Rattle.gnap_io.specs.declared.world.WorldFault.{WorldFault}
 use Rattle.as_service.specs.Services.{has_failed, IsUsedUp, IsEndOfService}

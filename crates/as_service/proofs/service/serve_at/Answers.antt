@@ -1,17 +1,17 @@
-use Rattle.std.proofs.Common.{◌≡◌, ◌∙◌, map, refl, ap, sym, subst, arith}
+use Rattle.std.proofs.Common.{◌∙◌, map, refl, ap, sym, subst, arith}
 use Rattle.std.specs.Prelude.{All}
 use Rattle.std.specs.List.{list_any}
 use Rattle.std.specs.Result.{is_ok, is_err}
 use Rattle.std.proofs.lemmas.Result.{err_from_is_err_and}
 use Rattle.std.proofs.lemmas.List.Elements.{All-map}
 use Rattle.gnap_io.specs.Gears.{IsUnused}
-use Rattle.gnap_io.specs.declared.world.WorldFault.TheVariants.{Failed, OutOfMemory}
+use Rattle.gnap_io.specs.declared.world.WorldFault.TheVariants.{OutOfMemory}
 use Rattle.gnap_model.specs.declared.objects.Setup.{Setup}
 use Rattle.gnap_history.specs.Gnap.{gnap}
 use Rattle.histories.specs.Whole.{OneHistory}
 use Rattle.serving.specs.Workers.{accounts_of}
 use Rattle.as_edge.specs.EdgeSessions.{IsEdgeSession}
-use Rattle.as_service.specs.Services.{has_failed, IsService, not_started}
+use Rattle.as_service.specs.Services.{has_failed, not_started}
 use Rattle.as_service.proofs.UsedUp.{any_counted, used_up}
 use Rattle.as_service.proofs.FewEntries.{unused_few, started_few}
 use Rattle.as_service.proofs.TakenBack.{taken_back}

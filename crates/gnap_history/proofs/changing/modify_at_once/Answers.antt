@@ -1,4 +1,4 @@
-use Rattle.std.proofs.Common.{◌≡◌, ◌∙◌, ◌∷◌, ◌++◌, [], true, false, length, sym, ap, None}
+use Rattle.std.proofs.Common.{◌≡◌, ◌∙◌, true, false, length, sym, ap, None}
 use Rattle.gnap_model.specs.Actions.{retire, terms_for}
 use Rattle.gnap_model.specs.Begin.{pass_limit}
 use Rattle.gnap_model.specs.Change.{tokens_of, other_live_tokens}

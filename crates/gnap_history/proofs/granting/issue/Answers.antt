@@ -2,7 +2,7 @@ use Rattle.std.proofs.Common.{◌+◌, [], take, refl, arith}
 use Rattle.gnap_model.specs.Actions.{tokens_for, token_out}
 use Rattle.gnap_model.specs.declared.notes.Note.TheVariants.{Issued}
 use Rattle.gnap_history.specs.Drawings.{supply}
-use Rattle.gnap_history.proofs.Issuing.{issued_more, made_more}
+use Rattle.grant_rules.proofs.Issuing.{issued_more, made_more}
 use Rattle.gnap_history.proofs.granting.issue.Goals as goal
 
 pub loop-ask-preserved : goal.loop-ask-preserved

@@ -1,9 +1,9 @@
-use Rattle.std.proofs.Common.{rules, Some, None}
+use Rattle.std.proofs.Common.{rules}
 use Rattle.std.specs.Prelude.{option_map}
-use Rattle.gnap_model.specs.Actions.Action.{Refuse, RotateToken}
+use Rattle.gnap_model.specs.Actions.Action.{Refuse}
 use Rattle.gnap_model.specs.Manage.{rotate_key}
 use Rattle.gnap_history.specs.Drawings.{trail, supply}
-use Rattle.gnap_history.proofs.Acting.{acts_as, answers_as, rotates_as}
+use Rattle.gnap_history.proofs.Acting.{answers_as, rotates_as}
 use Rattle.gnap_history.proofs.managing.rotate_token.Goals as goal
 
 pub returns-in-Err : goal.returns-in-Err

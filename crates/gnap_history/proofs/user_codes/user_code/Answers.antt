@@ -1,7 +1,7 @@
 use Rattle.std.proofs.Common.{◌≡◌, ◌∙◌, reverse, slice_index}
 use Rattle.gnap_model.specs.Standing.{live_codes}
 use Rattle.gnap_history.specs.Drawings.{trail}
-use Rattle.gnap_history.proofs.UserCodes.{free_code-reordered}
+use Rattle.grant_rules.proofs.UserCodes.{free_code-reordered}
 use Rattle.gnap_history.proofs.user_codes.user_code.Goals as goal
 
 pub returns : goal.returns

@@ -1,5 +1,3 @@
-use Rattle.std.proofs.Common.{ℕ, List, subst}
-use Rattle.std.specs.Prelude.{Result, Ok, Err}
 use Rattle.gnap_model.specs.declared.objects.Setup.{Setup}
 use Rattle.gnap_tool.specs.Replays.{setup_in}
 use Rattle.gnap_tool.proofs.AfterConfig.{config_read_as, config_unread, uses_read}

@@ -1,4 +1,4 @@
-use Rattle.std.proofs.Common.{◌≡◌, ℕ, List, subst, inl, inr, refl}
+use Rattle.std.proofs.Common.{◌≡◌, ℕ, List, subst, inl, inr}
 use Rattle.gnap_tool.specs.Printing.{PrintsAnswer}
 use Rattle.gnap_tool.proofs.hash_lines.print_hash.Goals as goal
 

@@ -1,5 +1,4 @@
-use Rattle.std.proofs.Common.{◌≡◌, ◌≢◌, ◌∙◌, ℕ, ◌+◌, ◌≤◌, List, [], ◌∷◌, ◌++◌, ap, sym, subst, refl, arith, length, length-append}
-use Rattle.std.specs.Prelude.{Bool}
+use Rattle.std.proofs.Common.{◌∙◌, ℕ, ◌≤◌, List, [], ◌∷◌, ap, sym, subst, refl, arith, length, length-append}
 use Rattle.std.proofs.lemmas.List.{append-nil}
 use Rattle.gnap_tool.specs.declared.answering.After.TheVariants as after
 use Rattle.gnap_tool.specs.Reading.{held_by}

@@ -1,6 +1,0 @@
-use Rattle.std.proofs.Common.{◌≡◌, take}
-use Rattle.gnap_model.specs.Asked.{asked_rights}
-use Rattle.gnap_history.proofs.consent_front.asked_rights.Given as goal
-
-abbrev pub invariant-loop-ask : goal.invariant-loop-ask
-invariant-loop-ask l = l.rights ≡ asked_rights (take l.ask-index l.asks)

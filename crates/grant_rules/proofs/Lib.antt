@@ -1,0 +1,3 @@
+pub mod Issuing
+pub mod UserCodes
+pub mod WholeDecisions

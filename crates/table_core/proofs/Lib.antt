@@ -1,0 +1,14 @@
+pub mod CancelledGrants
+pub mod CarriedChanges
+pub mod FoundInteractions
+pub mod ModifyingPlans
+pub mod OpeningPlans
+pub mod PlanLemmas
+pub mod PlannedCalls
+pub mod RevokedTokens
+pub mod Rising
+pub mod RotatedTokens
+pub mod RowFacts
+pub mod Stepping
+pub mod ToldTokens
+pub mod Undrawn

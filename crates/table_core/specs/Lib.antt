@@ -1,0 +1,11 @@
+pub mod CallEffects
+pub mod Frugal
+pub mod StandsInTables
+pub mod Choices
+pub mod Entries
+pub mod Plans
+pub mod Fronts
+pub mod Continued
+pub mod Askings
+pub mod Planned
+pub mod Renumbered

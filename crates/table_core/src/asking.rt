@@ -1,0 +1,82 @@
+//! The user is asked: a grant is pending in a new round of interaction (RFC 9635, section 3.3).
+ghost use Rattle.std.specs.Prelude.{◌≡◌, IfOk};
+ghost use Rattle.gnap_model.specs.Common.{some_if};
+ghost use Rattle.gnap_model.specs.Asked.{wants_code};
+ghost use Rattle.gnap_model.specs.Actions.{drawn_value};
+ghost use Rattle.grant_rules.specs.UserCodes.{code_for};
+ghost use Rattle.table_core.specs.Entries.{supply};
+ghost use Rattle.table_core.specs.Askings.{begun_round, asking_reply, asking_values};
+
+use crate::entering::Entering;
+use gnap_io::bytes::Bytes;
+use gnap_io::memory::Mem;
+use gnap_model::calls::Reply;
+use gnap_model::notes::RoundNote;
+use gnap_model::objects::Modes;
+use grant_rules::drawing::pending_reply;
+use grant_rules::user_codes::free_code;
+use std::alloc::Global;
+
+/// The user is asked in a new round.
+#[derive(Drop)]
+pub struct Asking {
+    /// The reply.
+    pub reply: Reply,
+    /// How many values are drawn.
+    pub drawn: u64,
+    /// The continuation value, which is the first of them.
+    pub door: [u8; 32],
+    /// The round.
+    pub round: RoundNote,
+}
+
+// The user code that the entry draws: that of no live interaction (RFC 9635, section 3.3.3).
+fn user_code(alloc: Global, entering: &Entering) -> Result<[u8; 8], Mem>
+    ensures { IfOk result (λ code. code ≡ code_for (supply entering.now)) }
+{
+    let taken = entering.grants.open_codes(alloc, entering.supply.moment)?;
+    Ok(free_code(entering.supply.words[47], taken.as_slice()))
+}
+
+// The user code, where the client can show one.
+fn wanted_code(alloc: Global, entering: &Entering, modes: &Modes) -> Result<Option<[u8; 8]>, Mem>
+    ensures { IfOk result (λ code. code ≡ some_if (wants_code modes.now) (code_for (supply entering.now))) }
+{
+    if modes.user_code || modes.user_code_uri {
+        Ok(Some(user_code(alloc, entering)?))
+    } else {
+        Ok(None)
+    }
+}
+
+// How many values are drawn.
+fn value_count(modes: &Modes) -> u64
+    ensures { result ≡ asking_values modes.now }
+{
+    if modes.finish.is_some() { 3 } else { 2 }
+}
+
+/// The user is asked about the grant with this number and this end.
+pub fn ask(
+    alloc: Global,
+    entering: &Entering,
+    number: u64,
+    end: u64,
+    modes: &Modes,
+    instance: Option<Bytes>,
+) -> Result<Asking, Mem>
+    ensures reply { IfOk result (λ asking. asking.reply ≡ asking_reply entering.now (begun_round entering.now number end modes.now) instance) }
+    ensures drawn { IfOk result (λ asking. asking.drawn ≡ asking_values modes.now) }
+    ensures door { IfOk result (λ asking. asking.door ≡ drawn_value (supply entering.now) 0) }
+    ensures round { IfOk result (λ asking. asking.round ≡ begun_round entering.now number end modes.now) }
+{
+    let code = wanted_code(alloc, entering, modes)?;
+    let round = entering.supply.round(number, end, modes, code)?;
+    let door = entering.supply.value(0);
+    Ok(Asking {
+        reply: pending_reply(&round, entering.supply.moment, door, instance)?,
+        drawn: value_count(modes),
+        door,
+        round,
+    })
+}

@@ -1,0 +1,93 @@
+//! The answer to an introspection (RFC 9767, section 3.3).
+ghost use Rattle.std.specs.Prelude.{◌≡◌, ℕ, option_map, IfOk};
+ghost use Rattle.gnap_model.specs.Rights.{served_part as part_served};
+ghost use Rattle.gnap_model.specs.declared.calls.Reply.TheVariants.{Active};
+ghost use Rattle.gnap_model.specs.Actions.{Supply};
+ghost use Rattle.gnap_model.specs.declared.calls.Call.TheVariants.{Introspect};
+ghost use Rattle.gnap_tables.specs.ActionsByRows.{row_action};
+ghost use Rattle.table_core.specs.CallEffects.{ActsBy, tables_in};
+ghost use Rattle.table_core.specs.Choices.{judged_reply, approved_of};
+
+use crate::answered::{Answered, undrawn};
+use access_rights::served::served_part;
+use gnap_io::bytes::Bytes;
+use gnap_io::memory::{Duplicate, Mem};
+use gnap_io::seq::Seq;
+use gnap_model::calls::Reply;
+use gnap_model::objects::{Binding, ErrorCode, Setup};
+use gnap_model::rights::{Names, Rights};
+use gnap_tables::rows::TokenRow;
+use grant_rules::keys::server_names;
+use introspection::{Judged, judge};
+use row_store::{GrantTable, TokenTable};
+use std::alloc::Global;
+
+// A token is shown with the rights that the server serves.
+fn shown(alloc: Global, names: &Names, row: &TokenRow) -> Result<Reply, Mem>
+    ensures { IfOk result (λ reply. reply ≡ Active (part_served names.now row.now.rights) row.now.issued row.now.until row.now.key row.now.bearer) }
+{
+    Ok(Reply::Active {
+        access: served_part(alloc, &row.rights, names)?,
+        iat: row.issued,
+        exp: row.until,
+        instance: row.key.copy()?,
+        bearer: row.bearer,
+    })
+}
+
+// The grant of the row is approved.
+fn grant_approved(grants: &GrantTable, row: Option<&TokenRow>) -> bool
+    ensures { result ≡ approved_of grants.now.rows (option_map (λ row. row.now) row.entry) }
+{
+    match row {
+        Some(row) => grants.is_approved(row.grant),
+        None => false,
+    }
+}
+
+// The reply by a judgement.
+fn reply_by(
+    alloc: Global,
+    names: &Names,
+    row: Option<&TokenRow>,
+    judged: Judged,
+) -> Result<Reply, Mem>
+    ensures { IfOk result (λ reply. reply ≡ judged_reply names.now (option_map (λ row. row.now) row.entry) judged) }
+{
+    match judged {
+        Judged::NotServed => Ok(Reply::Error {
+            code: ErrorCode::InvalidAccess,
+        }),
+        Judged::Inactive => Ok(Reply::Inactive),
+        Judged::Active => match row {
+            Some(row) => shown(alloc, names, row),
+            None => Ok(Reply::Inactive),
+        },
+    }
+}
+
+/// Answers an introspection.
+pub fn introspect(
+    alloc: Global,
+    rules: &Setup,
+    grants: &GrantTable,
+    tokens: &TokenTable,
+    now: u64,
+    server: &Bytes,
+    value: &Bytes,
+    binding: Option<Binding>,
+    wanted: &Option<Rights>,
+) -> Result<Answered, Mem>
+    ensures few { IfOk result (λ answered. (answered.opened ≡ 0) × (answered.drawn ≡ 0)) }
+    ensures acts { IfOk result (λ answered. (next : ℕ) (supply : Supply) → supply.now ≡ now
+        → ActsBy supply (row_action rules.now next (tables_in grants.now.rows tokens.now.rows) supply.now (Introspect server.now value.now binding wanted.now))
+        (tables_in grants.now.rows tokens.now.rows) (tables_in grants.now.rows tokens.now.rows) answered) }
+{
+    let _count = tokens.len();
+    let none = Seq::new(alloc);
+    let names = server_names(rules, server.as_slice(), &none);
+    let row = tokens.by_value(value.as_slice());
+    let approved = grant_approved(grants, row);
+    let judged = judge(row, approved, now, names, binding, wanted);
+    Ok(undrawn(reply_by(alloc, names, row, judged)?))
+}

@@ -1,0 +1,102 @@
+//! The tokens of a grant, as they are issued and handed out (RFC 9635, section 3.2).
+ghost use Rattle.std.specs.Prelude.{◌≡◌, ◌≤◌, ◌<◌, ◌*◌, length, map, IfOk};
+ghost use Rattle.gnap_model.specs.Actions.{token_for, tokens_for, token_out as token_shown, drawn_value};
+ghost use Rattle.gnap_model.specs.declared.calls.Reply.TheVariants.{Granted};
+ghost use Rattle.gnap_tables.specs.RowSearches.{opening_of};
+ghost use Rattle.gnap_tables.specs.Tables.{new_token};
+ghost use Rattle.table_core.specs.Entries.{supply};
+ghost use Rattle.table_core.specs.Plans.{rows_in};
+
+use crate::entering::{Entering, NewTokens};
+use crate::stored::stored_token;
+use gnap_io::bytes::Bytes;
+use gnap_io::memory::{Duplicate, Mem};
+use gnap_io::seq::Seq;
+use gnap_model::calls::{Reply, Tokens};
+use gnap_model::notes::TokenNote;
+use gnap_model::objects::Ask;
+use gnap_tables::rows::GrantRow;
+use grant_rules::tokens::token_out;
+use std::alloc::Global;
+
+/// New tokens of a grant, as rows and as they are handed out.
+#[derive(Drop)]
+pub struct IssuedTokens {
+    /// Their rows.
+    pub rows: NewTokens,
+    /// What the client is told of them.
+    pub told: Tokens,
+}
+
+// The token for an ask.
+fn token(entering: &Entering, row: &GrantRow, ask: &Ask, index: usize) -> Result<TokenNote, Mem>
+    requires { index < 23 }
+    ensures { IfOk result (λ token. token ≡ token_for (supply entering.now) (opening_of row.now) ask.now index) }
+{
+    let label = ask.label.copy()?;
+    let rights = ask.rights.copy()?;
+    entering.supply.token(
+        row.number, &row.key, row.end, label, rights, ask.bearer, index,
+    )
+}
+
+/// A token for each ask, the values in turn, for the grant of the row.
+pub fn issue(
+    alloc: Global,
+    entering: &Entering,
+    row: &GrantRow,
+    asks: &[Ask],
+) -> Result<IssuedTokens, Mem>
+    requires { length asks.now ≤ 8 }
+    ensures rows { IfOk result (λ issue. rows_in issue.rows ≡ map new_token (tokens_for (supply entering.now) (opening_of row.now) asks.now 0)) }
+    ensures told { IfOk result (λ issue. issue.told ≡ map (token_shown entering.now.supply.moment) (tokens_for (supply entering.now) (opening_of row.now) asks.now 0)) }
+{
+    let mut rows = Seq::new(alloc);
+    let mut told = Seq::new(alloc);
+    let mut index = 0;
+    for ask in asks {
+        let issued = token(entering, row, ask, index)?;
+        told.push(token_out(&issued, entering.supply.moment)?)?;
+        rows.push(Box::new(alloc, stored_token(issued))?)?;
+        index += 2;
+    }
+    Ok(IssuedTokens { rows, told })
+}
+
+/// What comes of asks that are granted.
+#[derive(Drop)]
+pub struct Granting {
+    /// The reply.
+    pub reply: Reply,
+    /// The rows of the tokens.
+    pub tokens: NewTokens,
+}
+
+/// The asks are granted to the grant of the row: their tokens, and the new continuation value after them (RFC 9635, section 3.2).
+pub fn grant(
+    alloc: Global,
+    entering: &Entering,
+    row: &GrantRow,
+    asks: &[Ask],
+    single: bool,
+    subject: Option<Bytes>,
+    instance: Option<Bytes>,
+) -> Result<Granting, Mem>
+    requires { length asks.now ≤ 8 }
+    ensures reply { IfOk result (λ granting. granting.reply ≡ Granted (drawn_value (supply entering.now) (2 * length asks.now))
+        (map (token_shown entering.now.supply.moment) (tokens_for (supply entering.now) (opening_of row.now) asks.now 0)) single subject instance) }
+    ensures tokens { IfOk result (λ granting. rows_in granting.tokens ≡ map new_token (tokens_for (supply entering.now) (opening_of row.now) asks.now 0)) }
+{
+    let issued = issue(alloc, entering, row, asks)?;
+    let door = entering.supply.value(2 * asks.len());
+    Ok(Granting {
+        reply: Reply::Granted {
+            door,
+            tokens: issued.told,
+            single,
+            subject,
+            instance,
+        },
+        tokens: issued.rows,
+    })
+}

@@ -1,0 +1,24 @@
+//! The grant machine over tables: rows of the grants that go on and of the tokens that can be managed, in place of the notes of a history.
+//!
+//! `TableCore` meets the contract of `Core`: each reply is the machine's for the history that it stands for. A call takes its memory before it changes a row.
+#![tactic(auto)]
+
+pub mod answered;
+pub mod asking;
+pub mod beginning;
+pub mod cancelling;
+pub mod carrying;
+pub mod consent_front;
+pub mod continuing;
+pub mod deciding;
+pub mod entering;
+pub mod introspecting;
+pub mod issuing;
+pub mod modifying;
+pub mod planning;
+pub mod revoking;
+pub mod rotating;
+pub mod stored;
+pub mod table_core;
+
+pub use table_core::TableCore;
