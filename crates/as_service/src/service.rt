@@ -6,7 +6,6 @@ ghost use Rattle.as_service.specs.Services.{has_failed, IsService};
 
 use as_edge::AuthorizationServer;
 use as_requests::Edge;
-use gnap_history::ListCore;
 use gnap_history::laws::what_holds;
 use gnap_io::bytes::Bytes;
 use gnap_io::gear::{Counted, Door};
@@ -17,6 +16,7 @@ use serving::threads::serve_gears;
 use std::alloc::Global;
 use std::sync::Wait;
 use std::thread::Threads;
+use table_core::TableCore;
 
 fn any_failed<G: Door>(gears: &[G]) -> bool
     ensures { result ≡ list_any (λ gear. has_failed (G.state gear)) gears.now }
@@ -57,7 +57,7 @@ pub fn serve_at<R: Threads + Wait + Sync, W: World>(
     };
     let gears = world.start_gears(address, workers, quota)?;
     let server = AuthorizationServer { edge };
-    let core = ListCore::new(alloc, rules);
+    let core = TableCore::new(alloc, rules);
     let (gears, served) = serve_gears(rt, alloc, core, &server, gears);
     what_holds();
     let failed = any_failed(gears.as_slice());

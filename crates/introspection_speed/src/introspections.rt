@@ -4,7 +4,6 @@ ghost use Rattle.gnap_io.specs.MemoryForms.{IsUnusedConn};
 
 use as_edge::AuthorizationServer;
 use as_requests::Edge;
-use gnap_history::list_desk;
 use gnap_io::bytes::Bytes;
 use gnap_io::memory::{Duplicate, Mem};
 use gnap_io::memory_conn::MemConn;
@@ -88,7 +87,7 @@ impl Introspections {
 
     // What a connection is answered, with a desk of its own.
     fn served(&self, alloc: Global, requests: Bytes) -> Result<MemConn, Mem> {
-        let mut desk = list_desk(alloc, self.server.edge.setup().copy()?);
+        let mut desk = table_desk(alloc, self.server.edge.setup().copy()?);
         let mut conn = conn(alloc, requests)?;
         let mut gear = gear(alloc)?;
         serve_connection(&self.server, alloc, &mut desk, &mut conn, &mut gear);

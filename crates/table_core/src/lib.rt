@@ -21,4 +21,4 @@ pub mod rotating;
 pub mod stored;
 pub mod table_core;
 
-pub use table_core::TableCore;
+pub use table_core::{TableCore, TableDesk, table_desk};

@@ -22,7 +22,8 @@ use gnap_io::memory::Mem;
 use gnap_model::calls::{Call, Reply};
 use gnap_model::objects::Setup;
 use grant_rules::drawing::Supply;
-use histories::machine::Core;
+use histories::lone::Lone;
+use histories::machine::{Core, Desk};
 use row_store::{GrantTable, TokenTable};
 use std::alloc::Global;
 
@@ -128,6 +129,9 @@ fn answer_call(
     }
 }
 
+/// One worker over tables.
+pub type TableDesk = Lone<TableCore>;
+
 impl TableCore {
     /// Stands for the empty history, under the rules of this setup.
     pub fn new(alloc: Global, setup: Setup) -> TableCore
@@ -144,6 +148,14 @@ impl TableCore {
             tokens: TokenTable::new(alloc),
         }
     }
+}
+
+/// A desk that has seen nothing, under the rules of this setup.
+pub fn table_desk(alloc: Global, setup: Setup) -> TableDesk
+    ensures rules { ⟦<TableDesk as Desk>⟧.rules result ≡ setup }
+    ensures seen { ⟦<TableDesk as Desk>⟧.seen result [] }
+{
+    Lone::new(TableCore::new(alloc, setup))
 }
 
 impl Core for TableCore {

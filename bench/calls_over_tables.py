@@ -1,0 +1,100 @@
+#!/usr/bin/env python3
+"""What a call of a replay costs while few and while many grants are live, and what memory the state takes.
+
+    bench/calls_over_tables.py
+
+For n of 1,000, 10,000 and 65,000: a file of n grant requests, all live to its end, and 2n introspections that name the tokens in a mixed order. Each file
+is replayed five times, and the best time counts. An introspection's time is what the whole file takes more than its grant requests alone, by 2n; a grant
+request's is what those take more than an empty file, by n. Then a file of 200,000 lines is replayed once, and the memory of the full state of 65,536
+grants is compared with the bytes of the texts that it must keep. The program is ./gnap, or the one that GNAP names.
+"""
+
+import base64
+import json
+import os
+import subprocess
+import sys
+import tempfile
+import time
+
+SETUP = {
+    "base": "https://as.example",
+    "front": "https://front.example",
+    "keys": [
+        {"ask": [], "auto": ["photos"], "id": "c1", "role": "client", "secret": "c2VjcmV0LWtleS1vZi1jMQ=="},
+        {"id": "r1", "role": "server", "secret": "c2VjcmV0LWtleS1vZi1yMQ==", "serves": ["photos"]},
+    ],
+}
+# A granted request draws three values: the token's, its management value and the continuation value.
+VALUES = 3
+# What a grant and its token must keep as text: the key twice, the right's type twice, and three values of 32 bytes.
+KEPT = 2 * len("c1") + 2 * len("photos") + VALUES * 32
+
+
+def line(value):
+    return json.dumps(value, separators=(",", ":"), sort_keys=True) + "\n"
+
+
+def grant_request():
+    return line({"at": 1000, "body": {"access_token": {"access": ["photos"]}, "client": "c1"}, "call": "begin", "key": "c1"})
+
+
+def introspection(serial):
+    value = base64.urlsafe_b64encode(serial.to_bytes(8, "big") + bytes(16)).decode()
+    return line({"at": 1000, "body": {"access_token": value, "resource_server": "r1"}, "call": "introspect", "key": "r1"})
+
+
+def file_of(grants, introspections):
+    """A step that has no factor in common with the grants' number mixes the order."""
+    lines = [line(SETUP)] + [grant_request()] * grants
+    lines += [introspection(1 + VALUES * (i * 48_611 % grants)) for i in range(introspections)]
+    return "".join(lines)
+
+
+def replayed(program, folder, grants, introspections, times):
+    """The best time, in seconds, once every reply was as it has to be."""
+    path = os.path.join(folder, "calls.jsonl")
+    with open(path, "w") as out:
+        out.write(file_of(grants, introspections))
+    best = None
+    for _ in range(times):
+        start = time.perf_counter()
+        done = subprocess.run([program, "replay", path], stdout=subprocess.PIPE, check=True)
+        took = time.perf_counter() - start
+        best = took if best is None else min(best, took)
+        if done.stdout.count(b'"active":true') != introspections or done.stdout.count(b"\n") != grants + introspections:
+            raise SystemExit("not the replies")
+    return best
+
+
+def memory(program, folder, grants):
+    """The greatest resident memory of a replay of so many grant requests, in bytes."""
+    path = os.path.join(folder, "calls.jsonl")
+    with open(path, "w") as out:
+        out.write(file_of(grants, 0))
+    pid = os.spawnvp(os.P_NOWAIT, "sh", ["sh", "-c", f'"{program}" replay "{path}" >/dev/null'])
+    _, status, used = os.wait4(pid, 0)
+    if status:
+        raise SystemExit("the replay failed")
+    return used.ru_maxrss * 1024
+
+
+def main():
+    program = os.environ.get("GNAP", "./gnap")
+    with tempfile.TemporaryDirectory() as folder:
+        empty = replayed(program, folder, 1, 0, 5)
+        for grants in (1_000, 10_000, 65_000):
+            alone = replayed(program, folder, grants, 0, 5)
+            whole = replayed(program, folder, grants, 2 * grants, 5)
+            request = (alone - empty) / grants * 1e6
+            introspected = (whole - alone) / (2 * grants) * 1e6
+            print(f"{grants:6} grants live: a grant request {request:.1f} µs, an introspection {introspected:.1f} µs", flush=True)
+        took = replayed(program, folder, 65_000, 135_000, 1)
+        print(f"200,000 lines: {took:.1f} s", flush=True)
+        few, full = memory(program, folder, 1), memory(program, folder, 65_536)
+        ratio = (full - few) / (65_536 * KEPT)
+        print(f"65,536 grants: {full / 1e6:.1f} MB, {few / 1e6:.1f} MB of them without a grant; {ratio:.2f} times the texts kept")
+
+
+if __name__ == "__main__":
+    sys.exit(main())

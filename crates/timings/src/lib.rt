@@ -1,0 +1,37 @@
+//! What programs that measure share: how often a task is to be done, the lines of their input, and the mean time of one.
+#![tactic(auto)]
+ghost use Rattle.std.specs.Prelude.{◌≡◌, ◌-◌, ◌^◌, ◌/◌, min, max};
+ghost use Rattle.std.specs.Duration.{as_nanos};
+
+use std::alloc::Alloc;
+use std::io::{BufRead, BufReader, Input};
+use std::rt::Env;
+use std::time::Duration;
+use std::{env, io};
+
+/// How often the first word says that a task is to be done. None without a word; InvalidInput where it is no number.
+pub fn times_asked<R: Env + AllocGlobal>(rt: &R) -> io::Result<Option<u64>> {
+    let Some(word) = env::args(rt)?.nth(1) else {
+        return Ok(None);
+    };
+    match word.parse::<u64>() {
+        Ok(times) => Ok(Some(times)),
+        Err(_) => Err(io::Error::from(io::ErrorKind::InvalidInput)),
+    }
+}
+
+/// The lines of standard input, without their ends.
+pub fn input_lines<R: Input + AllocGlobal>(rt: &R) -> io::Result<Vec<String>> {
+    let mut lines = Vec::new(rt.alloc());
+    for line in BufReader::new(rt.alloc(), rt.reader())?.lines(rt.alloc()) {
+        lines.push(line?)?;
+    }
+    Ok(lines)
+}
+
+/// The nanoseconds of one of so many that took this time: the mean, at most 2^64 - 1 in all.
+pub fn nanos_of_one(time: Duration, times: u64) -> u64
+    ensures { result ≡ min (as_nanos time) (2 ^ 64 - 1) / max times 1 }
+{
+    u64::try_from(time.as_nanos()).unwrap_or(u64::MAX) / times.max(1)
+}
