@@ -11,8 +11,8 @@ use access_rights::{Rights, covers, read_rights};
 use anyhow::{Result, bail};
 use json_objects::{member, read_body};
 use std::alloc::{AllocError, Global};
-use std::env;
-use std::time::{Duration, Instant};
+use std::time::Instant;
+use timings::{nanos_of_one, times_asked};
 
 // How often it is seen where no number asks for more.
 const FEW: u64 = 3;
@@ -70,15 +70,8 @@ fn covered(granted: &Rights, wanted: &Rights, times: u64) -> u64 {
     covered
 }
 
-fn nanos_of_one(time: Duration, times: u64) -> u64 {
-    u64::try_from(time.as_nanos()).unwrap_or(u64::MAX) / times.max(1)
-}
-
 fn main(rt: HostRuntime) -> Result<()> {
-    let asked = match env::args(&rt)?.nth(1) {
-        Some(word) => Some(word.parse::<u64>()?),
-        None => None,
-    };
+    let asked = times_asked(&rt)?;
     let (Some(granted), Some(wanted)) = (rights(rt.alloc(), 'o', 'w'), rights(rt.alloc(), 'w', 'w'))
     else {
         bail!("out of memory");

@@ -11,6 +11,7 @@ use gnap_io::memory_gear::MemGear;
 use gnap_objects::read_setup;
 use serving::connection::serve_connection;
 use std::alloc::Global;
+use table_core::table_desk;
 
 // When the requests were signed and come, in seconds since 1970.
 const MOMENT: u64 = 1000;

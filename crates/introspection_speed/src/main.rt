@@ -12,9 +12,9 @@ use crate::introspections::Introspections;
 use gnap_io::bytes::Bytes;
 use gnap_io::memory::Mem;
 use std::alloc::Global;
-use std::io::{BufRead, BufReader};
-use std::time::{Duration, Instant};
-use std::{env, io};
+use std::io;
+use std::time::Instant;
+use timings::{input_lines, nanos_of_one, times_asked};
 
 // How many are answered where no number asks for more.
 const FEW: u64 = 3;
@@ -38,19 +38,9 @@ fn messages_in(alloc: Global, lines: &[String]) -> Result<Vec<Bytes>, Mem> {
     Ok(messages)
 }
 
-fn nanos_of_one(time: Duration, times: u64) -> u64 {
-    u64::try_from(time.as_nanos()).unwrap_or(u64::MAX) / times.max(1)
-}
-
 fn main(rt: HostRuntime) -> io::Result<()> {
-    let asked = match env::args(&rt)?.nth(1) {
-        Some(word) => word.parse::<u64>().ok(),
-        None => None,
-    };
-    let mut lines = Vec::new(rt.alloc());
-    for line in BufReader::new(rt.alloc(), rt.reader())?.lines(rt.alloc()) {
-        lines.push(line?)?;
-    }
+    let asked = times_asked(&rt)?;
+    let lines = input_lines(&rt)?;
     let Some((setup, lines)) = lines.as_slice().split_first() else {
         return println!(rt; "standard input has no setup");
     };

@@ -14,10 +14,10 @@ use gnap_io::bytes::Bytes;
 use gnap_io::memory::Mem;
 use gnap_io::memory_devices::MemSource;
 use std::alloc::Global;
-use std::io::{BufRead, BufReader};
-use std::rt::{Clock, Env};
-use std::time::{Duration, Instant};
-use std::{env, io};
+use std::io;
+use std::rt::Clock;
+use std::time::Instant;
+use timings::{input_lines, nanos_of_one, times_asked};
 
 // How often a task is done where no number asks for more.
 const FEW: u64 = 3;
@@ -96,10 +96,6 @@ impl Subject {
     }
 }
 
-fn nanos_of_one(time: Duration, times: u64) -> u64 {
-    u64::try_from(time.as_nanos()).unwrap_or(u64::MAX) / times.max(1)
-}
-
 // Does a task, and prints what came of it.
 fn report<R: Clock + Print + AllocGlobal>(
     rt: &R,
@@ -124,14 +120,8 @@ fn report<R: Clock + Print + AllocGlobal>(
 }
 
 fn main(rt: HostRuntime) -> io::Result<()> {
-    let asked = match env::args(&rt)?.nth(1) {
-        Some(word) => word.parse::<u64>().ok(),
-        None => None,
-    };
-    let mut lines = Vec::new(rt.alloc());
-    for line in BufReader::new(rt.alloc(), rt.reader())?.lines(rt.alloc()) {
-        lines.push(line?)?;
-    }
+    let asked = times_asked(&rt)?;
+    let lines = input_lines(&rt)?;
     let [request, base, digest, mac] = lines.as_slice() else {
         return println!(rt; "standard input has not four lines");
     };
