@@ -1,0 +1,206 @@
+//! Two workers at once: what a connection brings second can be read only once the other one has got a reply.
+ghost use Rattle.std.specs.Prelude.{◌≡◌, IfOk};
+ghost use Rattle.gnap_io.specs.Gears.{new_gear};
+ghost use Rattle.gnap_io.specs.MemoryForms.{IsUnusedConn};
+
+use crate::bytewise::Bytewise;
+use adding_machine::adder::Adder;
+use gnap_io::bytes::Bytes;
+use gnap_io::device::{Device, Failed, Sink, Source};
+use gnap_io::gear::{Clock, Counted, Door, Draws, Gear};
+use gnap_io::memory::Mem;
+use gnap_io::memory_conn::MemConn;
+use gnap_io::memory_gear::MemGear;
+use serving::threads::serve_gears;
+use std::alloc::Global;
+use std::hint::spin_loop;
+use std::sync::Wait;
+use std::sync::atomic::{AtomicU64, Ordering};
+use std::thread::Threads;
+
+/// How often a read that waits looks.
+const LOOKS: u32 = 500_000_000;
+
+/// How many replies each of two connections got, and how many were waited for in vain.
+#[derive(Drop)]
+struct Gate {
+    first: AtomicU64,
+    second: AtomicU64,
+    late: AtomicU64,
+}
+
+impl Gate {
+    // The count of one of the two connections.
+    fn count_of(&self, is_first: bool) -> &AtomicU64 {
+        if is_first { &self.first } else { &self.second }
+    }
+
+    // Waits until the other connection has got a reply.
+    fn wait(&self, is_first: bool) {
+        if !comes(self.count_of(!is_first)) {
+            self.late.fetch_add(1, Ordering::SeqCst);
+        }
+    }
+
+    // Counts a reply.
+    fn count(&self, is_first: bool) {
+        self.count_of(is_first).fetch_add(1, Ordering::SeqCst);
+    }
+}
+
+// Whether a count rises from 0 while it is looked at.
+fn comes(count: &AtomicU64) -> bool {
+    for _ in 0..LOOKS {
+        if 0 < count.load(Ordering::SeqCst) {
+            return true;
+        }
+        spin_loop();
+    }
+    false
+}
+
+/// A connection in memory. All reads but its first wait at the gate.
+#[derive(Drop)]
+struct GatedConn<'a> {
+    conn: MemConn,
+    gate: &'a Gate,
+    is_first: bool,
+    was_read: bool,
+}
+
+impl<'a> Device for GatedConn<'a> {
+    ghost faults = { λ gated. ⟦<MemConn as Device>⟧.faults gated.conn };
+
+    ghost told = { λ gated. ⟦<MemConn as Device>⟧.told gated.conn };
+}
+
+impl<'a> Source for GatedConn<'a> {
+    fn read(&mut self, buf: &mut [u8]) -> Result<usize, Failed> {
+        if self.was_read {
+            self.gate.wait(self.is_first);
+        }
+        self.was_read = true;
+        self.conn.read(buf)
+    }
+}
+
+impl<'a> Sink for GatedConn<'a> {
+    fn write(&mut self, piece: &[u8]) -> Result<usize, Failed> {
+        self.gate.count(self.is_first);
+        self.conn.write(piece)
+    }
+}
+
+/// A gear in memory whose connections wait at the gate.
+#[derive(Drop)]
+struct GatedGear<'a> {
+    gear: MemGear,
+    gate: &'a Gate,
+    is_first: bool,
+}
+
+impl<'a> Counted for GatedGear<'a> {
+    ghost state = { λ gated. ⟦<MemGear as Counted>⟧.state gated.gear };
+}
+
+impl<'a> Door for GatedGear<'a> {
+    type Conn = GatedConn<'a>;
+
+    fn accept(&mut self) -> Result<Option<GatedConn<'a>>, Failed> {
+        match self.gear.accept() {
+            Ok(Some(conn)) => Ok(Some(GatedConn {
+                conn,
+                gate: self.gate,
+                is_first: self.is_first,
+                was_read: false,
+            })),
+            Ok(None) => Ok(None),
+            Err(Failed) => Err(Failed),
+        }
+    }
+
+    fn leave(&mut self, conn: GatedConn<'a>) {
+        let GatedConn {
+            conn,
+            gate: _,
+            is_first: _,
+            was_read: _,
+        } = conn;
+        self.gear.leave(conn);
+    }
+
+    fn has_failed(&self) -> bool {
+        self.gear.has_failed()
+    }
+}
+
+impl<'a> Clock for GatedGear<'a> {
+    fn now(&mut self) -> u64 {
+        self.gear.now()
+    }
+}
+
+impl<'a> Draws for GatedGear<'a> {
+    fn draw(&mut self) -> [u64; 48] {
+        self.gear.draw()
+    }
+}
+
+impl<'a> Gear for GatedGear<'a> {}
+
+// A gear with one connection that brings four messages by its first read and one by its second.
+fn gear_in_memory(alloc: Global) -> Result<MemGear, Mem>
+    ensures { IfOk result (λ gear. ⟦<MemGear as Counted>⟧.state gear ≡ new_gear 1) }
+{
+    let bytes = Bytes::from_slice(alloc, &[1; 5])?;
+    let conn = MemConn::new(alloc, bytes, 10, Vec::new(alloc), Vec::new(alloc))?;
+    let mut conns = Vec::new(alloc);
+    conns.push(conn)?;
+    MemGear::new(conns, Vec::new(alloc), Vec::new(alloc), Vec::new(alloc))
+}
+
+fn gated(alloc: Global, gate: &Gate, is_first: bool) -> Result<GatedGear, Mem>
+    ensures { IfOk result (λ gear. ⟦<GatedGear as Counted>⟧.state gear ≡ new_gear 1) }
+{
+    Ok(GatedGear {
+        gear: gear_in_memory(alloc)?,
+        gate,
+        is_first,
+    })
+}
+
+// How many bytes were written to the connections of both gears.
+fn replies_to_both<R: Threads + Wait + Sync>(
+    rt: &R,
+    alloc: Global,
+    gate: &Gate,
+) -> Result<Vec<usize>, Mem> {
+    let mut gears = Vec::new(alloc);
+    gears.push(gated(alloc, gate, true)?)?;
+    gears.push(gated(alloc, gate, false)?)?;
+    let front = Bytewise { start: 0 };
+    let (gears, served) = serve_gears(rt, alloc, Adder::new(alloc, 0, 0), &front, gears);
+    served?;
+    let mut counts = Vec::new(alloc);
+    for gear in &gears {
+        for conn in gear.gear.served() {
+            counts.push(conn.written().len())?;
+        }
+    }
+    Ok(counts)
+}
+
+/// Workers that came one after the other would leave the first connection waiting for what it brings second.
+#[test]
+fn two_workers_serve_at_once(rt: HostRuntime) {
+    let gate = Gate {
+        first: AtomicU64::new(0),
+        second: AtomicU64::new(0),
+        late: AtomicU64::new(0),
+    };
+    let Ok(counts) = replies_to_both(&rt, rt.alloc(), &gate) else {
+        panic!(rt; "no memory");
+    };
+    assert_eq!(rt; counts.as_slice(), &[5usize, 5][..], "replies");
+    assert_eq!(rt; gate.late.load(Ordering::SeqCst), 0, "waited in vain");
+}
