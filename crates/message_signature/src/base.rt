@@ -1,5 +1,5 @@
 //! The signature base (RFC 9421, section 2.5).
-ghost use Rattle.std.specs.Prelude.{◌≡◌, ◌+◌, ◌<◌, ◌++◌, length, drop, Some};
+ghost use Rattle.std.specs.Prelude.{◌≡◌, ◌+◌, ◌<◌, ◌++◌, [], length, drop, Some, IfOk};
 ghost use Rattle.std.specs.Option.{option_copied, option_map};
 ghost use Rattle.structured_fields.specs.Canonical.{bare_text};
 ghost use Rattle.structured_fields.specs.declared.bare.Bare.TheVariants.{Str};
@@ -9,6 +9,7 @@ ghost use Rattle.message_signature.specs.Base.{is_string, is_named, name_of, lin
 use crate::components::{append_component, appended};
 use crate::fault::BaseFault;
 use gnap_io::bytes::Bytes;
+use gnap_io::memory::Mem;
 use gnap_io::message::Message;
 use std::alloc::Global;
 use structured_fields::{Bare, InnerList, Item, Items, append_inner, append_item};
@@ -81,6 +82,26 @@ fn others_behind(items: &Items, i: usize) -> &[Item]
     &items.as_slice()[i + 1..]
 }
 
+// About how long the base gets: the lengths of the values that it may name, and of the field that names them once more.
+fn room_for(message: &Message, base: &Bytes) -> usize {
+    let mut room = message
+        .method
+        .len()
+        .saturating_add(base.len())
+        .saturating_add(message.target.len());
+    for field in message.fields.as_slice() {
+        room = room.saturating_add(field.value.len());
+    }
+    room
+}
+
+// No text, with room for so many bytes.
+fn text_with_room(alloc: Global, room: usize) -> Result<Bytes, Mem>
+    ensures { IfOk result (λ text. text ≡ []) }
+{
+    Ok(Bytes::from_vec(Vec::with_capacity(alloc, room)?))
+}
+
 fn lines_of(
     alloc: Global,
     message: &Message,
@@ -89,7 +110,8 @@ fn lines_of(
 ) -> Result<Bytes, BaseFault>
     ensures { GivesBase (λ b. b) result (base_lines message.now base.now items.now) }
 {
-    let mut text = Bytes::new(alloc);
+    let empty = text_with_room(alloc, room_for(message, base))?;
+    let mut text = empty;
     for i in 0..items.len() {
         text = append_line(
             alloc,

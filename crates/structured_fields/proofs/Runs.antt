@@ -1,10 +1,11 @@
 -- The front of a list that passes a test, and what a string's reader held before.
-use Rattle.std.proofs.Common.{◌≡◌, ℕ, suc, ◌+◌, ◌^◌, ◌≤◌, ◌<◌, ◌-◌, ◌==◌, Bool, true, false, cond, List, [], ◌∷◌, ◌++◌, length, take, drop, get_or, Option, Some, None, refl, sym, ap, ◌∙◌, arith, append_assoc, lit<}
-use Rattle.std.specs.List.{prefix_len, list_all}
+use Rattle.std.proofs.Common.{◌≡◌, ℕ, suc, ◌+◌, ◌^◌, ◌≤◌, ◌<◌, ◌-◌, ◌==◌, Bool, true, false, not, cond, List, [], ◌∷◌, ◌++◌, length, take, drop, get_or, Option, Some, None, refl, sym, ap, ◌∙◌, arith, append_assoc, lit<}
+use Rattle.std.specs.List.{prefix_len, list_all, flat_map}
 use Rattle.std.specs.Option.{option_map}
 use Rattle.std.proofs.Math.Nat.{pow-le-pow_right}
-use Rattle.structured_fields.specs.Letters.{is_digit, is_quoted, is_string_byte}
-use Rattle.structured_fields.specs.Reading.{with_byte, string_rest}
+use Rattle.structured_fields.specs.Letters.{is_digit, is_plain, is_quoted, is_unquoted, is_string_byte}
+use Rattle.structured_fields.specs.Grammar.{in_string}
+use Rattle.structured_fields.specs.Reading.{front, behind, with_byte, string_rest}
 use Rattle.std.proofs.lemmas.List.{drop_more, drop_all, take_rest, append-nil}
 use Rattle.std.proofs.lemmas.Bool.Decides.{nat_tests}
 
@@ -51,6 +52,39 @@ pub ended : (escaped : Bool) (bytes : List ℕ) (i : ℕ) → length bytes ≤ i
 unfolding string_rest
 ended true bytes i h = rw (drop_all i bytes h) refl
 ended false bytes i h = rw (drop_all i bytes h) refl
+
+-- the bytes that need no backslash, and what is written of those behind them
+pub unquoted_front : (s : List ℕ) → front is_unquoted s ++ flat_map in_string (behind is_unquoted s) ≡ flat_map in_string s
+unquoted_front [] = refl
+unquoted_front (c ∷ t) = by (is_quoted c) refl (unquoted_front t)
+  where
+    by : (b : Bool) → is_quoted c ≡ b → front is_unquoted t ++ flat_map in_string (behind is_unquoted t) ≡ flat_map in_string t
+        → take (cond (not b) (1 + prefix_len is_unquoted t) 0) (c ∷ t) ++ flat_map in_string (drop (cond (not b) (1 + prefix_len is_unquoted t) 0) (c ∷ t)) ≡ (cond b (92 ∷ c ∷ []) (c ∷ [])) ++ flat_map in_string t
+    by true is rest = rw is refl
+    by false is rest =
+        let one : 1 + prefix_len is_unquoted t ≡ suc (prefix_len is_unquoted t) = omega arith in rw one (ap (λ (s : List ℕ). c ∷ s) rest)
+
+-- the bytes that stand for themselves, and what stands behind them
+pub plain_front : (bytes : List ℕ) → with_front (front is_plain bytes) (string_rest false (behind is_plain bytes)) ≡ string_rest false bytes
+unfolding string_rest
+plain_front [] = with_front_none (string_rest false [])
+plain_front (c ∷ t) = by (is_plain c) refl (plain_front t)
+  where
+    more : (held : List ℕ) (read : Option (List ℕ × List ℕ)) → with_front (c ∷ held) read ≡ with_byte c (with_front held read)
+    more held None = refl
+    more held (Some x) = refl
+
+    plain_next : is_plain c ≡ true → string_rest false (c ∷ t) ≡ with_byte c (string_rest false t)
+    plain_next is =
+        let quote : (c == 34) ≡ false = grind (arith, is, nat_tests) in
+        let slash : (c == 92) ≡ false = grind (arith, is, nat_tests) in
+        let byte : is_string_byte c ≡ true = grind (arith, is, nat_tests) in rw (quote, slash, byte) refl
+
+    by : (b : Bool) → is_plain c ≡ b → with_front (front is_plain t) (string_rest false (behind is_plain t)) ≡ string_rest false t → with_front (front is_plain (c ∷ t)) (string_rest false (behind is_plain (c ∷ t))) ≡ string_rest false (c ∷ t)
+    by true is rest =
+        let one : 1 + prefix_len is_plain t ≡ suc (prefix_len is_plain t) = omega arith in
+        rw (is, one) (more (front is_plain t) (string_rest false (behind is_plain t)) ∙ ap (with_byte c) rest ∙ sym (plain_next is))
+    by false is rest = rw is (with_front_none (string_rest false (c ∷ t)))
 
 pub ruleset string_steps = (with_front_push, with_front_none, opened_true, opened_false, ended)
 

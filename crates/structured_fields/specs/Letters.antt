@@ -1,5 +1,5 @@
 -- The classes of bytes of RFC 8941, and the number that digits write.
-use Rattle.std.specs.Prelude.{ℕ, ◌+◌, ◌-◌, ◌*◌, ◌==◌, nat_le, Bool, false, if◌then◌else◌, ◌&&◌, ◌||◌, List, [], ◌∷◌, ℤ, pos, neg_ℤ, codes}
+use Rattle.std.specs.Prelude.{ℕ, ◌+◌, ◌-◌, ◌*◌, ◌==◌, nat_le, Bool, false, if◌then◌else◌, ◌&&◌, ◌||◌, not, List, [], ◌∷◌, ℤ, pos, neg_ℤ, codes}
 use Rattle.std.specs.List.{list_all, list_any}
 
 -- SP
@@ -51,6 +51,14 @@ is_string_byte c = nat_le 32 c && nat_le c 126
 -- `"` and `\`
 abbrev pub is_quoted : ℕ → Bool
 is_quoted c = (c == 34) || (c == 92)
+
+-- what needs no backslash before it
+abbrev pub is_unquoted : ℕ → Bool
+is_unquoted c = not (is_quoted c)
+
+-- what stands for itself between the quotes of a String
+abbrev pub is_plain : ℕ → Bool
+is_plain c = is_string_byte c && is_unquoted c
 
 -- the number that the digits write after those of n
 abbrev pub number_after : ℕ → List ℕ → ℕ

@@ -8,7 +8,7 @@ use crate::bare::Bare;
 use crate::fault::FieldFault;
 use crate::letters::{
     colon_run, digits_in, is_key_start, is_quoted, is_string_byte, is_token_start, key_run,
-    token_run,
+    plain_run, token_run,
 };
 use base64::DecodeAllocError;
 use base64::engine::general_purpose::{STANDARD, STANDARD_NO_PAD};
@@ -147,13 +147,15 @@ fn boolean_of(bytes: &[u8]) -> Result<(Bare, &[u8]), FieldFault>
     }
 }
 
+// What stands before the first escape is copied at once.
 #[tactic(auto, using(crate::proofs::Runs::string_steps))]
 fn string_of(alloc: Global, bytes: &[u8]) -> Result<(Bytes, &[u8]), FieldFault>
     ensures { Gives (λ x. (x.0, x.1.now)) result (string_rest false bytes.now) }
 {
-    let mut held = Bytes::new(alloc);
+    let (plain, rest) = bytes.split_at(plain_run(bytes));
+    let mut held = Bytes::from_slice(alloc, plain)?;
     let mut escaped = false;
-    for (i, c) in bytes.iter().enumerate() {
+    for (i, c) in rest.iter().enumerate() {
         let c = *c;
         if escaped {
             if !is_quoted(c) {
@@ -162,7 +164,7 @@ fn string_of(alloc: Global, bytes: &[u8]) -> Result<(Bytes, &[u8]), FieldFault>
             held.push(c)?;
             escaped = false;
         } else if c == b'"' {
-            return Ok((held, &bytes[i + 1..]));
+            return Ok((held, &rest[i + 1..]));
         } else if c == b'\\' {
             escaped = true;
         } else {

@@ -1,7 +1,7 @@
 //! The classes of bytes, and how far they run at the front of a text.
 ghost use Rattle.std.specs.Prelude.{◌≡◌, ◌≤◌, Bool, true, false, length, take, drop, reverse, MatchOption};
 ghost use Rattle.std.specs.List.{prefix_len, list_all};
-ghost use Rattle.structured_fields.specs.Letters.{is_space, is_ows, is_digit, is_key_start, is_key_byte, is_token_start, is_token_byte, is_string_byte, is_quoted};
+ghost use Rattle.structured_fields.specs.Letters.{is_space, is_ows, is_digit, is_key_start, is_key_byte, is_token_start, is_token_byte, is_string_byte, is_quoted, is_unquoted, is_plain};
 ghost use Rattle.structured_fields.specs.Reading.{front, behind, begins, is_not_colon, trimmed};
 
 pub(crate) fn is_key_start(c: u8) -> bool
@@ -38,6 +38,27 @@ pub(crate) fn is_quoted(c: u8) -> bool
     ensures { result ≡ is_quoted c }
 {
     c == b'"' || c == b'\\'
+}
+
+// It stands for itself between the quotes of a string.
+fn is_plain(c: u8) -> bool
+    ensures { result ≡ is_plain c }
+{
+    is_string_byte(c) && !is_quoted(c)
+}
+
+pub(crate) fn unquoted_run(bytes: &[u8]) -> usize
+    ensures len { result ≡ prefix_len is_unquoted bytes.now }
+    ensures within { result ≤ length bytes.now }
+{
+    bytes.iter().take_while(|b| !is_quoted(**b)).count()
+}
+
+pub(crate) fn plain_run(bytes: &[u8]) -> usize
+    ensures len { result ≡ prefix_len is_plain bytes.now }
+    ensures within { result ≤ length bytes.now }
+{
+    bytes.iter().take_while(|b| is_plain(**b)).count()
 }
 
 pub(crate) fn key_run(bytes: &[u8]) -> usize

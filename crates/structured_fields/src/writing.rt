@@ -7,6 +7,7 @@ ghost use Rattle.structured_fields.specs.Canonical.{part_text, integer_text, dec
 
 use crate::bare::Bare;
 use crate::item::{Dictionary, InnerList, Item, Items, List, Member, Params};
+use crate::letters::unquoted_run;
 use base64::engine::general_purpose::STANDARD;
 use gnap_io::bytes::Bytes;
 use gnap_io::memory::Mem;
@@ -55,7 +56,7 @@ fn put_decimal(out: &mut Bytes, n: i64) -> Result<(), Mem>
     put_part(out, thousandths % 1000)
 }
 
-fn put_escaped(out: &mut Bytes, s: &[u8]) -> Result<(), Mem>
+fn put_each_escaped(out: &mut Bytes, s: &[u8]) -> Result<(), Mem>
     ensures { OnOk result (out.new ≡ out.old ++ flat_map in_string s.now) }
 {
     for c in s {
@@ -65,6 +66,15 @@ fn put_escaped(out: &mut Bytes, s: &[u8]) -> Result<(), Mem>
         out.push(*c)?;
     }
     Ok(())
+}
+
+// What stands up to the first byte that needs a backslash is copied at once.
+fn put_escaped(out: &mut Bytes, s: &[u8]) -> Result<(), Mem>
+    ensures { OnOk result (out.new ≡ out.old ++ flat_map in_string s.now) }
+{
+    let (plain, rest) = s.split_at(unquoted_run(s));
+    out.extend(plain)?;
+    put_each_escaped(out, rest)
 }
 
 fn put_bare(alloc: Global, out: &mut Bytes, v: &Bare) -> Result<(), Mem>
