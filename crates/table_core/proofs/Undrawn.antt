@@ -1,5 +1,5 @@
 -- An action without notes changes nothing.
-use Rattle.std.proofs.Common.{◌≡◌, List, [], length, refl, sym, ap}
+use Rattle.std.proofs.Common.{◌≡◌, List, [], length, sym, ap}
 use Rattle.std.specs.List.{count_by, flat_map}
 use Rattle.gnap_model.specs.Notes.{note_values}
 use Rattle.gnap_model.specs.Standing.{is_opening}

@@ -17,4 +17,4 @@ returns-in-Err-clause-acts c = λ rules next supply.
     let key = c.args.key.now in
     let found = row_by_door c.args.value.now c.args.grants.now.rows in
     let named : named_number key found ≡ Err c.in-Err.code = rw (sym c.as_slice.ensures.value, sym c.as_slice-2.ensures.value) (sym c.named.ensures ∙ c.in-Err.is) in
-    rw c.undrawn-2.ensures (cancel_refused supply key found c.in-Err.code _ named)
+    rw c.undrawn-in-Err.ensures (cancel_refused supply key found c.in-Err.code _ named)

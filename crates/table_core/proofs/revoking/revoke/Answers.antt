@@ -19,7 +19,7 @@ returns-in-Left-clause-acts c = λ rules next supply.
     let grants = c.args.grants.now.rows in
     let found = row_by_manage c.args.value.now c.args.tokens.now.rows in
     let chosen : revocation_of key grants found ≡ Left = rw (sym c.as_slice.ensures.value, sym c.as_slice-2.ensures.value) (sym c.revocation_by.ensures ∙ c.in-Left.is) in
-    rw c.undrawn-2.ensures (revoked_as supply key grants c.args.tokens.now.rows found _ chosen)
+    rw c.undrawn-in-Left.ensures (revoked_as supply key grants c.args.tokens.now.rows found _ chosen)
 
 pub returns-in-Marked-clause-acts : goal.returns-in-Marked-clause-acts
 returns-in-Marked-clause-acts c = λ rules next supply.
@@ -27,4 +27,4 @@ returns-in-Marked-clause-acts c = λ rules next supply.
     let grants = c.args.grants.now.rows in
     let found = row_by_manage c.args.value.now c.args.tokens.now.rows in
     let chosen : revocation_of key grants found ≡ Marked c.in-Marked.serial = rw (sym c.as_slice.ensures.value, sym c.as_slice-2.ensures.value) (sym c.revocation_by.ensures ∙ c.in-Marked.is) in
-    rw (c.undrawn-3.ensures, c.revoke.ensures.rows) (revoked_as supply key grants c.args.tokens.now.rows found _ chosen)
+    rw (c.undrawn-in-Marked.ensures, c.revoke.ensures.rows) (revoked_as supply key grants c.args.tokens.now.rows found _ chosen)
