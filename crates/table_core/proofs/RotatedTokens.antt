@@ -5,7 +5,7 @@ use Rattle.gnap_model.specs.Common.{Text, same_text}
 use Rattle.gnap_model.specs.Values.{value_text}
 use Rattle.gnap_model.specs.Manage.{rotate_key}
 use Rattle.gnap_model.specs.Actions.{Action, Supply, on_found, with_key, successor}
-use Rattle.gnap_model.specs.Actions.Action.{Refuse, RotateToken}
+use Rattle.gnap_model.specs.Actions.Action.{Refuse}
 use Rattle.gnap_model.specs.declared.objects.Setup.{Setup}
 use Rattle.gnap_model.specs.declared.objects.ErrorCode.TheVariants.{InvalidClient, InvalidRotation, KeyRotationNotSupported}
 use Rattle.gnap_model.specs.declared.calls.Reply.TheVariants.{Error, Rotated}
