@@ -18,12 +18,15 @@ whole found = option_and_then interaction_of (option_map row_in found)
 abbrev passing : (RoundNote → Bool) → GrantRow → Option RoundNote → Option Interaction
 passing test row found = option_and_then (λ (round : RoundNote). some_if (test round) (record { row = row; round = round })) found
 
+abbrev open_in : ℕ → ℕ → Option Round → Option RoundNote
+open_in now number round = option_and_then (λ (r : Round). some_if (is_open_round now r) (round_of number r)) round
+
 row_whole : (test : RoundNote → Bool) (now : ℕ) (row : GrantRow) → interaction_where test now row ≡ whole (interaction_where test now row)
 row_whole test now row = by row.round refl
   where
-    by : (r : Option Round) → row.round ≡ r → interaction_where test now row ≡ whole (interaction_where test now row)
-    by None e = rw e refl
-    by (Some round) e = rw e (at (is_open_round now round) (test (round_of row.number round)) refl)
+    by : (r : Option Round) → row.round ≡ r → passing test row (open_in now row.number r) ≡ whole (passing test row (open_in now row.number r))
+    by None e = refl
+    by (Some round) e = at (is_open_round now round) (test (round_of row.number round)) refl
       where
         at : (a b : Bool) → test (round_of row.number round) ≡ b → passing test row (some_if a (round_of row.number round)) ≡ whole (passing test row (some_if a (round_of row.number round)))
         at false b f = refl

@@ -52,7 +52,6 @@ pub fn look(entering: &Entering, handle: &Bytes) -> Result<Plan, Mem>
 fn hand(entering: &Entering, row: &GrantRow, round: &Round) -> Plan
     ensures { Plans entering.now (ShowHandle (round_of row.now.number round.now)) result }
 {
-    let _seen = (entering, row);
     let handle = round.handle;
     told(Reply::Handle { handle })
 }

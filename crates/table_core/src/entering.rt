@@ -118,6 +118,5 @@ pub fn told(reply: Reply) -> Plan
 pub fn refused(entering: &Entering, code: ErrorCode) -> Plan
     ensures { Plans entering.now (Refuse code) result }
 {
-    let _entering = entering;
     told(Reply::Error { code })
 }
