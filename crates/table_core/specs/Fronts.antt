@@ -1,7 +1,6 @@
 -- What the consent front is told of interactions, from the rows.
-use Rattle.std.specs.Prelude.{ℕ, List, option_map}
+use Rattle.std.specs.Prelude.{option_map}
 use Rattle.std.specs.declared.option.Option.{Option}
-use Rattle.gnap_model.specs.Common.{Text}
 use Rattle.gnap_model.specs.Asked.{asked_rights}
 use Rattle.gnap_model.specs.Front.{decide_on}
 use Rattle.gnap_model.specs.Actions.{Action, on_found}
@@ -10,7 +9,7 @@ use Rattle.gnap_model.specs.declared.objects.DecideRequest.{DecideRequest}
 use Rattle.gnap_model.specs.declared.objects.ErrorCode.TheVariants.{UnknownInteraction}
 use Rattle.gnap_tables.specs.declared.rows.GrantRow.{GrantRow}
 use Rattle.gnap_tables.specs.declared.rows.Round.{Round}
-use Rattle.gnap_tables.specs.RowSearches.{Interaction, interaction_by_handle, interaction_by_code, opening_of, terms_of_row, round_of}
+use Rattle.gnap_tables.specs.RowSearches.{Interaction, opening_of, terms_of_row, round_of}
 
 -- the interaction of the row's round
 abbrev pub interaction_of : GrantRow → Option Interaction

@@ -46,12 +46,13 @@ fn hand_in(
     ensures { IfOk result (Plans entering.now (TakeDecision (round_of row.now.number round.now) rights request.now)) }
 {
     let finish = entering.supply.ending(&round.modes.finish, round.nonce)?;
+    let subject = request.subject.copy()?;
     let drawn = reference_count(&finish);
     let decision = Decision {
         verdict: request.verdict,
         reference: reference_in(&finish),
         rights,
-        subject: request.subject.copy()?,
+        subject,
     };
     Ok(Plan {
         reply: Reply::Decided { finish },
