@@ -1,5 +1,5 @@
 -- A round of interaction in which the user is asked, by what is known of a grant.
-use Rattle.std.specs.Prelude.{ℕ, ◌+◌, ◌-◌, false, [], is_some, if◌then◌else◌}
+use Rattle.std.specs.Prelude.{ℕ, ◌-◌, false, [], is_some, if◌then◌else◌}
 use Rattle.std.specs.declared.option.Option.{Option}
 use Rattle.std.specs.declared.option.Option.TheVariants.{None}
 use Rattle.gnap_model.specs.Common.{Text}
