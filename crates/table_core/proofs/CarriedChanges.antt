@@ -1,6 +1,6 @@
 -- What a change of the row of a grant needs, and the action to which a call comes by what was tested.
-use Rattle.std.proofs.Common.{ℕ, ◌≡◌, ◌<◌, ◌≤◌, ◌+◌, Bool, true, false, List, [], length, refl, ap, arith, get_or, Option, Some, None}
-use Rattle.std.specs.Prelude.{IfSome, is_none, is_some, not, nat_le, option_map, if◌then◌else◌}
+use Rattle.std.proofs.Common.{ℕ, ◌≡◌, ◌<◌, ◌≤◌, ◌+◌, true, false, List, [], length, refl, arith, get_or, Option, Some, None}
+use Rattle.std.specs.Prelude.{IfSome, is_none, nat_le, option_map}
 use Rattle.std.specs.List.{All}
 use Rattle.std.proofs.lemmas.Bool.Decides.{nat_tests}
 use Rattle.gnap_model.specs.Common.{Text}
@@ -21,7 +21,7 @@ use Rattle.gnap_tables.specs.declared.rows.Decision.{Decision}
 use Rattle.gnap_tables.specs.Laws.{HasFewWrongs}
 use Rattle.gnap_tables.specs.Tables.{Tables}
 use Rattle.gnap_tables.specs.RowSearches.{opening_of, decision_of_row}
-use Rattle.gnap_tables.specs.ActionsByRows.{begin_rows, continue_round_rows, modify_rows, opening_for, row_action}
+use Rattle.gnap_tables.specs.ActionsByRows.{begin_rows, continue_round_rows, opening_for, row_action}
 use Rattle.row_store.specs.Grants.{CanChange}
 use Rattle.row_store.specs.declared.changes.Change.{Change}
 use Rattle.row_store.specs.declared.changes.Change.TheVariants.{Terms, Pend, Approve, Decide as Decision_handed, Wrong}

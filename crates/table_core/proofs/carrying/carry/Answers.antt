@@ -1,5 +1,4 @@
-use Rattle.std.proofs.Common.{◌≡◌, ap, subst, sym, arith, List}
-use Rattle.gnap_tables.specs.declared.rows.TokenRow.{TokenRow}
+use Rattle.std.proofs.Common.{subst, arith}
 use Rattle.table_core.specs.Plans.{CanCarry}
 use Rattle.table_core.proofs.CarriedChanges.{can_change, numbers_kept, serials_kept}
 use Rattle.table_core.proofs.carrying.carry.Goals as goal

@@ -1,4 +1,4 @@
-use Rattle.std.proofs.Common.{◌≡◌, ◌∙◌, ◌<◌, ◌++◌, ◌∷◌, [], append-nil, append_assoc, ap, sym, length, length-append, arith}
+use Rattle.std.proofs.Common.{◌≡◌, ◌∙◌, ◌++◌, ◌∷◌, [], append-nil, append_assoc, ap, sym, length, length-append, arith}
 use Rattle.std.specs.Vec.Iter.{into_iter_items}
 use Rattle.std.proofs.lemmas.List.{nil_from_length}
 use Rattle.table_core.specs.Plans.{rows_in}
@@ -10,8 +10,8 @@ loop-row-init c =
     let rows = c.into_iter-row-iterator.ensures.into_iter_gives.0 in (
       tt,
       tt,
-      rows ∙ c.into_vec.ensures,
-      (let size = c.into_iter-row-iterator.ensures.into_iter_gives.1 in let long = c.into_vec.result.ok in let same = ap length rows in omega (arith, size, long, same)),
+      rows ∙ c.into_vec-row-items.ensures,
+      (let size = c.into_iter-row-iterator.ensures.into_iter_gives.1 in let long = c.into_vec-row-items.result.ok in let same = ap length rows in omega (arith, size, long, same)),
       sym (append-nil c.args.tokens.now.rows),
       omega arith,
       c.requires.below,

@@ -1,4 +1,4 @@
-use Rattle.std.proofs.Common.{◌∙◌, ap, Option, Some}
+use Rattle.std.proofs.Common.{◌∙◌, ap}
 use Rattle.gnap_tables.specs.declared.rows.Round.{Round}
 use Rattle.gnap_tables.specs.Tables.{change_grant, with_door, with_round}
 use Rattle.row_store.specs.Grants.{changed_by}

@@ -1,4 +1,4 @@
-use Rattle.std.proofs.Common.{◌∙◌, ◌++◌, ap, subst, sym, arith, List}
+use Rattle.std.proofs.Common.{◌∙◌, ◌++◌, ap, subst, sym, List}
 use Rattle.std.specs.List.{All}
 use Rattle.std.specs.Prelude.{◌<◌}
 use Rattle.gnap_tables.specs.declared.rows.GrantRow.{GrantRow}
