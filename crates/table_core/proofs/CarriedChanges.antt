@@ -1,7 +1,6 @@
--- What a change of the row of a grant needs, and the action to which a call comes by what was tested.
-use Rattle.std.proofs.Common.{ℕ, ◌≡◌, ◌<◌, ◌≤◌, ◌+◌, true, false, List, [], length, refl, arith, get_or, Option, Some, None}
-use Rattle.std.specs.Prelude.{IfSome, is_none, nat_le, option_map}
-use Rattle.std.specs.List.{All}
+-- The action to which a call comes by what was tested.
+use Rattle.std.proofs.Common.{ℕ, ◌≡◌, ◌<◌, ◌≤◌, ◌+◌, true, false, [], length, refl, arith, Option, Some, None}
+use Rattle.std.specs.Prelude.{is_none, nat_le, option_map}
 use Rattle.std.proofs.lemmas.Bool.Decides.{nat_tests}
 use Rattle.gnap_model.specs.Common.{Text}
 use Rattle.gnap_model.specs.Limits.{live_limit, wrong_limit}
@@ -15,37 +14,13 @@ use Rattle.gnap_model.specs.declared.objects.DecideRequest.{DecideRequest}
 use Rattle.gnap_model.specs.declared.calls.Call.{Call}
 use Rattle.gnap_model.specs.declared.calls.Call.TheVariants.{Begin, Continue, Modify, Cancel, Rotate, Revoke, Introspect, Look, FindCode, Decide, Lapse}
 use Rattle.gnap_tables.specs.declared.rows.GrantRow.{GrantRow}
-use Rattle.gnap_tables.specs.declared.rows.TokenRow.{TokenRow}
 use Rattle.gnap_tables.specs.declared.rows.Round.{Round}
 use Rattle.gnap_tables.specs.declared.rows.Decision.{Decision}
-use Rattle.gnap_tables.specs.Laws.{HasFewWrongs}
 use Rattle.gnap_tables.specs.Tables.{Tables}
 use Rattle.gnap_tables.specs.RowSearches.{opening_of, decision_of_row}
 use Rattle.gnap_tables.specs.ActionsByRows.{begin_rows, continue_round_rows, opening_for, row_action}
-use Rattle.row_store.specs.Grants.{CanChange}
-use Rattle.row_store.specs.declared.changes.Change.{Change}
-use Rattle.row_store.specs.declared.changes.Change.TheVariants.{Terms, Pend, Approve, Decide as Decision_handed, Wrong}
 use Rattle.table_core.specs.Continued.{wrong_rows}
 use Rattle.table_core.specs.Planned.{IsPlanned}
-
--- a round that goes on has fewer wrong references than can be counted
-pub can_change : (change : Change) (rows : List GrantRow) → All (λ (row : GrantRow). HasFewWrongs row) rows → All (CanChange change) rows
-can_change (Terms asks single subject) rows few k d inside = tt
-can_change (Pend round) rows few k d inside = tt
-can_change (Approve consent) rows few k d inside = tt
-can_change (Decision_handed decision) rows few k d inside = tt
-can_change Wrong rows few k d inside = by (get_or rows k d).round (few k d inside)
-  where
-    by : (r : Option Round) → IfSome r (λ (round : Round). round.wrongs < wrong_limit) → IfSome r (λ (round : Round). round.wrongs < 255)
-    by None h = tt
-    by (Some round) h = omega arith
-
--- rows that stay have the numbers and the serials that they had
-pub numbers_kept : (next number : ℕ) (old rows : List GrantRow) → rows ≡ old → number ≡ next → All (λ (row : GrantRow). row.number < next) old → All (λ (row : GrantRow). row.number < number) rows
-numbers_kept next number old rows same is below = rw (same, is) below
-
-pub serials_kept : (first : ℕ) (old rows : List TokenRow) → rows ≡ old → All (λ (row : TokenRow). row.serial < first) old → All (λ (row : TokenRow). row.serial < first) rows
-serials_kept first old rows same below = rw same below
 
 -- a grant request in time and within the limit is settled
 pub begun_as : (rules : Setup) (next : ℕ) (tables : Tables) (now : ℕ) (key : Text) (request : GrantRequest) (not_after : Option ℕ) (s : Settled)

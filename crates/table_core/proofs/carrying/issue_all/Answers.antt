@@ -1,29 +1,8 @@
-use Rattle.std.proofs.Common.{◌≡◌, ◌∙◌, ◌++◌, ◌∷◌, [], append-nil, append_assoc, ap, sym, length, length-append, arith}
+use Rattle.std.proofs.Common.{◌∙◌, ◌++◌, ◌∷◌, [], append_assoc, ap, sym, length, length-append, arith}
 use Rattle.std.specs.Vec.Iter.{into_iter_items}
-use Rattle.std.proofs.lemmas.List.{nil_from_length}
 use Rattle.table_core.specs.Plans.{rows_in}
 use Rattle.table_core.proofs.Rising.{free_after, row_comes, row_above, row_issued, rows_below}
 use Rattle.table_core.proofs.carrying.issue_all.Goals as goal
-
-pub loop-row-init : goal.loop-row-init
-loop-row-init c =
-    let rows = c.into_iter-row-iterator.ensures.into_iter_gives.0 in (
-      tt,
-      tt,
-      rows ∙ c.into_vec-row-items.ensures,
-      (let size = c.into_iter-row-iterator.ensures.into_iter_gives.1 in let long = c.into_vec-row-items.result.ok in let same = ap length rows in omega (arith, size, long, same)),
-      sym (append-nil c.args.tokens.now.rows),
-      omega arith,
-      c.requires.below,
-    )
-
-pub issue-requires-clause-room : goal.issue-requires-clause-room
-issue-requires-clause-room c =
-    let i = c.loop-row.invariant in
-    let more = into_iter_items c.next.new.self in
-    let whole = ap length (ap (λ l. c.loop-row.yielded ++ l) (sym c.in-Some.ensures.steps.0) ∙ i.2) in
-    let size = length-append c.loop-row.yielded (c.in-Some.row ∷ more) in
-    omega (arith, whole, size, i.5, c.requires.room)
 
 pub issue-requires-clause-is : goal.issue-requires-clause-is
 issue-requires-clause-is c =
@@ -53,9 +32,3 @@ loop-row-preserved c =
       (let a = i.5 in let b = c.issue.ensures.spare in omega (arith, a, b, size)),
       rows_below c.args.first c.loop-row.tokens.rows c.issue.new.self.rows yielded row comes.1 i.6 c.issue.ensures.rows,
     )
-
-pub returns : goal.returns
-returns c =
-    let i = c.loop-row.invariant in
-    let none : into_iter_items c.loop-row.row-iterator ≡ [] = nil_from_length (into_iter_items c.loop-row.row-iterator) (sym i.3 ∙ c.in-None.ensures.steps.0) in
-    i.4 ∙ ap (λ l. c.args.tokens.now.rows ++ rows_in l) (sym (append-nil c.loop-row.yielded) ∙ ap (λ l. c.loop-row.yielded ++ l) (sym none) ∙ i.2)
