@@ -10,7 +10,7 @@ use Rattle.gnap_model.specs.Limits.{wait}
 use Rattle.gnap_model.specs.Values.{value_text, drawn}
 use Rattle.gnap_model.specs.Notes.{note_values}
 use Rattle.gnap_model.specs.Standing.{is_opening}
-use Rattle.gnap_model.specs.Actions.{Action, Supply, outcome_of, drawn_value, token_for, tokens_for, token_out, finish_of, decision_for}
+use Rattle.gnap_model.specs.Actions.{Action, Supply, outcome_of, drawn_value, token_for, tokens_for, finish_of}
 use Rattle.gnap_model.specs.Actions.Action.{RefuseAndFinalize, LastWrongReference, WrongReference, RenewDoor, TakeDecision, CollectDecision}
 use Rattle.gnap_model.specs.declared.rights.Right.{Right}
 use Rattle.gnap_model.specs.declared.objects.Ask.{Ask}
@@ -19,7 +19,7 @@ use Rattle.gnap_model.specs.declared.objects.DecideRequest.{DecideRequest}
 use Rattle.gnap_model.specs.declared.objects.ErrorCode.{ErrorCode}
 use Rattle.gnap_model.specs.declared.objects.ErrorCode.TheVariants.{TooManyAttempts, InvalidInteraction}
 use Rattle.gnap_model.specs.declared.calls.Reply.{Reply}
-use Rattle.gnap_model.specs.declared.calls.Reply.TheVariants.{Error, Continuing, Decided, Granted}
+use Rattle.gnap_model.specs.declared.calls.Reply.TheVariants.{Error, Continuing, Decided}
 use Rattle.gnap_model.specs.declared.calls.FinishOut.{FinishOut}
 use Rattle.gnap_model.specs.declared.notes.OpeningNote.{OpeningNote}
 use Rattle.gnap_model.specs.declared.notes.DecisionNote.{DecisionNote}
@@ -129,10 +129,10 @@ wrong_counted entering row = record { reply = refl; change = refl; opened = refl
 
 -- ---- a decision
 
-reference_told : (entering : Entering) (nonce : Option Text) (finish : Option Finish)
-    → option_map (λ (ending : FinishOut). ending.reference) (finish_told entering.supply nonce finish) ≡ some_if (is_some finish) (drawn_value (supply entering) 0)
-reference_told entering nonce None = refl
-reference_told entering nonce (Some f) = refl
+reference_told : (entering : Entering) (told_nonce : Option Text) (finish : Option Finish)
+    → option_map (λ (ending : FinishOut). ending.reference) (finish_told entering.supply told_nonce finish) ≡ some_if (is_some finish) (drawn_value (supply entering) 0)
+reference_told entering told_nonce None = refl
+reference_told entering told_nonce (Some f) = refl
 
 ending_told : (entering : Entering) (number : ℕ) (round : Round) (finish : Option Finish) → finish_told entering.supply round.nonce finish ≡ finish_of (supply entering) (round_of number round) finish
 ending_told entering number round None = refl
@@ -141,9 +141,9 @@ ending_told entering number round (Some f) = refl
 abbrev told_count : Option FinishOut → ℕ
 told_count finish = if is_some finish then 1 else 0
 
-references_counted : (entering : Entering) (nonce : Option Text) (finish : Option Finish) (value : Text) → told_count (finish_told entering.supply nonce finish) ≡ length (option_to_list (some_if (is_some finish) value) ++ [])
-references_counted entering nonce None value = refl
-references_counted entering nonce (Some f) value = refl
+references_counted : (entering : Entering) (told_nonce : Option Text) (finish : Option Finish) (value : Text) → told_count (finish_told entering.supply told_nonce finish) ≡ length (option_to_list (some_if (is_some finish) value) ++ [])
+references_counted entering told_nonce None value = refl
+references_counted entering told_nonce (Some f) value = refl
 
 told_few : (finish : Option FinishOut) → told_count finish ≤ 17
 told_few None = omega arith

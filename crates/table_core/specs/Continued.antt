@@ -3,7 +3,8 @@ use Rattle.std.specs.Prelude.{◌+◌, nat_le, if◌then◌else◌}
 use Rattle.gnap_model.specs.Limits.{wrong_limit}
 use Rattle.gnap_model.specs.Actions.{Action}
 use Rattle.gnap_model.specs.Actions.Action.{WrongReference, LastWrongReference}
-use Rattle.gnap_tables.specs.Rows.{GrantRow, Round}
+use Rattle.gnap_tables.specs.declared.rows.GrantRow.{GrantRow}
+use Rattle.gnap_tables.specs.declared.rows.Round.{Round}
 use Rattle.gnap_tables.specs.RowSearches.{opening_of}
 
 -- the fifth of a round ends the grant
