@@ -1,4 +1,4 @@
-use Rattle.std.proofs.Common.{◌≡◌, ◌∙◌, ℕ, List, false, length, ap, refl, sym, arith}
+use Rattle.std.proofs.Common.{◌≡◌, ◌∙◌, List, false, length, ap, refl, sym, arith}
 use Rattle.gnap_model.specs.Actions.Action.{CollectDecision}
 use Rattle.gnap_model.specs.Continue.{decided_asks}
 use Rattle.gnap_model.specs.declared.objects.Ask.{Ask}
