@@ -11,13 +11,12 @@ use Rattle.gnap_model.specs.Values.{value_text, drawn}
 use Rattle.gnap_model.specs.Notes.{note_values}
 use Rattle.gnap_model.specs.Standing.{is_opening}
 use Rattle.gnap_model.specs.Actions.{Action, Supply, outcome_of, drawn_value, token_for, tokens_for, finish_of}
-use Rattle.gnap_model.specs.Actions.Action.{RefuseAndFinalize, LastWrongReference, WrongReference, RenewDoor, TakeDecision, CollectDecision}
+use Rattle.gnap_model.specs.Actions.Action.{LastWrongReference, RenewDoor, TakeDecision, CollectDecision}
 use Rattle.gnap_model.specs.declared.rights.Right.{Right}
 use Rattle.gnap_model.specs.declared.objects.Ask.{Ask}
 use Rattle.gnap_model.specs.declared.objects.Finish.{Finish}
 use Rattle.gnap_model.specs.declared.objects.DecideRequest.{DecideRequest}
-use Rattle.gnap_model.specs.declared.objects.ErrorCode.{ErrorCode}
-use Rattle.gnap_model.specs.declared.objects.ErrorCode.TheVariants.{TooManyAttempts, InvalidInteraction}
+use Rattle.gnap_model.specs.declared.objects.ErrorCode.TheVariants.{TooManyAttempts}
 use Rattle.gnap_model.specs.declared.calls.Reply.{Reply}
 use Rattle.gnap_model.specs.declared.calls.Reply.TheVariants.{Error, Continuing, Decided}
 use Rattle.gnap_model.specs.declared.calls.FinishOut.{FinishOut}
@@ -35,7 +34,7 @@ use Rattle.gnap_tables.specs.RowSearches.{opening_of, round_of, terms_of_row}
 use Rattle.gnap_tables.proofs.NotesAsOneChange.{all_issued}
 use Rattle.grant_rules.specs.Drawn.{finish_told}
 use Rattle.row_store.specs.Tokens.{IsTokenRow}
-use Rattle.row_store.specs.declared.changes.Change.TheVariants.{Decide, Wrong as WrongCame}
+use Rattle.row_store.specs.declared.changes.Change.TheVariants.{Decide}
 use Rattle.table_core.specs.CallEffects.{ActsBy, tables_in}
 use Rattle.table_core.specs.Entries.{supply, tables}
 use Rattle.table_core.specs.Plans.{Plans, nothing_with, rows_in, carried, opened_by, IsDrawn, RiseFrom}
@@ -97,13 +96,7 @@ tells entering action reply plan is says none = subst (λ (p : Plan). Plans ente
   can = tt;
 })
 
--- ---- the end of a grant, and a wrong reference
-
-abbrev pub end_plan : ErrorCode → ℕ → Plan
-end_plan code number = record { reply = Error code; drawn = 0; change = End number }
-
-pub refusal_ends : (entering : Entering) (row : GrantRow) (code : ErrorCode) → Plans entering (RefuseAndFinalize (opening_of row) code) (end_plan code row.number)
-refusal_ends entering row code = record { reply = refl; change = refl; opened = refl; drawn = refl; few = omega arith; can = tt }
+-- ---- the last wrong reference ends a grant
 
 drop_changed : (number : ℕ) (change : GrantRow → GrantRow) (rows : List GrantRow) → ((row : GrantRow) → (change row).number ≡ row.number) → drop_grant number (change_grant number change rows) ≡ drop_grant number rows
 drop_changed number change [] keeps = refl
@@ -114,7 +107,7 @@ drop_changed number change (r ∷ rs) keeps = at (number == r.number) refl (drop
     at true e rest = let same : (number == (change r).number) ≡ true = ap (λ n. number == n) (keeps r) ∙ e in rw (same, e) rest
     at false e rest = rw e (ap (λ (xs : List GrantRow). r ∷ xs) rest)
 
-pub last_wrong_ends : (entering : Entering) (row : GrantRow) → Plans entering (LastWrongReference (opening_of row)) (end_plan TooManyAttempts row.number)
+pub last_wrong_ends : (entering : Entering) (row : GrantRow) → Plans entering (LastWrongReference (opening_of row)) (record { reply = Error TooManyAttempts; drawn = 0; change = End row.number })
 last_wrong_ends entering row = record {
   reply = refl;
   change = ap (λ (rows : List GrantRow). tables_in rows (drop_tokens_of row.number (tables entering).tokens)) (sym (drop_changed row.number with_wrong (tables entering).grants (λ r. refl)));
@@ -123,9 +116,6 @@ last_wrong_ends entering row = record {
   few = omega arith;
   can = tt;
 }
-
-pub wrong_counted : (entering : Entering) (row : GrantRow) → Plans entering (WrongReference (opening_of row)) (record { reply = Error InvalidInteraction; drawn = 0; change = Alter row.number WrongCame })
-wrong_counted entering row = record { reply = refl; change = refl; opened = refl; drawn = refl; few = omega arith; can = tt }
 
 -- ---- a decision
 

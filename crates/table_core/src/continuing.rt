@@ -29,7 +29,6 @@ use std::alloc::Global;
 fn refuse_and_end(entering: &Entering, row: &GrantRow, code: ErrorCode) -> Plan
     ensures { Plans entering.now (RefuseAndFinalize (opening_of row.now) code) result }
 {
-    let _entering = entering;
     Plan {
         reply: Reply::Error { code },
         drawn: 0,
@@ -151,7 +150,6 @@ fn collect_or_renew(
 fn is_wrong(reference: &Option<Bytes>, decision: &Option<Decision>, number: u64) -> bool
     ensures { result ≡ is_wrong_for reference.now (option_map (decision_of_row number) decision.now) }
 {
-    let _number = number;
     match (reference, decision) {
         (Some(reference), Some(decision)) => match &decision.reference {
             Some(drawn) => drawn.as_slice() != reference.as_slice(),
@@ -166,7 +164,6 @@ fn is_wrong(reference: &Option<Bytes>, decision: &Option<Decision>, number: u64)
 fn count_wrong(entering: &Entering, row: &GrantRow) -> Plan
     ensures { Plans entering.now (WrongReference (opening_of row.now)) result }
 {
-    let _entering = entering;
     Plan {
         reply: Reply::Error {
             code: ErrorCode::InvalidInteraction,
@@ -183,7 +180,6 @@ fn count_wrong(entering: &Entering, row: &GrantRow) -> Plan
 fn end_by_wrong(entering: &Entering, row: &GrantRow) -> Plan
     ensures { Plans entering.now (LastWrongReference (opening_of row.now)) result }
 {
-    let _entering = entering;
     Plan {
         reply: Reply::Error {
             code: ErrorCode::TooManyAttempts,
