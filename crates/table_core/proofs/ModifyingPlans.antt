@@ -67,7 +67,7 @@ granted_anew entering row request count reply terms consent door boxes are count
       change = rw (at, termed, agreed) (ap (λ (ts : List TokenRow). tables_in (change_grant row.number (with_door v (entering.supply.moment + wait)) approved) (dropped ++ ts)) rows
           ∙ sym (all_issued made last approved dropped)
           ∙ sym (grant_dropped row.number (after ++ (map Issued made ++ last)) (tables entering).grants (tables entering).tokens (one_serial (tables entering).tokens are))
-          ∙ ap (λ (ns : List Note). after_notes ns (tables entering)) (sym (append_assoc (retire old) after (map Issued made ++ last))));
+          ∙ ap (λ (ns : List Note). after_notes ns (tables entering)) (sym (append_assoc (retire old ++ after) (map Issued made) last ∙ append_assoc (retire old) after (map Issued made ++ last))));
       opened = sym (grant_skipped is_opening s o (retire old ++ after) request.asks request.single None None skips ∙ retire_skipped is_opening old after skips);
       drawn = (let e = values_granted s o (retire old ++ after) request.asks request.single None None (outcome_of s (ModifyAtOnce o row.consent old request)).notes (retired_none old after)
           (grant_values s o (retire old ++ after) request.asks request.single None None (retired_none old after)) in omega (arith, e, counted));

@@ -3,7 +3,6 @@ use Rattle.gnap_model.specs.Common.{Text}
 use Rattle.gnap_model.specs.Limits.{wait}
 use Rattle.gnap_model.specs.declared.notes.RoundNote.{RoundNote}
 use Rattle.gnap_model.specs.declared.notes.TermsNote.{TermsNote}
-use Rattle.gnap_tables.specs.declared.rows.GrantRow.{GrantRow}
 use Rattle.gnap_tables.specs.Tables.{new_grant, with_door, with_round, with_terms}
 use Rattle.table_core.specs.Askings.{begun_round, asking_reply}
 use Rattle.table_core.proofs.OpeningPlans.{opened_row, asking_is}
@@ -22,6 +21,6 @@ returns c =
     let row : c.opened_row-row.result ≡ opened_row o request asking.door early =
     c.opened_row-row.ensures ∙ ap (λ (terms : TermsNote). with_door asking.door early (with_terms terms (new_grant o))) c.in_ok-terms.ensures in
     let pending = c.pend.ensures ∙ ap (with_round asking.round) row ∙ ap (λ (round : RoundNote). with_round round (opened_row o request asking.door early)) asked.round in
-    asking_is entering o request modes asking.reply asking.drawn c.in_ok-new.field-0 asking.door c.new.result c.requires.next c.requires.numbers
+    asking_is entering o request modes asking.reply asking.drawn c.in_ok-new.field-0 asking.door c.new-2.result c.requires.next c.requires.numbers
     (asked.reply ∙ ap (λ (instance : Option Text). asking_reply entering begun instance) c.in_ok-instance.ensures)
-    asked.drawn c.new.ensures (c.in_ok-new.ensures ∙ pending) asked.door
+    asked.drawn c.new-2.ensures (c.in_ok-new.ensures.ok ∙ pending) asked.door

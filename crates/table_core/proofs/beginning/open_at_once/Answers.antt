@@ -22,5 +22,5 @@ returns c =
     let granting = c.in_ok-granting.granting in
     at_once_is entering o request c.len-count.result granting.reply c.in_ok-new.field-0 door granting.tokens c.requires.next c.requires.numbers c.len-count.ensures c.requires.few entering.supply.room
     (granted_as (supply entering) (opening_of row) o c.as_slice.result.now request.asks request.single _ _ c.in_ok-instance.instance (instance_of o) granting.reply same c.as_slice.ensures refl c.in_ok-instance.ensures c.in_ok-granting.ensures.reply)
-    (c.in_ok-new.ensures ∙ is) c.value-door.ensures
+    (c.in_ok-new.ensures.ok ∙ is) c.value-door.ensures
     (tokens_as new_token (supply entering) (opening_of row) o c.as_slice.result.now request.asks _ same c.as_slice.ensures c.in_ok-granting.ensures.tokens)

@@ -6,4 +6,4 @@ returns c =
     let asking = c.in_ok-asking.asking in
     let asked = c.in_ok-asking.ensures in
     asked_anew c.args.entering.now c.args.row.now c.args.request.now c.args.modes.now asking.reply asking.drawn c.in_ok-terms.field-0 asking.round asking.door
-    c.len-_rows.ensures.ordered c.in_ok-terms.ensures asked.round asked.reply asked.drawn asked.door
+    c.len-rows.ensures.ordered c.in_ok-terms.ensures asked.round asked.reply asked.drawn asked.door

@@ -1,4 +1,4 @@
-use Rattle.std.proofs.Common.{◌≡◌, ap, sym}
+use Rattle.std.proofs.Common.{◌≡◌, ap}
 use Rattle.gnap_model.specs.Judging.{Settled, settle}
 use Rattle.gnap_model.specs.Judging.Settled.{AtOnce, ByAsking, Never}
 use Rattle.gnap_tables.specs.ActionsByRows.{modify_rows}
@@ -18,8 +18,8 @@ returns-in-ByAsking c =
     let is : ByAsking ≡ settle c.args.setup.now c.args.row.now.key c.args.row.now.consent c.args.request.now = rw (c.in-ByAsking.is, c.as_slice.ensures.value) at c.in_ok-settle.ensures in
     plans_as entering c.modify_by_asking.result _ _ (ap (λ (s : Settled). modify_rows s (tables entering) entering.supply.moment c.args.row.now c.args.request.now) is) c.modify_by_asking.ensures
 
-pub returns : goal.returns
-returns c =
+pub returns-in-Never : goal.returns-in-Never
+returns-in-Never c =
     let entering = c.args.entering.now in
     let is : Never ≡ settle c.args.setup.now c.args.row.now.key c.args.row.now.consent c.args.request.now = rw (c.in-Never.is, c.as_slice.ensures.value) at c.in_ok-settle.ensures in
     plan_as entering c.refused.result _ _ (ap (λ (s : Settled). modify_rows s (tables entering) entering.supply.moment c.args.row.now c.args.request.now) is) c.refused.ensures
