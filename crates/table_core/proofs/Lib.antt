@@ -1,4 +1,3 @@
-pub mod CancelledGrants
 pub mod CarriedChanges
 pub mod FoundInteractions
 pub mod ModifyingPlans

@@ -1,6 +1,5 @@
 //! The rotation of a token (RFC 9635, section 6.1). All memory is taken before the tables change.
-ghost use Rattle.std.specs.Prelude.{◌≡◌, ◌≤◌, ℕ, List, option_map, is_some, IfOk, OnErr};
-ghost use Rattle.std.specs.List.{All};
+ghost use Rattle.std.specs.Prelude.{◌≡◌, ◌≤◌, ℕ, List, option_map, IfOk, OnErr};
 ghost use Rattle.gnap_model.specs.Common.{Text};
 ghost use Rattle.gnap_model.specs.declared.calls.Call.TheVariants.{Rotate};
 ghost use Rattle.gnap_model.specs.declared.objects.Setup.{Setup};
