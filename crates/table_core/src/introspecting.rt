@@ -83,6 +83,7 @@ pub fn introspect(
         → ActsBy supply (row_action rules.now next (tables_in grants.now.rows tokens.now.rows) supply.now (Introspect server.now value.now binding wanted.now))
         (tables_in grants.now.rows tokens.now.rows) (tables_in grants.now.rows tokens.now.rows) answered) }
 {
+    // The count says that the rows stand in the order of their serials.
     let _count = tokens.len();
     let none = Seq::new(alloc);
     let names = server_names(rules, server.as_slice(), &none);
