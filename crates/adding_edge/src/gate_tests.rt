@@ -159,7 +159,7 @@ fn gear_in_memory(alloc: Global) -> Result<MemGear, Mem>
     MemGear::new(conns, Vec::new(alloc), Vec::new(alloc), Vec::new(alloc))
 }
 
-fn gated(alloc: Global, gate: &Gate, is_first: bool) -> Result<GatedGear, Mem>
+fn gated<'a>(alloc: Global, gate: &'a Gate, is_first: bool) -> Result<GatedGear<'a>, Mem>
     ensures { IfOk result (λ gear. ⟦<GatedGear as Counted>⟧.state gear ≡ new_gear 1) }
 {
     Ok(GatedGear {

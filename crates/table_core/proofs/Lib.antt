@@ -1,4 +1,3 @@
-pub mod CarriedChanges
 pub mod FoundInteractions
 pub mod ModifyingPlans
 pub mod OpeningPlans
@@ -8,6 +7,7 @@ pub mod RevokedTokens
 pub mod Rising
 pub mod RotatedTokens
 pub mod RowFacts
+pub mod SettledRequests
 pub mod Stepping
 pub mod ToldTokens
 pub mod Undrawn

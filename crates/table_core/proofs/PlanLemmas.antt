@@ -46,7 +46,7 @@ use Rattle.table_core.specs.declared.entering.TableChange.TheVariants.{Nothing, 
 
 -- ---- a plan that was carried out, and another name of its action
 
-pub carried_acts : (entering : Entering) (action : Action) (plan : Plan) (after : Tables) (answered : Answered) → Plans entering action plan
+carried_acts : (entering : Entering) (action : Action) (plan : Plan) (after : Tables) (answered : Answered) → Plans entering action plan
     → answered ≡ record { reply = plan.reply; opened = opened_by plan.change; drawn = plan.drawn } → after ≡ carried plan.change (tables entering)
     → ActsBy (supply entering) action (tables entering) after answered
 carried_acts entering action plan after answered plans is becomes = record {
@@ -82,19 +82,6 @@ plan_as entering plan a b same plans = subst (λ (x : Action). Plans entering x 
 
 pub plans_as : (entering : Entering) (result : Result Plan Mem) (a b : Action) → a ≡ b → IfOk result (Plans entering a) → IfOk result (Plans entering b)
 plans_as entering result a b same plans = subst (λ (x : Action). IfOk result (Plans entering x)) same plans
-
--- ---- no change
-
-pub tells : (entering : Entering) (action : Action) (reply : Reply) (plan : Plan) → plan ≡ nothing_with reply → reply ≡ (outcome_of (supply entering) action).reply
-    → (outcome_of (supply entering) action).notes ≡ [] → Plans entering action plan
-tells entering action reply plan is says none = subst (λ (p : Plan). Plans entering action p) (sym is) (record {
-  reply = says;
-  change = sym (ap (λ (ns : List Note). after_notes ns (tables entering)) none);
-  opened = sym (ap (count_by is_opening) none);
-  drawn = sym (ap (λ (ns : List Note). length (flat_map note_values ns)) none);
-  few = omega arith;
-  can = tt;
-})
 
 -- ---- the last wrong reference ends a grant
 

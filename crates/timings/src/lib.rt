@@ -1,5 +1,6 @@
 //! What programs that measure share: how often a task is to be done, the lines of their input, and the mean time of one.
 #![tactic(auto)]
+
 ghost use Rattle.std.specs.Prelude.{◌≡◌, ◌-◌, ◌^◌, ◌/◌, min, max};
 ghost use Rattle.std.specs.Duration.{as_nanos};
 

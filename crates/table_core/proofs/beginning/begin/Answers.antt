@@ -6,7 +6,7 @@ use Rattle.gnap_model.specs.declared.notes.OpeningNote.{OpeningNote}
 use Rattle.gnap_tables.specs.ActionsByRows.{begin_rows}
 use Rattle.table_core.specs.Entries.{tables}
 use Rattle.table_core.specs.Plans.{Plans}
-use Rattle.table_core.proofs.CarriedChanges.{begun_as}
+use Rattle.table_core.proofs.SettledRequests.{begun_as}
 use Rattle.table_core.proofs.PlanLemmas.{plan_as, plans_as}
 use Rattle.table_core.proofs.beginning.begin.Goals as goal
 
