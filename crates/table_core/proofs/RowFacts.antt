@@ -1,10 +1,11 @@
 -- What the rows of a legal history have: numbers and serials that fit the code and are below the next ones, few asks, few wrong references.
-use Rattle.std.proofs.Common.{ℕ, ◌≡◌, ◌<◌, ◌≤◌, ◌^◌, Bool, true, false, List, [], ◌∷◌, ◌++◌, length, get_or, reverse, refl, sym, ap, subst, inl, inr, arith}
+use Rattle.std.proofs.Common.{ℕ, ◌≡◌, ◌<◌, ◌≤◌, ◌^◌, Bool, true, false, List, [], ◌∷◌, ◌++◌, length, get_or, reverse, ◌==◌, refl, sym, ap, subst, inl, inr, arith}
 use Rattle.std.specs.Prelude.{not, if◌then◌else◌}
 use Rattle.std.specs.Option.{option_or}
 use Rattle.std.specs.List.{All, count_by, filter_map, cons_option}
 use Rattle.std.proofs.lemmas.List.{length-reverse}
 use Rattle.std.specs.declared.option.Option.{Option}
+use Rattle.std.specs.declared.option.Option.TheVariants.{None}
 use Rattle.histories.specs.History.{Legal, notes_of, now as latest_of}
 use Rattle.gnap_model.specs.Common.{Text, first_of, some_if}
 use Rattle.gnap_model.specs.Limits.{ask_limit}
@@ -25,7 +26,9 @@ use Rattle.gnap_model.proofs.Bound.{AllTermsFit, past_fits}
 use Rattle.gnap_model.proofs.Causes.{chosen}
 use Rattle.gnap_model.proofs.NewestFirst.{legal_past, trail-back}
 use Rattle.gnap_model.proofs.NoteCounts.{SkipsCommon, count-append, count-reverse, grant_skipped, pend_skipped, retire_skipped}
-use Rattle.gnap_tables.specs.Rows.{GrantRow, TokenRow, asks_of, grant_row, grant_row_in, grant_rows}
+use Rattle.gnap_tables.specs.declared.rows.GrantRow.{GrantRow}
+use Rattle.gnap_tables.specs.declared.rows.TokenRow.{TokenRow}
+use Rattle.gnap_tables.specs.Rows.{asks_of, grant_row, grant_row_in, grant_rows}
 use Rattle.gnap_tables.specs.StandsFor.{Kept, kept_of}
 use Rattle.gnap_tables.specs.Laws.{HasFewWrongs}
 use Rattle.gnap_tables.proofs.Known.{KnownAt, AreKnown}
@@ -73,11 +76,11 @@ numbers_below trail now known k d inside =
 
 terms_few : (g : ℕ) (ns : List Note) → AllTermsFit ns → length (asks_of (first_of (terms_in g) ns)) ≤ ask_limit
 terms_few g [] fit = omega arith
-terms_few g (Terms w ∷ ns) fit = at (w.grant == g)
+terms_few g (Terms w ∷ ns) fit = at (w.grant == g) (terms_few g ns fit.1)
   where
-    at : (b : Bool) → length (asks_of (option_or (some_if b w) (first_of (terms_in g) ns))) ≤ ask_limit
-    at true = fit.0
-    at false = terms_few g ns fit.1
+    at : (b : Bool) → length (asks_of (first_of (terms_in g) ns)) ≤ ask_limit → length (asks_of (option_or (some_if b w) (first_of (terms_in g) ns))) ≤ ask_limit
+    at true rest = fit.0
+    at false rest = rest
 terms_few g (Opened o ∷ ns) fit = terms_few g ns fit.1
 terms_few g (Approved i c ∷ ns) fit = terms_few g ns fit.1
 terms_few g (Issued t ∷ ns) fit = terms_few g ns fit.1

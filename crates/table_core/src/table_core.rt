@@ -1,5 +1,5 @@
 //! A core that keeps tables.
-ghost use Rattle.std.specs.Prelude.{◌≡◌, ◌≢◌, ◌≤◌, ℕ, [], List, IfOk, OnErr, IsOk};
+ghost use Rattle.std.specs.Prelude.{◌≡◌, ◌≢◌, ◌≤◌, ◌+◌, ℕ, [], List, IfOk, OnErr, IsOk};
 ghost use Rattle.histories.specs.History.{last_moment};
 ghost use Rattle.gnap_model.specs.declared.calls.Call.TheVariants.{Lapse};
 ghost use Rattle.gnap_history.specs.Gnap.{GnapFits};
