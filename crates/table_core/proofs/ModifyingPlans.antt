@@ -1,7 +1,6 @@
 -- A plan for a modification does what the notes of the modification do.
-use Rattle.std.proofs.Common.{ℕ, ◌≡◌, ◌≤◌, ◌<◌, ◌+◌, ◌*◌, ◌^◌, List, [], ◌∷◌, ◌++◌, length, map, refl, sym, ◌∙◌, ap, subst, arith, append_assoc, true, Option, Some, None}
+use Rattle.std.proofs.Common.{ℕ, ◌≡◌, ◌≤◌, ◌<◌, ◌+◌, ◌*◌, ◌^◌, List, [], ◌∷◌, ◌++◌, length, map, refl, sym, ◌∙◌, ap, subst, arith, append_assoc, true, Some, None}
 use Rattle.std.specs.Global.{Box}
-use Rattle.std.specs.List.{count_by}
 use Rattle.gnap_model.specs.Common.{Text}
 use Rattle.gnap_model.specs.Limits.{wait}
 use Rattle.gnap_model.specs.Standing.{is_opening}
@@ -29,7 +28,7 @@ use Rattle.row_store.specs.Tokens.{AreTokenRows}
 use Rattle.row_store.proofs.Placed.{one_key}
 use Rattle.table_core.specs.CallEffects.{tables_in}
 use Rattle.table_core.specs.Entries.{supply, tables}
-use Rattle.table_core.specs.Plans.{Plans, rows_in, RiseFrom, pended}
+use Rattle.table_core.specs.Plans.{Plans, rows_in, RiseFrom}
 use Rattle.table_core.specs.Askings.{begun_round, asking_reply, asking_values}
 use Rattle.table_core.specs.declared.entering.Entering.{Entering}
 use Rattle.table_core.specs.declared.entering.TableChange.TheVariants.{Renew, Pend}

@@ -1,8 +1,8 @@
 -- A plan that opens a grant does what the notes of its opening do.
-use Rattle.std.proofs.Common.{ℕ, zero, suc, ◌≡◌, ◌≤◌, ◌<◌, ◌+◌, ◌*◌, ◌^◌, Bool, true, false, List, [], ◌∷◌, ◌++◌, length, map, refl, sym, ◌∙◌, ap, subst, arith, append-nil, Option, Some, None}
+use Rattle.std.proofs.Common.{ℕ, zero, suc, ◌≡◌, ◌≤◌, ◌<◌, ◌+◌, ◌*◌, ◌^◌, Bool, true, false, List, [], ◌∷◌, ◌++◌, length, map, refl, sym, ◌∙◌, ap, subst, arith, append-nil, None}
 use Rattle.std.specs.Prelude.{is_some, if◌then◌else◌, ◌==◌}
 use Rattle.std.specs.Global.{Box}
-use Rattle.std.specs.List.{All, count_by, flat_map, list_any}
+use Rattle.std.specs.List.{All, flat_map}
 use Rattle.std.specs.Option.{option_to_list}
 use Rattle.std.proofs.lemmas.Bool.Decides.{nat_tests}
 use Rattle.gnap_model.specs.Common.{Text, some_if}
@@ -21,7 +21,7 @@ use Rattle.gnap_model.proofs.NoteCounts.{grant_skipped, pend_skipped}
 use Rattle.gnap_model.proofs.Serials.{grant_values, pend_values}
 use Rattle.gnap_tables.specs.declared.rows.GrantRow.{GrantRow}
 use Rattle.gnap_tables.specs.declared.rows.TokenRow.{TokenRow}
-use Rattle.gnap_tables.specs.Tables.{new_grant, new_token, with_approval, with_door, with_round, with_terms}
+use Rattle.gnap_tables.specs.Tables.{new_grant, new_token, with_door, with_round, with_terms}
 use Rattle.gnap_tables.proofs.NotesAsOneChange.{IsFree, opened_at_once, opened_asking}
 use Rattle.table_core.specs.CallEffects.{tables_in}
 use Rattle.table_core.specs.Entries.{supply, tables}

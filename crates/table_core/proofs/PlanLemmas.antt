@@ -2,7 +2,7 @@
 use Rattle.std.proofs.Common.{ℕ, ◌≡◌, ◌≤◌, ◌<◌, ◌+◌, ◌*◌, ◌^◌, Bool, true, false, List, [], ◌∷◌, ◌++◌, length, map, refl, sym, ◌∙◌, ap, subst, arith, append-nil, length-append, Option, Some, None}
 use Rattle.std.specs.Prelude.{Result, Ok, Err, IfOk, OnOk, is_some, option_map, slice_index, if◌then◌else◌, ◌==◌}
 use Rattle.std.specs.Global.{Box}
-use Rattle.std.specs.List.{count_by, flat_map}
+use Rattle.std.specs.List.{flat_map}
 use Rattle.std.specs.Option.{option_to_list}
 use Rattle.gnap_io.specs.declared.memory.Mem.{Mem}
 use Rattle.gnap_model.specs.Common.{Text, some_if}
@@ -29,7 +29,7 @@ use Rattle.gnap_model.proofs.Serials.{tokens_length, grant_values}
 use Rattle.gnap_tables.specs.declared.rows.GrantRow.{GrantRow}
 use Rattle.gnap_tables.specs.declared.rows.TokenRow.{TokenRow}
 use Rattle.gnap_tables.specs.declared.rows.Round.{Round}
-use Rattle.gnap_tables.specs.Tables.{Tables, after_notes, change_grant, drop_grant, drop_tokens_of, new_token, with_approval, with_door, with_wrong}
+use Rattle.gnap_tables.specs.Tables.{Tables, change_grant, drop_grant, drop_tokens_of, new_token, with_approval, with_door, with_wrong}
 use Rattle.gnap_tables.specs.RowSearches.{opening_of, round_of, terms_of_row}
 use Rattle.gnap_tables.proofs.NotesAsOneChange.{all_issued}
 use Rattle.grant_rules.specs.Drawn.{finish_told}
@@ -37,7 +37,7 @@ use Rattle.row_store.specs.Tokens.{IsTokenRow}
 use Rattle.row_store.specs.declared.changes.Change.TheVariants.{Decide}
 use Rattle.table_core.specs.CallEffects.{ActsBy, tables_in}
 use Rattle.table_core.specs.Entries.{supply, tables}
-use Rattle.table_core.specs.Plans.{Plans, nothing_with, rows_in, carried, opened_by, IsDrawn, RiseFrom}
+use Rattle.table_core.specs.Plans.{Plans, rows_in, carried, opened_by, IsDrawn, RiseFrom}
 use Rattle.table_core.specs.declared.answered.Answered.{Answered}
 use Rattle.table_core.specs.declared.entering.Entering.{Entering}
 use Rattle.table_core.specs.declared.entering.Plan.{Plan}

@@ -4,13 +4,12 @@ use Rattle.std.specs.Prelude.{not, if◌then◌else◌}
 use Rattle.std.specs.Option.{option_or}
 use Rattle.std.specs.List.{All, count_by, filter_map, cons_option}
 use Rattle.std.proofs.lemmas.List.{length-reverse}
-use Rattle.std.specs.declared.option.Option.{Option}
 use Rattle.std.specs.declared.option.Option.TheVariants.{None}
 use Rattle.histories.specs.History.{Legal, notes_of, now as latest_of}
-use Rattle.gnap_model.specs.Common.{Text, first_of, some_if}
+use Rattle.gnap_model.specs.Common.{first_of, some_if}
 use Rattle.gnap_model.specs.Limits.{ask_limit}
-use Rattle.gnap_model.specs.Notes.{Event, trail_of, first_serial}
-use Rattle.gnap_model.specs.Standing.{next_grant, is_opening, grant_state, is_finalized, terms_in, terms_of}
+use Rattle.gnap_model.specs.Notes.{Event, trail_of}
+use Rattle.gnap_model.specs.Standing.{next_grant, is_opening, grant_state, is_finalized, terms_in}
 use Rattle.gnap_model.specs.Actions.{Action, Supply, outcome_of, terms_for, instance_of, retire}
 use Rattle.gnap_model.specs.Actions.Action.{Refuse, ShowToken, ShowInactive, LapseAction, OpenAtOnce, OpenAsking, ShowRound, ShowHandle, TakeDecision, RenewDoor, CollectDecision, WrongReference, LastWrongReference, RefuseAndFinalize, ModifyAtOnce, ModifyAsking, CancelGrant, RotateToken, RevokeToken}
 use Rattle.gnap_model.specs.Answer.{supply_at}
@@ -18,7 +17,6 @@ use Rattle.gnap_model.specs.Legal.{grant_law, HasFewAsks, IsLegalPast}
 use Rattle.gnap_model.specs.declared.objects.Setup.{Setup}
 use Rattle.gnap_model.specs.declared.calls.Call.{Call}
 use Rattle.gnap_model.specs.declared.notes.OpeningNote.{OpeningNote}
-use Rattle.gnap_model.specs.declared.notes.TermsNote.{TermsNote}
 use Rattle.gnap_model.specs.declared.notes.Note.{Note}
 use Rattle.gnap_model.specs.declared.notes.Note.TheVariants.{Opened, Terms, Approved, Issued, Door, Pended, DecidedAs, Finalized, Wrong, Retired}
 use Rattle.gnap_model.proofs.AliveTokens.{HasNote, each_of}

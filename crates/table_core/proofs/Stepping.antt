@@ -1,16 +1,14 @@
 -- A step of the core over tables.
 use Rattle.std.proofs.Common.{ℕ, ◌≡◌, ◌<◌, ◌≤◌, ◌+◌, ◌^◌, max, Bool, true, false, List, length, refl, sym, ◌∙◌, ap, subst, arith}
 use Rattle.std.specs.Prelude.{nat_lt}
-use Rattle.std.specs.List.{count_by, flat_map}
+use Rattle.std.specs.List.{count_by}
 use Rattle.std.proofs.lemmas.Bool.Decides.{nat_tests}
 use Rattle.histories.specs.History.{last_moment, notes_of, now as latest_of}
 use Rattle.histories.specs.Steps.{Answers, Lapses}
 use Rattle.gnap_model.specs.declared.objects.Setup.{Setup}
 use Rattle.gnap_model.specs.declared.calls.Call.{Call}
-use Rattle.gnap_model.specs.declared.calls.Reply.{Reply}
-use Rattle.gnap_model.specs.Notes.{Event, note_values}
+use Rattle.gnap_model.specs.Notes.{Event}
 use Rattle.gnap_model.specs.Standing.{is_opening}
-use Rattle.gnap_model.specs.Actions.{outcome_of}
 use Rattle.gnap_tables.specs.Tables.{Tables, sweep, after_notes}
 use Rattle.gnap_tables.specs.ActionsByRows.{row_action, row_supply}
 use Rattle.gnap_tables.specs.StandsFor.{Kept, kept_of, machine_of, StandsByRows, at_moment, row_answer, with_notes}

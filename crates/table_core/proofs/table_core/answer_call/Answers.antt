@@ -33,7 +33,7 @@ returns-in-Revoke-clause-ok c =
     (c.revoke.ensures.acts c.args.rules.now c.args.next (row_supply supply.first (tables_in c.args.grants.now.rows c.args.tokens.now.rows) supply.moment supply.words.now))
 
 pub rotate-requires : goal.rotate-requires
-rotate-requires c = (c.args.next, c.requires.room)
+rotate-requires c = record { room = (c.args.next, c.requires.room) }
 
 pub returns-in-Rotate-clause-ok : goal.returns-in-Rotate-clause-ok
 returns-in-Rotate-clause-ok c =

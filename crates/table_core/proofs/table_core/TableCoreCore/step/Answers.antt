@@ -1,5 +1,6 @@
 use Rattle.std.proofs.Common.{rules, ◌≡◌, max, arith}
-use Rattle.table_core.specs.CallEffects.{HasRoom, tables_in}
+use Rattle.std.proofs.lemmas.Result.{err_from_is_err_and}
+use Rattle.table_core.specs.CallEffects.{tables_in}
 use Rattle.table_core.proofs.Stepping.{step_ok, step_err, step_room}
 use Rattle.table_core.proofs.table_core.TableCoreCore.step.Goals as goal
 
@@ -33,8 +34,9 @@ pub returns-in_err-answered-clause-err : goal.returns-in_err-answered-clause-err
 returns-in_err-answered-clause-err c =
     let s = c.args.self.now in
     let at : c.max-self.result ≡ max s.latest c.args.moment = search rules in
-    λ h stands. step_err s.rules s.grants c.answer_call.new.grants s.tokens c.answer_call.new.tokens (tables_in c.advance.new.grants.rows c.advance.new.tokens.rows) s.next s.first s.latest c.max-self.result c.args.moment
-    c.args.draw.now h stands c.requires.in_time at c.advance.ensures.rows c.in_err-answered.ensures.err (search rules)
+    let p = err_from_is_err_and c.from_residual.result c.from_residual.ensures.1 in
+    rw p.1 (λ h stands. step_err s.rules s.grants c.answer_call.new.grants s.tokens c.answer_call.new.tokens (tables_in c.advance.new.grants.rows c.advance.new.tokens.rows) s.next s.first s.latest c.max-self.result c.args.moment
+    c.args.draw.now h stands c.requires.in_time at c.advance.ensures.rows c.in_err-answered.ensures.err (search rules))
 
 pub returns-clause-ok : goal.returns-clause-ok
 returns-clause-ok c =
