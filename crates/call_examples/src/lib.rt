@@ -9,6 +9,8 @@ mod grant_texts;
 #[cfg(test)]
 mod guarded_requests;
 #[cfg(test)]
+mod loads;
+#[cfg(test)]
 mod message_files;
 #[cfg(test)]
 mod read_replies;

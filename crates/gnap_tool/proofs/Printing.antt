@@ -28,6 +28,12 @@ module _ (T R U V : List ℕ → Type 0) (text : (line : List ℕ) → T line �
   prints_weaker : (before after : Told) (ended : Ended) → PrintsAnswer T R before after ended → PrintsAnswer U V before after ended
   prints_weaker before after ended prints = record { sent = prints.sent; told = prints.told; ends = ends_weaker ended prints.sent prints.ends }
 
+-- a line was printed that the relation has
+pub prints_such : (P : List ℕ → Type 0) (line : List ℕ) → P line → (before after : Told) (ended : Ended)
+    → PrintsAnswer (λ text. text ≡ line) (λ text. ⊥) before after ended → PrintsAnswer P (λ text. ⊥) before after ended
+prints_such P line is before after ended prints =
+    prints_weaker (λ text. text ≡ line) (λ text. ⊥) P (λ text. ⊥) (λ text same. subst P (sym same) is) (λ text no. no) before after ended prints
+
 module _ (answers : Result (List ℕ) (List ℕ) → Type 0) (before after : Told) (ended : Ended) where
   abbrev pub IsRefusal : List ℕ → Type 0
   IsRefusal line = (name : List ℕ) × answers (Err name) × (line ≡ refused_line name)

@@ -12,7 +12,7 @@ use Rattle.gnap_io.specs.Openings.{Gives, GivesBack, gears_in, new_files}
 use Rattle.gnap_io.proofs.Devices.{writes_none}
 use Rattle.gnap_io.proofs.OpeningLemmas.{gives-none, gives-file, back-all}
 use Rattle.gnap_tool.specs.declared.command.Command.{Command}
-use Rattle.gnap_tool.specs.declared.command.Command.TheVariants.{Replay, Field, Sign, Verify, As, Rs, Client, Hash}
+use Rattle.gnap_tool.specs.declared.command.Command.TheVariants.{Replay, Field, Sign, Verify, As, Rs, Client, Hash, Load}
 use Rattle.gnap_tool.specs.declared.purpose.Purpose.{Purpose}
 use Rattle.gnap_tool.specs.declared.purpose.Purpose.TheVariants as purposes
 use Rattle.gnap_tool.specs.declared.ended.Ended.{Ended}
@@ -201,3 +201,4 @@ starved_carries (As config listen workers quota) text world out = inl (refl, (re
 starved_carries (Rs config listen server quota) text world out = inl (refl, (refl, inr refl))
 starved_carries (Client config address script) text world out = inl (refl, (refl, inr refl))
 starved_carries (Hash texts) text world out = (refl, (record { sent = []; told = writes_none out; ends = refl }, inr (inr refl)))
+starved_carries (Load grants start workers) text world out = (refl, (record { sent = []; told = writes_none out; ends = refl }, inr (inr refl)))

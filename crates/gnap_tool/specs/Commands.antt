@@ -6,7 +6,7 @@ use Rattle.gnap_io.specs.Gears.{last_moment}
 use Rattle.gnap_io.specs.declared.world.Opening.{Opening}
 use Rattle.gnap_io.specs.declared.world.Opening.TheVariants.{File, Gears, Link}
 use Rattle.gnap_tool.specs.declared.command.Command.{Command}
-use Rattle.gnap_tool.specs.declared.command.Command.TheVariants.{Replay, Field, Sign, Verify, As, Rs, Client, Hash}
+use Rattle.gnap_tool.specs.declared.command.Command.TheVariants.{Replay, Field, Sign, Verify, As, Rs, Client, Hash, Load}
 use Rattle.gnap_tool.specs.declared.fields.Kind.{Kind}
 use Rattle.gnap_tool.specs.declared.fields.Kind.TheVariants.{Item, List as AList, Dictionary}
 use Rattle.gnap_tool.specs.Numbers.{number_within}
@@ -85,6 +85,12 @@ abbrev pub hash_of : List (List ℕ) → Option Command
 hash_of [] = None
 hash_of (method ∷ texts) = with_four (hash_words method) texts
 
+-- 1 to 100,000 grants, a start of 64 bits, and 1 to 64 workers
+abbrev pub load_words : List ℕ → List ℕ → List ℕ → Option Command
+load_words grants start workers =
+    option_and_then (λ n. option_and_then (λ first. option_map (λ w. Load n first w) (number_within 1 64 workers))
+    (number_within 0 18446744073709551615 start)) (number_within 1 100000 grants)
+
 abbrev pub command_of : List (List ℕ) → Option Command
 command_of [] = None
 command_of (name ∷ arguments) =
@@ -96,6 +102,7 @@ command_of (name ∷ arguments) =
     else if bytes_eq name (codes "rs") then with_four rs_words arguments
     else if bytes_eq name (codes "client") then with_three client_words arguments
     else if bytes_eq name (codes "hash") then hash_of arguments
+    else if bytes_eq name (codes "load") then with_three load_words arguments
     else None
 
 -- what was read of words is this; memory runs out only where they are a command
@@ -112,6 +119,7 @@ IsWithinRanges (As config listen workers quota) = (1 ≤ workers) × (workers �
 IsWithinRanges (Rs config listen server quota) = Unit {0}
 IsWithinRanges (Client config address script) = Unit {0}
 IsWithinRanges (Hash texts) = Unit {0}
+IsWithinRanges (Load grants start workers) = (1 ≤ workers) × (workers ≤ 64)
 
 -- ---- what they open
 
@@ -125,6 +133,7 @@ openings_of (As config listen workers quota) = File config ∷ Gears listen work
 openings_of (Rs config listen server quota) = File config ∷ Link server ∷ Gears listen 1 quota ∷ []
 openings_of (Client config address script) = File config ∷ Link address ∷ File script ∷ []
 openings_of (Hash texts) = []
+openings_of (Load grants start workers) = []
 
 -- which of the files that a command opens is the input that may be too long, counted from 0; none where it has no such input
 abbrev pub input_place : Command → Option ℕ
@@ -136,3 +145,4 @@ input_place (As config listen workers quota) = None
 input_place (Rs config listen server quota) = None
 input_place (Client config address script) = Some 1
 input_place (Hash texts) = None
+input_place (Load grants start workers) = None

@@ -10,7 +10,7 @@ use Rattle.gnap_io.specs.declared.world.WorldFault.TheVariants as faults
 use Rattle.as_service.specs.Services.{IsService}
 use Rattle.gnap_io.specs.Openings.{Gives, GivesBack, gears_in, new_files}
 use Rattle.gnap_tool.specs.declared.command.Command.{Command}
-use Rattle.gnap_tool.specs.declared.command.Command.TheVariants.{Replay, Field, Sign, Verify, As, Rs, Client, Hash}
+use Rattle.gnap_tool.specs.declared.command.Command.TheVariants.{Replay, Field, Sign, Verify, As, Rs, Client, Hash, Load}
 use Rattle.gnap_tool.specs.declared.purpose.Purpose.{Purpose}
 use Rattle.gnap_tool.specs.declared.purpose.Purpose.TheVariants as purposes
 use Rattle.gnap_tool.specs.declared.ended.Ended.{Ended}
@@ -19,6 +19,7 @@ use Rattle.gnap_tool.specs.Ends.{status_of, Took}
 use Rattle.gnap_tool.specs.ClientFiles.{client_config_in, RunsClient}
 use Rattle.gnap_tool.specs.Fields.{PrintsField}
 use Rattle.gnap_tool.specs.HashLines.{PrintsHash}
+use Rattle.gnap_tool.specs.LoadLines.{PrintsLoad}
 use Rattle.gnap_tool.specs.Printing.{PrintsFor}
 use Rattle.gnap_tool.specs.ResourceFiles.{rs_setup_in}
 use Rattle.gnap_tool.specs.Replays.{ReplaysFile, setup_limit, setup_in}
@@ -141,6 +142,7 @@ CarriesOut (Client config address script) text before after out out_now ended =
     Linked between after (Unopened out out_now ended) (λ link opened.
     Over (text script) opened after (Unopened out out_now ended × (link.asked ≡ [])) (λ taken rest. RunsClient parts taken rest link.asked out out_now ended)))
 CarriesOut (Hash texts) text before after out out_now ended = (after ≡ before) × PrintsHash texts out out_now ended
+CarriesOut (Load grants start workers) text before after out out_now ended = (after ≡ before) × PrintsLoad grants workers out out_now ended
 
 -- the same, of the status that says how it ended
 pub record Carries (command : Command) (text : List ℕ → Option (List ℕ)) (before after : WorldState) (out out_now : Told) (status : ℕ) : Type 0 where

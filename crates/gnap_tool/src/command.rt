@@ -1,7 +1,7 @@
 //! The commands, and which of them words are.
 ghost use Rattle.std.specs.Prelude.{◌≡◌, ◌≤◌, ℕ, List, Option, None, IfOk, IfSome, IfNone, map, string_bytes};
 ghost use Rattle.gnap_io.specs.Gears.{last_moment};
-ghost use Rattle.gnap_tool.specs.Commands.{IsReadAs, IsWithinRanges, is_argument, kind_of, moment_of, replay_of, field_of, with_three, with_four, sign_words, verify_words, as_words, rs_words, client_words, long_method, hash_of, command_of};
+ghost use Rattle.gnap_tool.specs.Commands.{IsReadAs, IsWithinRanges, is_argument, kind_of, moment_of, replay_of, field_of, with_three, with_four, sign_words, verify_words, as_words, rs_words, client_words, long_method, hash_of, load_words, command_of};
 
 use crate::fields::Kind;
 use crate::hash_lines::HashedTexts;
@@ -29,6 +29,8 @@ pub enum Command {
     Client(Bytes, Bytes, Bytes),
     /// `hash METHOD CLIENT SERVER REF URI`: the interaction hash of the texts is printed.
     Hash(HashedTexts),
+    /// `load N START WORKERS`: so many grants are put through by so many workers, with words from a start, and the replies are counted.
+    Load(u32, u64, usize),
 }
 
 /// The last second of the year 9999, in seconds since 1970.
@@ -259,6 +261,18 @@ fn hash_of(alloc: Global, arguments: &[String]) -> Result<Option<Command>, Mem>
     })))
 }
 
+// 1 to 100,000 grants, a start of 64 bits, and 1 to 64 workers.
+fn load_of(arguments: &[String]) -> Option<Command>
+    ensures read { result ≡ with_three load_words (map string_bytes arguments.now) }
+    ensures ranges { IfSome result IsWithinRanges }
+{
+    let (grants, start, workers) = three(arguments)?;
+    let grants = number_within(grants, 1, 100_000)?;
+    let start = number_within(start, 0, 18_446_744_073_709_551_615)?;
+    let workers = number_within(workers, 1, 64)?;
+    Some(Command::Load(grants as u32, start, workers as usize))
+}
+
 /// The command that the words are, where they are one.
 pub fn command_of(alloc: Global, words: &[String]) -> Result<Option<Command>, Mem>
     ensures read { IsReadAs result (command_of (map string_bytes words.now)) }
@@ -276,6 +290,7 @@ pub fn command_of(alloc: Global, words: &[String]) -> Result<Option<Command>, Me
         "rs" => rs_of(alloc, arguments),
         "client" => client_of(alloc, arguments),
         "hash" => hash_of(alloc, arguments),
+        "load" => Ok(load_of(arguments)),
         _ => Ok(None),
     }
 }

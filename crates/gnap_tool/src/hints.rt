@@ -59,7 +59,7 @@ fn tell_setup<E: Sink>(err: &mut E, command: &Command, why: &WrongSetup) {
             &[b"gnap: ", config.as_slice(), b" is no configuration: "],
         ),
         // It reads none.
-        Command::Hash(_) => return,
+        Command::Hash(_) | Command::Load(_, _, _) => return,
     }
     match why {
         WrongSetup::TooLong => tell(err, &[b"it has more than 1,048,576 bytes"]),
@@ -109,6 +109,7 @@ fn tell_files<E: Sink>(err: &mut E, command: &Command) {
             ],
         ),
         Command::Hash(_) => tell(err, &[b"the hash"]),
+        Command::Load(_, _, _) => tell(err, &[b"the load"]),
     }
 }
 
@@ -133,7 +134,10 @@ fn tell_refusal<E: Sink>(err: &mut E, command: &Command) {
             &[b"gnap: a line of ", script.as_slice(), b" wasn't ok\n"],
         ),
         // Nothing that they read is refused.
-        Command::As(_, _, _, _) | Command::Rs(_, _, _, _) | Command::Hash(_) => {}
+        Command::As(_, _, _, _)
+        | Command::Rs(_, _, _, _)
+        | Command::Hash(_)
+        | Command::Load(_, _, _) => {}
     }
 }
 

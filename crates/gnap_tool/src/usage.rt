@@ -1,7 +1,7 @@
 //! What the program says of itself.
 
 /// The usage, line by line. The script that builds the program prints these strings too, so each stands on a line of its own.
-pub const USAGE: [&str; 12] = [
+pub const USAGE: [&str; 13] = [
     "usage: gnap COMMAND WORDS\n",
     "  gnap replay FILE            answers the calls in FILE, whose first line is a setup\n",
     "  gnap field item FILE        prints the canonical text of the structured field in FILE\n",
@@ -13,5 +13,6 @@ pub const USAGE: [&str; 12] = [
     "  gnap rs CONFIG LISTEN SERVER QUOTA  serves the resource server in CONFIG over HTTP, with the authorization server at SERVER\n",
     "  gnap client CONFIG ADDRESS SCRIPT  has the client in CONFIG carry out the lines of SCRIPT with the server at ADDRESS\n",
     "  gnap hash METHOD CLIENT SERVER REF URI  prints the interaction hash by METHOD, sha-256 or sha-512\n",
+    "  gnap load N START WORKERS  has WORKERS workers put N grants through on one state, and prints how many replies there were of each kind\n",
     "README.md has examples, docs/FORMATS.md the formats of files and output.\n",
 ];

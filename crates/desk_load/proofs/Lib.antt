@@ -1,0 +1,4 @@
+mod Fitting
+mod Growing
+mod Joining
+mod Working

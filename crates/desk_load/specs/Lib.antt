@@ -1,0 +1,4 @@
+pub mod LoadCalls
+pub mod Tallies
+pub mod Loads
+pub mod Sharing

@@ -1,0 +1,81 @@
+-- What workers do together that put a load on one desk.
+use Rattle.std.proofs.Common.{suc, zero}
+use Rattle.std.specs.Prelude.{◌≡◌, ◌≢◌, ℕ, ◌+◌, ◌*◌, ◌<◌, ◌%◌, ◌^◌, ◌==◌, Bool, true, false, List, [], ◌∷◌, ◌++◌, map, All, length, slice_get, Some}
+use Rattle.histories.specs.History.{places}
+use Rattle.histories.specs.Whole.{OneHistory, own_of}
+use Rattle.gnap_model.specs.declared.calls.Call.{Call}
+use Rattle.gnap_model.specs.declared.calls.Call.TheVariants.{Lapse}
+use Rattle.gnap_model.specs.declared.calls.Reply.{Reply}
+use Rattle.gnap_history.specs.Gnap.{gnap, GnapEntry, GnapFits}
+use Rattle.desk_load.specs.declared.tally.Tally.{Tally}
+use Rattle.desk_load.specs.LoadCalls.{load_setup, calls_after, calls_through}
+use Rattle.desk_load.specs.Tallies.{none_counted, tally_of, Adds}
+
+-- the moment of all calls
+abbrev pub load_moment : ℕ
+load_moment = 1000000
+
+-- A grant was put through by these entries: their calls are those that follow from the replies to the first and the third.
+pub record IsPutThrough (ends : Bool) (entries : List GnapEntry) : Type 0 where
+  pub opened : Reply
+  pub rotated : Reply
+  pub calls : map (λ e. e.call) entries ≡ calls_through ends opened rotated
+  pub opened_is : slice_get (map (λ e. e.reply) entries) 0 ≡ Some opened
+  pub rotated_is : slice_get (map (λ e. e.reply) entries) 2 ≡ Some rotated
+  pub moments : All (λ e. e.moment ≡ load_moment) entries
+
+-- A grant was ended by these entries, where that is to be, by the replies to its opening and to its rotation.
+pub record EndsGrant (ends : Bool) (opened rotated : Reply) (entries : List GnapEntry) : Type 0 where
+  pub calls : map (λ e. e.call) entries ≡ calls_after ends opened rotated
+  pub moments : All (λ e. e.moment ≡ load_moment) entries
+
+-- what a worker does of the grant with a number: all, where it is the worker's; each grant of an even number is ended
+abbrev pub IsPart : Bool → ℕ → List GnapEntry → Type 0
+IsPart true i entries = IsPutThrough (i % 2 == 0) entries
+IsPart false i entries = entries ≡ []
+
+-- The worker with a number did its share of the first grants: those whose number, divided by that of the workers, leaves the worker's.
+abbrev pub IsShare : ℕ → ℕ → ℕ → List GnapEntry → Type 0
+IsShare workers worker zero own = own ≡ []
+IsShare workers worker (suc i) own = (before : List GnapEntry) × (part : List GnapEntry) × (own ≡ before ++ part)
+    × IsShare workers worker i before × IsPart (i % workers == worker) i part
+
+-- the accounts of so many workers, from a first number on
+abbrev pub shares_from : ℕ → ℕ → ℕ → ℕ → List (List GnapEntry → Type 0)
+shares_from grants workers first zero = []
+shares_from grants workers first (suc n) = IsShare workers first grants ∷ shares_from grants workers (suc first) n
+
+-- There is one legal history of the load's setup. It has the entries of these workers alone, each of whom did its share of the grants, and the tally
+-- is that of all its replies.
+pub record IsLoad (grants workers : ℕ) (tally : Tally) : Type 0 where
+  pub one : OneHistory gnap load_setup (shares_from grants workers 0 workers)
+  pub counted : Adds (tally_of one.history) none_counted tally
+
+-- a call that may be made
+abbrev pub MayBeMade : Call → Type 0
+MayBeMade call = GnapFits call × (call ≢ Lapse)
+
+-- a desk of this number that has seen such histories has room for so many more entries
+abbrev pub HasRoom : ℕ → (List GnapEntry → Type 0) → ℕ → Type 0
+HasRoom number seen m = (h : List GnapEntry) × seen h × (length (places number h) + m < 2 ^ 52)
+
+-- From a history that was seen another came to be seen, with these own entries more, whose replies were counted.
+pub record Grows (number : ℕ) (seen : List GnapEntry → Type 0) (before : List GnapEntry) (tally tally_now : Tally) (entries : List GnapEntry) : Type 0 where
+  pub history : List GnapEntry
+  pub seen_now : seen history
+  pub own : own_of number history ≡ own_of number before ++ entries
+  pub counted : Adds (tally_of entries) tally tally_now
+
+-- One call more was made, and got this reply.
+pub record Asks (call : Call) (reply : Reply) (number : ℕ) (seen : List GnapEntry → Type 0) (before : List GnapEntry) (tally tally_now : Tally) : Type 0 where
+  pub entry : GnapEntry
+  pub call_is : entry.call ≡ call
+  pub reply_is : entry.reply ≡ reply
+  pub moment_is : entry.moment ≡ load_moment
+  pub grows : Grows number seen before tally tally_now (entry ∷ [])
+
+-- A grant more was put through, or what a worker does of it.
+pub record PutsThrough (IsDone : List GnapEntry → Type 0) (number : ℕ) (seen : List GnapEntry → Type 0) (before : List GnapEntry) (tally tally_now : Tally) : Type 0 where
+  pub entries : List GnapEntry
+  pub is_done : IsDone entries
+  pub grows : Grows number seen before tally tally_now entries

@@ -1,0 +1,39 @@
+//! One call, made and counted.
+ghost use Rattle.std.specs.Prelude.{◌≡◌, ◌+◌, ◌<◌, ◌≤◌, ◌^◌, ℕ, IfOk, IsOk};
+ghost use Rattle.desk_load.specs.Loads.{MayBeMade, HasRoom, Asks};
+ghost use Rattle.desk_load.specs.Tallies.{counted_in};
+
+use crate::tally::Tally;
+use crate::words::Words;
+use gnap_history::Gnap;
+use gnap_io::memory::Mem;
+use gnap_model::calls::{Call, Reply};
+use histories::machine::Desk;
+
+/// The moment of all calls.
+const MOMENT: u64 = 1_000_000;
+
+/// Makes a call and counts its reply. An `Err` says that memory ran out.
+pub fn ask<D: Desk<M = Gnap>>(
+    desk: &mut D,
+    words: &mut Words,
+    tally: &mut Tally,
+    call: Call,
+) -> Result<Reply, Mem>
+    requires may { MayBeMade call }
+    requires room { HasRoom (D.number desk.old) (D.seen desk.old) 1 }
+    requires few { counted_in tally.old + 1 < 2 ^ 64 }
+    ensures rules { D.rules desk.new ≡ D.rules desk.old }
+    ensures number { D.number desk.new ≡ D.number desk.old }
+    ensures home { D.home desk.new ≡ D.home desk.old }
+    ensures asks { IfOk result (λ reply. (h : _) → D.seen desk.old h
+        → Asks call reply (D.number desk.old) (D.seen desk.new) h tally.old tally.new) }
+    ensures room { IsOk result → (m : ℕ) → HasRoom (D.number desk.old) (D.seen desk.old) (m + 1)
+        → HasRoom (D.number desk.new) (D.seen desk.new) m }
+    ensures most { counted_in tally.new ≤ counted_in tally.old + 1 }
+{
+    let draw = words.draw();
+    let reply = desk.submit(MOMENT, &draw, call)?;
+    tally.count(&reply);
+    Ok(reply)
+}

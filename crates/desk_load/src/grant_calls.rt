@@ -1,0 +1,114 @@
+//! The calls that put a grant through.
+ghost use Rattle.std.specs.Prelude.{◌≡◌, option_map, codes, IfOk};
+ghost use Rattle.desk_load.specs.LoadCalls.{photos_request, token_in, value_of, manage_of, door_in, opening_call, question_about, rotation_of, cancellation_of};
+
+use crate::setup::reference_to;
+use gnap_io::bytes::Bytes;
+use gnap_io::memory::Mem;
+use gnap_io::seq::Seq;
+use gnap_model::calls::{Call, Reply, TokenOut};
+use gnap_model::objects::{Ask, GrantRequest};
+use std::alloc::Global;
+
+fn token_in(reply: &Reply) -> Option<&TokenOut>
+    ensures { option_map (λ t. t.now) result ≡ token_in reply.now }
+{
+    match reply {
+        Reply::Granted { tokens, .. } => tokens.as_slice().first(),
+        Reply::Rotated { token } => Some(token),
+        _ => None,
+    }
+}
+
+fn value_of(alloc: Global, token: Option<&TokenOut>) -> Result<Bytes, Mem>
+    ensures { IfOk result (λ value. value ≡ value_of (option_map (λ t. t.now) token.entry)) }
+{
+    match token {
+        None => Ok(Bytes::new(alloc)),
+        Some(token) => Bytes::from_slice(alloc, &token.value),
+    }
+}
+
+fn manage_of(alloc: Global, token: Option<&TokenOut>) -> Result<Bytes, Mem>
+    ensures { IfOk result (λ value. value ≡ manage_of (option_map (λ t. t.now) token.entry)) }
+{
+    match token {
+        None => Ok(Bytes::new(alloc)),
+        Some(token) => Bytes::from_slice(alloc, &token.manage),
+    }
+}
+
+fn door_in(alloc: Global, reply: &Reply) -> Result<Bytes, Mem>
+    ensures { IfOk result (λ value. value ≡ door_in reply.now) }
+{
+    match reply {
+        Reply::Granted { door, .. } => Bytes::from_slice(alloc, door),
+        Reply::Pending { door, .. } => Bytes::from_slice(alloc, door),
+        Reply::Continuing { door } => Bytes::from_slice(alloc, door),
+        _ => Ok(Bytes::new(alloc)),
+    }
+}
+
+fn photos_request(alloc: Global) -> Result<GrantRequest, Mem>
+    ensures { IfOk result (λ request. request ≡ photos_request) }
+{
+    let mut asks = Seq::new(alloc);
+    asks.push(Ask {
+        label: None,
+        rights: reference_to(alloc, b"photos")?,
+        bearer: false,
+    })?;
+    Ok(GrantRequest {
+        asks,
+        single: true,
+        subject: false,
+        client: Some(Bytes::from_slice(alloc, b"c1")?),
+        by_object: false,
+        user: None,
+        modes: None,
+    })
+}
+
+/// The client asks for a token for photos.
+pub fn opening_call(alloc: Global) -> Result<Call, Mem>
+    ensures call { IfOk result (λ call. call ≡ opening_call) }
+{
+    Ok(Call::Begin {
+        key: Bytes::from_slice(alloc, b"c1")?,
+        request: photos_request(alloc)?,
+        not_after: None,
+    })
+}
+
+/// The resource server asks about the token of a reply.
+pub fn question_about(alloc: Global, reply: &Reply) -> Result<Call, Mem>
+    ensures call { IfOk result (λ call. call ≡ question_about reply.now) }
+{
+    Ok(Call::Introspect {
+        server: Bytes::from_slice(alloc, b"r1")?,
+        value: value_of(alloc, token_in(reply))?,
+        binding: None,
+        wanted: None,
+    })
+}
+
+/// The client exchanges the token of a reply.
+pub fn rotation_of(alloc: Global, reply: &Reply) -> Result<Call, Mem>
+    ensures call { IfOk result (λ call. call ≡ rotation_of reply.now) }
+{
+    Ok(Call::Rotate {
+        key: Bytes::from_slice(alloc, b"c1")?,
+        value: manage_of(alloc, token_in(reply))?,
+        new_key: None,
+    })
+}
+
+/// The client ends the grant of a reply.
+pub fn cancellation_of(alloc: Global, reply: &Reply) -> Result<Call, Mem>
+    ensures call { IfOk result (λ call. call ≡ cancellation_of reply.now) }
+{
+    Ok(Call::Cancel {
+        key: Bytes::from_slice(alloc, b"c1")?,
+        value: door_in(alloc, reply)?,
+    })
+}

@@ -1,0 +1,19 @@
+//! A load on the grant machine: workers at one shared core, each of which puts its share of grants through, by calls and without HTTP.
+//!
+//! `put_load` shares a core among workers, runs them all at once and says how many replies were active, inactive or done. Its contract has one
+//! legal history behind these counts: in it each worker made just the calls of its share, each computed from the replies that this worker got
+//! before.
+#![tactic(auto)]
+
+mod asking;
+mod grant_calls;
+mod setup;
+mod share;
+mod tally;
+mod words;
+mod worker;
+mod workers;
+
+pub use setup::load_setup;
+pub use tally::Tally;
+pub use workers::put_load;

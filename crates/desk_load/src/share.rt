@@ -1,0 +1,122 @@
+//! A grant put through, and a worker's share of all grants.
+ghost use Rattle.std.specs.Prelude.{◌≡◌, ◌+◌, ◌*◌, ◌-◌, ◌<◌, ◌≤◌, ◌^◌, ◌==◌, ◌%◌, ℕ, Bool, IfOk, IsOk};
+ghost use Rattle.desk_load.specs.Loads.{HasRoom, Asks, PutsThrough, IsPutThrough, IsPart, IsShare, EndsGrant};
+ghost use Rattle.desk_load.specs.Tallies.{counted_in, none_counted};
+
+use crate::asking::ask;
+use crate::grant_calls::{cancellation_of, opening_call, question_about, rotation_of};
+use crate::tally::Tally;
+use crate::words::Words;
+use gnap_history::Gnap;
+use gnap_io::memory::Mem;
+use gnap_model::calls::Reply;
+use histories::machine::Desk;
+use std::alloc::Global;
+
+// Ends a grant where that is to be, and asks about its token once more.
+fn end_grant<D: Desk<M = Gnap>>(
+    alloc: Global,
+    desk: &mut D,
+    words: &mut Words,
+    tally: &mut Tally,
+    ends: bool,
+    opened: &Reply,
+    rotated: &Reply,
+) -> Result<(), Mem>
+    requires room { HasRoom (D.number desk.old) (D.seen desk.old) 2 }
+    requires few { counted_in tally.old + 2 < 2 ^ 64 }
+    ensures rules { D.rules desk.new ≡ D.rules desk.old }
+    ensures number { D.number desk.new ≡ D.number desk.old }
+    ensures home { D.home desk.new ≡ D.home desk.old }
+    ensures ends { IfOk result (λ _. (h : _) → D.seen desk.old h
+        → PutsThrough (EndsGrant ends opened.now rotated.now) (D.number desk.old) (D.seen desk.new) h tally.old tally.new) }
+    ensures room { IsOk result → (m : ℕ) → HasRoom (D.number desk.old) (D.seen desk.old) (m + 2)
+        → HasRoom (D.number desk.new) (D.seen desk.new) m }
+    ensures most { counted_in tally.new ≤ counted_in tally.old + 2 }
+{
+    if !ends {
+        return Ok(());
+    }
+    ask(desk, words, tally, cancellation_of(alloc, opened)?)?;
+    ask(desk, words, tally, question_about(alloc, rotated)?)?;
+    Ok(())
+}
+
+// Puts a grant through.
+fn put_through<D: Desk<M = Gnap>>(
+    alloc: Global,
+    desk: &mut D,
+    words: &mut Words,
+    tally: &mut Tally,
+    ends: bool,
+) -> Result<(), Mem>
+    requires room { HasRoom (D.number desk.old) (D.seen desk.old) 7 }
+    requires few { counted_in tally.old + 7 < 2 ^ 64 }
+    ensures rules { D.rules desk.new ≡ D.rules desk.old }
+    ensures number { D.number desk.new ≡ D.number desk.old }
+    ensures home { D.home desk.new ≡ D.home desk.old }
+    ensures puts { IfOk result (λ _. (h : _) → D.seen desk.old h
+        → PutsThrough (IsPutThrough ends) (D.number desk.old) (D.seen desk.new) h tally.old tally.new) }
+    ensures room { IsOk result → (m : ℕ) → HasRoom (D.number desk.old) (D.seen desk.old) (m + 7)
+        → HasRoom (D.number desk.new) (D.seen desk.new) m }
+    ensures most { counted_in tally.new ≤ counted_in tally.old + 7 }
+{
+    let opened = ask(desk, words, tally, opening_call(alloc)?)?;
+    ask(desk, words, tally, question_about(alloc, &opened)?)?;
+    let rotated = ask(desk, words, tally, rotation_of(alloc, &opened)?)?;
+    ask(desk, words, tally, question_about(alloc, &opened)?)?;
+    ask(desk, words, tally, question_about(alloc, &rotated)?)?;
+    end_grant(alloc, desk, words, tally, ends, &opened, &rotated)
+}
+
+// Puts a grant through where it is the worker's. Each grant of an even number is ended.
+fn do_part<D: Desk<M = Gnap>>(
+    alloc: Global,
+    desk: &mut D,
+    words: &mut Words,
+    tally: &mut Tally,
+    grant: u32,
+    mine: bool,
+) -> Result<(), Mem>
+    requires room { HasRoom (D.number desk.old) (D.seen desk.old) 7 }
+    requires few { counted_in tally.old + 7 < 2 ^ 64 }
+    ensures rules { D.rules desk.new ≡ D.rules desk.old }
+    ensures number { D.number desk.new ≡ D.number desk.old }
+    ensures home { D.home desk.new ≡ D.home desk.old }
+    ensures does { IfOk result (λ _. (h : _) → D.seen desk.old h
+        → PutsThrough (IsPart mine grant) (D.number desk.old) (D.seen desk.new) h tally.old tally.new) }
+    ensures room { IsOk result → (m : ℕ) → HasRoom (D.number desk.old) (D.seen desk.old) (m + 7)
+        → HasRoom (D.number desk.new) (D.seen desk.new) m }
+    ensures most { counted_in tally.new ≤ counted_in tally.old + 7 }
+{
+    if mine {
+        return put_through(alloc, desk, words, tally, grant % 2 == 0);
+    }
+    Ok(())
+}
+
+/// Does a worker's share of so many grants, and counts the replies. An `Err` says that memory ran out.
+pub fn do_share<D: Desk<M = Gnap>>(
+    alloc: Global,
+    desk: &mut D,
+    words: &mut Words,
+    grants: u32,
+    workers: usize,
+    worker: usize,
+) -> Result<Tally, Mem>
+    requires some { 0 < workers }
+    requires room { HasRoom (D.number desk.old) (D.seen desk.old) (7 * grants) }
+    ensures rules { D.rules desk.new ≡ D.rules desk.old }
+    ensures number { D.number desk.new ≡ D.number desk.old }
+    ensures home { D.home desk.new ≡ D.home desk.old }
+    ensures shares { IfOk result (λ tally. (h : _) → D.seen desk.old h
+        → PutsThrough (IsShare workers worker grants) (D.number desk.old) (D.seen desk.new) h none_counted tally) }
+    ensures most { IfOk result (λ tally. counted_in tally ≤ 7 * grants) }
+{
+    let mut tally = Tally::new();
+    for grant in 0..grants {
+        let mine = grant as usize % workers == worker;
+        do_part(alloc, desk, words, &mut tally, grant, mine)?;
+    }
+    Ok(tally)
+}
