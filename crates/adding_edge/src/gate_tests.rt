@@ -160,7 +160,7 @@ fn gear_in_memory(alloc: Global) -> Result<MemGear, Mem>
 }
 
 fn gated<'a>(alloc: Global, gate: &'a Gate, is_first: bool) -> Result<GatedGear<'a>, Mem>
-    ensures { IfOk result (λ gear. ⟦<GatedGear as Counted>⟧.state gear ≡ new_gear 1) }
+    ensures { IfOk result (λ gear. ⟦<GatedGear<'a> as Counted>⟧.state gear ≡ new_gear 1) }
 {
     Ok(GatedGear {
         gear: gear_in_memory(alloc)?,
