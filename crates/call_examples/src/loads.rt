@@ -1,19 +1,19 @@
 //! Loads whose counts can be told by hand.
 use desk_load::{Tally, load_setup, put_load};
-use gnap_history::ListCore;
 use gnap_io::memory::Mem;
 use std::alloc::Global;
 use std::sync::Wait;
 use std::thread::Threads;
+use table_core::TableCore;
 
-// The tally of so many grants, which so many workers put through at a list of notes.
+// The tally of so many grants, which so many workers put through at tables.
 fn tally_of<R: Threads + Wait + Sync>(
     rt: &R,
     alloc: Global,
     grants: u32,
     workers: usize,
 ) -> Result<Tally, Mem> {
-    let core = ListCore::new(alloc, load_setup(alloc)?);
+    let core = TableCore::new(alloc, load_setup(alloc)?);
     put_load(rt, alloc, core, grants, 7, workers.clamp(1, 64))
 }
 

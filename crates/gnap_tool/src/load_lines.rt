@@ -6,13 +6,13 @@ ghost use Rattle.gnap_tool.specs.LoadLines.{load_line, IsLoadLine, PrintsLoad};
 use crate::ended::Ended;
 use crate::printed_text::print_text;
 use desk_load::{Tally, load_setup, put_load};
-use gnap_history::ListCore;
 use gnap_io::bytes::Bytes;
 use gnap_io::device::Sink;
 use gnap_io::memory::Mem;
 use std::alloc::Global;
 use std::sync::Wait;
 use std::thread::Threads;
+use table_core::TableCore;
 
 fn load_line(alloc: Global, grants: u32, tally: &Tally) -> Result<Bytes, Mem>
     ensures { IfOk result (λ line. line ≡ load_line grants tally.now) }
@@ -29,7 +29,7 @@ fn load_line(alloc: Global, grants: u32, tally: &Tally) -> Result<Bytes, Mem>
     Ok(line)
 }
 
-// Puts a load on a list of notes, and says what was counted.
+// Puts a load on tables, and says what was counted.
 fn line_of_load<R: Threads + Wait + Sync>(
     rt: &R,
     alloc: Global,
@@ -40,7 +40,7 @@ fn line_of_load<R: Threads + Wait + Sync>(
     requires workers { (1 ≤ workers) × (workers ≤ 64) }
     ensures { IfOk result (IsLoadLine grants workers) }
 {
-    let core = ListCore::new(alloc, load_setup(alloc)?);
+    let core = TableCore::new(alloc, load_setup(alloc)?);
     let tally = put_load(rt, alloc, core, grants, start, workers)?;
     load_line(alloc, grants, &tally)
 }

@@ -62,7 +62,7 @@ fn last_replies(written: &[u8], reply: &[u8], most: u64) -> u64 {
 
 /// The server, what it is asked, and the reply that is wanted.
 #[derive(Drop)]
-pub struct Introspections {
+pub(crate) struct Introspections {
     server: AuthorizationServer,
     grant: Bytes,
     introspection: Bytes,
@@ -71,7 +71,7 @@ pub struct Introspections {
 
 impl Introspections {
     /// By the server of this setup. Each connection begins with the grant request, whose token the introspection asks about.
-    pub fn new(
+    pub(crate) fn new(
         alloc: Global,
         setup: &str,
         grant: &Bytes,
@@ -105,7 +105,7 @@ impl Introspections {
     }
 
     /// Has so many introspections answered, and counts how often the reply is as wanted.
-    pub fn active(&self, alloc: Global, times: u64) -> Result<u64, Mem> {
+    pub(crate) fn active(&self, alloc: Global, times: u64) -> Result<u64, Mem> {
         let mut active: u64 = 0;
         for place in 0..=times / LONGEST {
             let count = times

@@ -10,7 +10,7 @@ use std::alloc::Global;
 
 /// What they are made of, and what they are: the digest of the body, and the MAC of the signature base.
 #[derive(Drop)]
-pub struct Hashes {
+pub(crate) struct Hashes {
     body: Bytes,
     base: Bytes,
     digest: Bytes,
@@ -27,7 +27,7 @@ fn decoded(alloc: Global, text: &str) -> Result<Bytes, Mem> {
 
 impl Hashes {
     /// Those of this body and this signature base. The digest and the MAC are in base64.
-    pub fn new(
+    pub(crate) fn new(
         alloc: Global,
         body: &str,
         base: Bytes,
@@ -43,7 +43,7 @@ impl Hashes {
     }
 
     /// Makes both so many times, and counts how often they are right.
-    pub fn made(&self, times: u64) -> u64 {
+    pub(crate) fn made(&self, times: u64) -> u64 {
         let mut right: u64 = 0;
         for _ in 0..times {
             let digest = Sha256::digest(self.body.as_slice());

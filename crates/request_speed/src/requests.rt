@@ -13,11 +13,11 @@ use std::alloc::Global;
 const MOMENT: u64 = 1000;
 
 /// The secret of the key that signs the request.
-pub const SECRET: &[u8] = b"secret-key-of-c1";
+pub(crate) const SECRET: &[u8] = b"secret-key-of-c1";
 
 /// What verifying takes beside the message.
 #[derive(Drop)]
-pub struct Verifier {
+pub(crate) struct Verifier {
     base: Bytes,
     ring: Keyring,
     tag: Bytes,
@@ -25,7 +25,7 @@ pub struct Verifier {
 
 impl Verifier {
     /// The one of the key `c1`.
-    pub fn new(alloc: Global) -> Result<Verifier, Mem> {
+    pub(crate) fn new(alloc: Global) -> Result<Verifier, Mem> {
         let mut ring = Keyring::new(alloc);
         let id = Bytes::from_slice(alloc, b"c1")?;
         let secret = Bytes::from_slice(alloc, SECRET)?;
@@ -41,7 +41,7 @@ impl Verifier {
 }
 
 /// Reads so many requests from the connection, verifies them where there is a verifier, and counts those that pass, up to the first that can't be read.
-pub fn requests_read(
+pub(crate) fn requests_read(
     alloc: Global,
     connection: &mut MemSource,
     times: u64,

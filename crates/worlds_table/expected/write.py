@@ -1,4 +1,5 @@
-"""Writes ../stdin, a table of cases, and ../stdout, what comes of each by the rules of docs/, without the program.
+"""Writes ../stdin, a table of cases, and ../stdout, what comes of each by the rules of docs/, without the program; and of the replays among them
+../../both_cores/stdin, their lines, and ../../both_cores/stdout, how many bytes they print.
 
 Run it anew where a rule or a case changes: python3 crates/worlds_table/expected/write.py
 """
@@ -34,6 +35,20 @@ def lines_of(values):
     return "".join(json.dumps(value, ensure_ascii=False, separators=(",", ":")) + "\n" for value in values)
 
 
+def is_plain_replay(case):
+    """A replay of a file that stands in the case, over devices that do as they are told."""
+    return case["words"][:1] == ["replay"] and set(case) == {"name", "words", "files"}
+
+
+def histories(table):
+    """For each replay its lines, none of them empty, and what it prints."""
+    for case in filter(is_plain_replay, table):
+        lines = [line for line in case["files"][0][1].split("\n") if line]
+        told = outcome(case)
+        if lines and told["status"] == 0 and all(ord(c) < 128 for c in case["files"][0][1]):
+            yield lines, told["out"]
+
+
 def main():
     check_all()
     table = list(cases())
@@ -41,6 +56,10 @@ def main():
     folder = Path(__file__).resolve().parent.parent
     for name, values in (("stdin", table), ("stdout", map(outcome, table))):
         (folder / name).write_text(lines_of(values), encoding="utf-8")
+    replays = list(histories(table))
+    both = folder.parent / "both_cores"
+    (both / "stdin").write_text("".join("\n".join(lines) + "\n\n" for lines, _ in replays))
+    (both / "stdout").write_text("".join(f"{len(printed)} bytes\n" for _, printed in replays))
 
 
 if __name__ == "__main__":

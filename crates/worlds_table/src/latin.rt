@@ -34,7 +34,7 @@ fn add_run(bytes: &mut Bytes, runs: &[(String, u64)], symbol: char) -> Result<()
 }
 
 /// The bytes for which a text of the case stands.
-pub fn bytes_of(alloc: Global, case: &Case, text: &str) -> Result<Bytes, Fault> {
+pub(crate) fn bytes_of(alloc: Global, case: &Case, text: &str) -> Result<Bytes, Fault> {
     let mut bytes = Bytes::new(alloc);
     for symbol in text.chars() {
         match u8::try_from(symbol as u32) {
@@ -46,7 +46,7 @@ pub fn bytes_of(alloc: Global, case: &Case, text: &str) -> Result<Bytes, Fault> 
 }
 
 /// A text for the bytes. Of more than 8,192 it is their number and their SHA-256 in hexadecimal digits.
-pub fn text_of(alloc: Global, bytes: &[u8]) -> Result<String, Fault> {
+pub(crate) fn text_of(alloc: Global, bytes: &[u8]) -> Result<String, Fault> {
     if bytes.len() > LONGEST {
         let digest = hex::encode(alloc, &Sha256::digest(bytes))?;
         return Ok(format!(in alloc; "{} bytes, SHA-256 {digest}", bytes.len())?);

@@ -144,7 +144,7 @@ fn run_beginnings<R: Threads + Wait + Sync>(
 }
 
 /// Runs the case, and tells what came of it.
-pub fn outcome_line<R: Threads + Wait + Sync>(
+pub(crate) fn outcome_line<R: Threads + Wait + Sync>(
     rt: &R,
     alloc: Global,
     case: &Case,

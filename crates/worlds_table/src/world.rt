@@ -135,7 +135,7 @@ fn link(alloc: Global, case: &Case) -> Result<MemLink, Fault>
 }
 
 /// The world of the case, whose connections have at most so many of their bytes.
-pub fn world(alloc: Global, case: &Case, most: usize) -> Result<MemWorld, Fault> {
+pub(crate) fn world(alloc: Global, case: &Case, most: usize) -> Result<MemWorld, Fault> {
     let mut at = Vec::new(alloc);
     at.push((Bytes::from_slice(alloc, b"a")?, gears(alloc, case, most)?))?;
     let mut links = Vec::new(alloc);
