@@ -1,8 +1,7 @@
 -- What a desk has seen, call by call.
-use Rattle.std.proofs.Common.{◌≡◌, ◌∙◌, ℕ, zero, suc, ◌+◌, ◌*◌, ◌<◌, ◌≤◌, ◌^◌, Bool, true, false, List, [], ◌∷◌, ◌++◌, map, length, length-append, refl, ap, sym, subst, arith, append_assoc}
+use Rattle.std.proofs.Common.{◌≡◌, ◌∙◌, ℕ, zero, suc, ◌+◌, ◌<◌, ◌≤◌, ◌^◌, Bool, true, false, List, [], ◌∷◌, ◌++◌, map, length, length-append, refl, ap, sym, subst, arith, append_assoc}
 use Rattle.std.proofs.lemmas.List.{append-nil}
 use Rattle.std.specs.Prelude.{All, ◌%◌, ◌==◌, Some, Result, Ok, Err, IfOk}
-use Rattle.std.specs.Str.{IsUtf8}
 use Rattle.histories.specs.History.{entry_of, places}
 use Rattle.histories.specs.Steps.{Enters}
 use Rattle.histories.specs.Whole.{own_of}
@@ -153,8 +152,11 @@ module _ (n n1 n2 n3 n4 n5 : ℕ) (s0 s1 s2 s3 s4 s5 s6 : List GnapEntry → Typ
           calls = calls;
           opened_is = ap Some e1.reply_is;
           rotated_is = ap Some e3.reply_is;
-          moments = at_moment e1.entry _ e1.moment_is (at_moment e2.entry _ e2.moment_is (at_moment e3.entry _ e3.moment_is
-              (at_moment e4.entry _ e4.moment_is (at_moment e5.entry _ e5.moment_is more.is_done.moments))));
+          moments = at_moment e1.entry (e2.entry ∷ e3.entry ∷ e4.entry ∷ e5.entry ∷ more.entries) e1.moment_is
+              (at_moment e2.entry (e3.entry ∷ e4.entry ∷ e5.entry ∷ more.entries) e2.moment_is
+              (at_moment e3.entry (e4.entry ∷ e5.entry ∷ more.entries) e3.moment_is
+              (at_moment e4.entry (e5.entry ∷ more.entries) e4.moment_is
+              (at_moment e5.entry more.entries e5.moment_is more.is_done.moments))));
         };
         grows = grows-then n n5 _ _ h t0 t5 t6 (e1.entry ∷ e2.entry ∷ e3.entry ∷ e4.entry ∷ e5.entry ∷ []) more.entries
             (same5 ∙ same4 ∙ same3 ∙ same2 ∙ same1) g5 more.grows;
@@ -164,9 +166,6 @@ module _ (n n1 n2 n3 n4 n5 : ℕ) (s0 s1 s2 s3 s4 s5 s6 : List GnapEntry → Typ
 
 pub part-none : (grant n : ℕ) (seen : List GnapEntry → Type 0) (h : List GnapEntry) (t : Tally) → seen h → PutsThrough (IsPart false grant) n seen h t t
 part-none grant n seen h t s = record { entries = []; is_done = refl; grows = grows-none n seen h t s }
-
-pub share-none : (workers worker n : ℕ) (seen : List GnapEntry → Type 0) (h : List GnapEntry) (t : Tally) → seen h → PutsThrough (IsShare workers worker 0) n seen h t t
-share-none workers worker n seen h t s = record { entries = []; is_done = refl; grows = grows-none n seen h t s }
 
 pub share-next : (workers worker grant n n' : ℕ) (seen seen' : List GnapEntry → Type 0) (h : List GnapEntry) (t u v : Tally) → n' ≡ n
     → (first : PutsThrough (IsShare workers worker grant) n seen h t u) → PutsThrough (IsPart (grant % workers == worker) grant) n' seen' first.grows.history u v

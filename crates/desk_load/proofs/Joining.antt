@@ -1,12 +1,11 @@
 -- From the shares of all workers to one history.
-use Rattle.std.proofs.Common.{◌≡◌, ◌≢◌, ◌∙◌, ◌⊎◌, inl, inr, ⊎_elim, ℕ, zero, suc, ◌+◌, ◌*◌, ◌<◌, ◌≤◌, Bool, true, false, List, [], ◌∷◌, ◌++◌, map, length, length-append, take, drop, slice_index_or, refl, ap, sym, subst, arith, add-zero, append_assoc}
-use Rattle.std.specs.Prelude.{nat_lt, if◌then◌else◌, Result, Ok, Err, IfOk}
+use Rattle.std.proofs.Common.{◌≡◌, ◌∙◌, ◌⊎◌, inl, inr, ⊎_elim, ℕ, zero, suc, ◌+◌, ◌<◌, ◌≤◌, List, [], ◌∷◌, ◌++◌, map, length, length-append, take, drop, slice_index_or, refl, ap, sym, subst, arith, add-zero, append_assoc}
+use Rattle.std.specs.Prelude.{nat_lt, if◌then◌else◌}
 use Rattle.std.proofs.lemmas.Bool.Decides.{nat_tests}
 use Rattle.std.proofs.lemmas.List.{append-nil, length-map, map-append, take_all}
 use Rattle.std.proofs.Math.ListN.{drop_of_length-le}
 use mathlib.Core.Option.{some, some-injective, some-ne-none}
 use lib.ListN.{get_elem?}
-use Rattle.gnap_io.specs.declared.memory.Mem.{Mem}
 use Rattle.histories.specs.History.{Legal}
 use Rattle.histories.specs.Steps.{NoneOf}
 use Rattle.histories.specs.Whole.{AllMeet, Below, Joined, own_of}
@@ -68,9 +67,6 @@ module _ {X : Type 0} where
   parts-next done rest rest_now whole x parts next = append_assoc done (x ∷ []) rest_now ∙ ap (λ l. done ++ l) (sym next) ∙ parts
 
 module _ {X Y : Type 0} (f : X → Y) where
-  pub map-next : (xs ys : List X) (x : X) → ys ≡ xs ++ x ∷ [] → map f ys ≡ map f xs ++ f x ∷ []
-  map-next xs ys x is = ap (map f) is ∙ map-append f xs (x ∷ [])
-
   pub to_map : (l : List X) (k : ℕ) (x : X) → get_elem? l k ≡ some x → get_elem? (map f l) k ≡ some (f x)
   to_map [] k x e = absurd (some-ne-none x (sym e))
   to_map (y ∷ l) zero x e = ap (λ z. some (f z)) (some-injective y x e)
@@ -83,9 +79,12 @@ module _ {X Y : Type 0} (f : X → Y) where
 
 -- ---- workers
 
+-- place by place
+abbrev pub EachIsSame : List WorkerState → List WorkerState → Type 0
+EachIsSame before after = (i : ℕ) (d : WorkerState) → i < length before → IsSameWorker (slice_index_or before i d) (slice_index_or after i d)
+
 -- whose work leaves what they are
-pub same_workers : (core : Sharing Setup) (grants : ℕ) (before after : List WorkerState)
-    → ((i : ℕ) (d : WorkerState) → i < length before → IsSameWorker (slice_index_or before i d) (slice_index_or after i d)) → length after ≡ length before
+pub same_workers : (core : Sharing Setup) (grants : ℕ) (before after : List WorkerState) → EachIsSame before after → length after ≡ length before
     → AreWorkers core grants before → AreWorkers core grants after
 same_workers core grants before after each long are = record {
   count = long ∙ are.count;
@@ -197,6 +196,16 @@ below n (e ∷ h) others =
     let not_above : n ≤ e.number → ⊥ = λ at. (others e.number at).0 refl in
     (omega (arith, not_above), below n h (λ k at. (others k at).1))
 
+-- all passes came back
+pub all_back : (core : Sharing Setup) (grants : ℕ) (passes : List (PassState Setup GnapEntry)) (total : Tally) → HaveDone core grants passes total → AreAll core passes
+all_back core grants passes total done = record {
+  count = ap length (sym done.passes_are) ∙ length-map done.reports (λ (r : PassState Setup GnapEntry × Tally). r.0) ∙ done.count;
+  each = λ k p e.
+      let r = from_map (λ (r : PassState Setup GnapEntry × Tally). r.0) done.reports k p (ap (λ l. get_elem? l k) done.passes_are ∙ e) in
+      let here = done.each k r.0 r.1 in
+      subst (λ (q : PassState Setup GnapEntry). IsPassOf core q × (q.number ≡ k)) r.2 (here.of, here.number);
+}
+
 module _ (core : Sharing Setup) (grants workers : ℕ) (passes : List (PassState Setup GnapEntry)) (total : Tally) (h : List GnapEntry)
     (rules : core.rules ≡ load_setup) (many : core.count ≡ workers) (done : HaveDone core grants passes total)
     (legal : Legal gnap core.rules h) (joins : Joined (map (λ (p : PassState Setup GnapEntry). p.seen) passes) h) where
@@ -204,7 +213,7 @@ module _ (core : Sharing Setup) (grants workers : ℕ) (passes : List (PassState
   Report = PassState Setup GnapEntry × Tally
 
   as_many : length passes ≡ core.count
-  as_many = ap length (sym done.passes_are) ∙ length-map done.reports (λ (r : Report). r.0) ∙ done.count
+  as_many = (all_back core grants passes total done).count
 
   own_at : (k : ℕ) (r : Report) → get_elem? done.reports k ≡ some r → own_of k h ≡ own_of k r.0.seen
   own_at k r at =

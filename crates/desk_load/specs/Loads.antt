@@ -1,6 +1,6 @@
 -- What workers do together that put a load on one desk.
 use Rattle.std.proofs.Common.{suc, zero}
-use Rattle.std.specs.Prelude.{◌≡◌, ◌≢◌, ℕ, ◌+◌, ◌*◌, ◌<◌, ◌%◌, ◌^◌, ◌==◌, Bool, true, false, List, [], ◌∷◌, ◌++◌, map, All, length, slice_get, Some}
+use Rattle.std.specs.Prelude.{◌≡◌, ◌≢◌, ℕ, ◌+◌, ◌<◌, ◌%◌, ◌^◌, ◌==◌, Bool, true, false, List, [], ◌∷◌, ◌++◌, map, All, length, slice_get, Some}
 use Rattle.histories.specs.History.{places}
 use Rattle.histories.specs.Whole.{OneHistory, own_of}
 use Rattle.gnap_model.specs.declared.calls.Call.{Call}

@@ -77,6 +77,12 @@ def words():
         yield {**PLAIN, "name": "words: " + name, "words": words}
 
 
+def loads():
+    for words_given in ("10 7 1", "10 7 4", "3 0 64", "100 18446744073709551615 2", "0 7 1", "100001 7 1", "1 18446744073709551616 1", "1 7 0", "1 7 65", "1 7", "1 7 1 1", "01 7 1"):
+        yield {"name": "load " + words_given, "words": ["load", *words_given.split()]}
+    yield {"name": "a load that can't be told", "words": ["load", "5", "7", "2"], "bad_writes": [1]}
+
+
 HELLO = request(b"POST", b"/gnap", b'{"hello": "world"}')
 UNSIGNED = request_bytes(HELLO)
 SIGNED = request_bytes(signed_by_c1(HELLO))
@@ -158,5 +164,5 @@ def rfc_message():
 
 
 def cases():
-    for part in (devices, workers, words, signing, verifying, rfc_message):
+    for part in (devices, workers, words, loads, signing, verifying, rfc_message):
         yield from part()

@@ -235,8 +235,17 @@ def print_hash(world, method, *texts):
     return 0
 
 
+def load(world, grants, start, workers):
+    """Of each grant two questions find a live token and one finds none; each second one is ended, and a question more finds none."""
+    grants = number(grants, 1, 100_000)
+    number(start, 0, 2 ** 64 - 1), number(workers, 1, 64)
+    ended = (grants + 1) // 2
+    world.print(b"grants %d active %d inactive %d cancelled %d\n" % (grants, 2 * grants, grants + ended, ended))
+    return 0
+
+
 COMMANDS = {
-    "replay": (replay, 1), "field": (field, 2), "sign": (sign, 4), "verify": (verify, 3), "as": (serve, 4), "rs": (serve_resources, 4), "client": (client, 3), "hash": (print_hash, 5),
+    "replay": (replay, 1), "field": (field, 2), "sign": (sign, 4), "verify": (verify, 3), "as": (serve, 4), "rs": (serve_resources, 4), "client": (client, 3), "hash": (print_hash, 5), "load": (load, 3),
 }
 
 

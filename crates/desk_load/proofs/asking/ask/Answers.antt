@@ -1,12 +1,5 @@
-use Rattle.std.proofs.Common.{◌<◌, ◌+◌, ◌^◌, length, arith}
 use Rattle.desk_load.proofs.Growing.{asks-entered, room-after}
 use Rattle.desk_load.proofs.asking.ask.Goals as goal
-
-pub submit-requires-clause-room : goal.submit-requires-clause-room
-submit-requires-clause-room g c κs within =
-    let room = c.requires.room in
-    let left = room.2 in
-    (room.0, room.1, omega (arith, left))
 
 pub returns-clause-asks : goal.returns-clause-asks
 returns-clause-asks g c = λ h s.
@@ -17,5 +10,5 @@ returns-clause-asks g c = λ h s.
 pub returns-clause-room : goal.returns-clause-room
 returns-clause-room g c = λ _ m room.
     let D = g.D.Desk in
-    room-after (D.number c.args.desk.now) _ (D.seen c.args.desk.now) _ c.args.call c.in_ok-reply.reply c.args.tally.now c.count.new.self m c.submit-reply.ensures.number room
+    room-after (D.number c.args.desk.now) _ (D.seen c.args.desk.now) _ c.args.call c.in_ok-reply.reply c.args.tally.now c.count.new.self m c.submit.ensures.number room
     (returns-clause-asks g c)

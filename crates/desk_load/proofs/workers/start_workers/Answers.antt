@@ -1,4 +1,4 @@
-use Rattle.std.proofs.Common.{◌≡◌, ◌∙◌, length, vec_len, refl, ap, sym, subst, arith}
+use Rattle.std.proofs.Common.{◌≡◌, ◌∙◌, length, ap, sym, subst, arith}
 use mathlib.Core.Option.{some}
 use lib.ListN.{get_elem?}
 use Rattle.shared_server.specs.Passes.{StationState}
@@ -8,18 +8,12 @@ use Rattle.desk_load.specs.Sharing.{WorkerState, IsWorker}
 use Rattle.desk_load.proofs.Joining.{each-next, next_at, parts-next, size-next}
 use Rattle.desk_load.proofs.workers.start_workers.Goals as goal
 
-pub loop-pass-init : goal.loop-pass-init
-loop-pass-init g c =
-    let passes = c.into_iter-pass-iterator.ensures.into_iter_gives.0 in
-    let sized : length c.args.passes.items ≡ vec_len c.args.passes = (let long = c.args.passes.ok in omega (arith, long)) in
-    (tt, tt, passes, refl, (λ k w e. absurd cc), c.into_iter-pass-iterator.ensures.into_iter_gives.1 ∙ sym (ap length passes ∙ sized))
-
 pub new-requires-clause-of : goal.new-requires-clause-of
-new-requires-clause-of g c κs within = (c.requires.new.all.each (length c.loop-pass.yielded) c.in-Some.pass
+new-requires-clause-of g c = (c.requires.new.all.each (length c.loop-pass.yielded) c.in-Some.pass
     (next_at c.loop-pass.yielded _ _ _ c.in-Some.pass c.loop-pass.invariant.2 c.in-Some.ensures.steps.0)).0
 
 pub new-requires-clause-unseen : goal.new-requires-clause-unseen
-new-requires-clause-unseen g c κs within = c.requires.new.unseen (length c.loop-pass.yielded) c.in-Some.pass
+new-requires-clause-unseen g c = c.requires.new.unseen (length c.loop-pass.yielded) c.in-Some.pass
     (next_at c.loop-pass.yielded _ _ _ c.in-Some.pass c.loop-pass.invariant.2 c.in-Some.ensures.steps.0)
 
 pub loop-pass-preserved : goal.loop-pass-preserved
