@@ -68,15 +68,20 @@ def replayed(program, folder, grants, introspections, times):
 
 
 def memory(program, folder, grants):
-    """The greatest resident memory of a replay of so many grant requests, in bytes."""
-    path = os.path.join(folder, "calls.jsonl")
-    with open(path, "w") as out:
-        out.write(file_of(grants, 0))
-    pid = os.spawnvp(os.P_NOWAIT, "sh", ["sh", "-c", f'"{program}" replay "{path}" >/dev/null'])
-    _, status, used = os.wait4(pid, 0)
-    if status:
-        raise SystemExit("the replay failed")
-    return used.ru_maxrss * 1024
+    """The greatest resident memory, in bytes, of a replay that has answered so many grant requests and waits for more."""
+    pipe = os.path.join(folder, "pipe")
+    os.mkfifo(pipe)
+    with subprocess.Popen([program, "replay", pipe], stdout=subprocess.PIPE) as replay:
+        with open(pipe, "w") as lines:
+            lines.write(line(SETUP))
+            for _ in range(grants):
+                lines.write(grant_request())
+                lines.flush()
+                replay.stdout.readline()
+            with open(f"/proc/{replay.pid}/status") as status:
+                kilobytes = next(int(entry.split()[1]) for entry in status if entry.startswith("VmHWM"))
+    os.remove(pipe)
+    return kilobytes * 1024
 
 
 def main():
