@@ -5,8 +5,6 @@
 #[cfg(test)]
 mod client_configs;
 #[cfg(test)]
-mod gates;
-#[cfg(test)]
 mod grant_texts;
 #[cfg(test)]
 mod guarded_requests;
