@@ -1,6 +1,6 @@
 //! Two workers at once: what a connection brings second can be read only once the other one has got a reply.
 ghost use Rattle.std.specs.Prelude.{◌≡◌, IfOk};
-ghost use Rattle.gnap_io.specs.Gears.{new_gear};
+ghost use Rattle.gnap_io.specs.Gears.{new_gear, AreStarted};
 
 use crate::served_messages::{BEGIN, bytes_of, put_texts, server};
 use gnap_io::bytes::Bytes;
@@ -155,7 +155,8 @@ fn filled_request(alloc: Global) -> Result<Bytes, Mem> {
     let (line, rest) = BEGIN.split_once('\n').unwrap_or(("", ""));
     let mut request = bytes_of(alloc, &[line, "\nX-Filler: "])?;
     let rest = bytes_of(alloc, &["\n", rest])?;
-    while request.len().saturating_add(rest.len()) < PIECE {
+    let length = request.len().saturating_add(rest.len());
+    for _ in length..PIECE {
         request.push(b'a')?;
     }
     request.extend(rest.as_slice())?;
@@ -194,18 +195,25 @@ fn grants_told(conn: &MemConn) -> usize {
         .count()
 }
 
+// Two gears that wait at the gate.
+fn two_gears<'a>(alloc: Global, gate: &'a Gate) -> Result<Vec<GatedGear<'a>>, Mem>
+    ensures { IfOk result (λ gears. AreStarted ⟦<GatedGear<'a> as Counted>⟧.state 2 4294967295 gears.items) }
+{
+    let mut gears = Vec::new(alloc);
+    gears.push(gated(alloc, gate, true)?)?;
+    gears.push(gated(alloc, gate, false)?)?;
+    Ok(gears)
+}
+
 // How many grants were told to the connections of both gears.
 fn grants_told_to_both<R: Threads + Wait + Sync>(
     rt: &R,
     alloc: Global,
     gate: &Gate,
 ) -> Result<Vec<usize>, Mem> {
-    let mut gears = Vec::new(alloc);
-    gears.push(gated(alloc, gate, true)?)?;
-    gears.push(gated(alloc, gate, false)?)?;
     let server = server(alloc)?;
     let core = TableCore::new(alloc, server.edge.setup().copy()?);
-    let (gears, served) = serve_gears(rt, alloc, core, &server, gears);
+    let (gears, served) = serve_gears(rt, alloc, core, &server, two_gears(alloc, gate)?);
     served?;
     let mut counts = Vec::new(alloc);
     for gear in &gears {
