@@ -4,6 +4,7 @@ ghost use Rattle.histories.specs.History.{last_moment};
 ghost use Rattle.shared_server.specs.Rule.{drawn, on, HasTurn};
 ghost use Rattle.shared_server.specs.Seats.{IsTable, IsSame, CanDraw, CanLook, CanHand, Added, AddedReply};
 
+use crate::giving_way::give_way;
 use crate::rule::{Draw, EntryOf, Hand, Look, Mark, SeatOf, Told, Top};
 use gnap_io::memory::Mem;
 use histories::machine::{Core, Machine};
@@ -145,6 +146,7 @@ pub(crate) fn call_once<C: Core, R: Wait>(
     ensures err { OnErr result (Added C.M.law (C.rules top.now.key.core.value) moment draw.now C.M.law.lapse seat.old.me seat.new.me) }
     ensures frugal { C.frugal call.now → IsOk result }
 {
+    give_way(rt, top);
     let ticket = take_ticket(top, seat);
     wait_for_turn(rt, top, seat, ticket);
     let held = top.exchange(seat, 0, None);
