@@ -5,6 +5,8 @@
 #[cfg(test)]
 mod client_configs;
 #[cfg(test)]
+mod gates;
+#[cfg(test)]
 mod grant_texts;
 #[cfg(test)]
 mod guarded_requests;

@@ -21,7 +21,7 @@ const SETUP: &str =
     r#"{"base":"https://as.example","front":"https://front.example","keys":[{"ask":[],"auto":["photos"],"id":"c1","role":"client","secret":"c2VjcmV0LWtleS1vZi1jMQ=="},{"id":"r1","role":"server","secret":"c2VjcmV0LWtleS1vZi1yMQ==","serves":["photos"]}]}"#;
 
 // A grant request and the introspection of its token, signed by another program. Lines of requests and replies end with CR LF.
-const BEGIN: &str = r#"POST /gnap HTTP/1.1
+pub(crate) const BEGIN: &str = r#"POST /gnap HTTP/1.1
 Host: as.example
 Content-Type: application/json
 Content-Digest: sha-256=:sokhpObDYVkSZEb8/PUgff1BUrQpmCFg5KKz7hUUpIU=:
@@ -58,7 +58,7 @@ Content-Length: 0
 const GET_X: &str = "GET /x HTTP/1.1\n\n";
 
 // The server of the setup above.
-fn server(alloc: Global) -> Result<AuthorizationServer, Mem> {
+pub(crate) fn server(alloc: Global) -> Result<AuthorizationServer, Mem> {
     let Ok(setup) = read_setup(alloc, SETUP.as_bytes()) else {
         return Err(Mem);
     };
@@ -69,7 +69,7 @@ fn server(alloc: Global) -> Result<AuthorizationServer, Mem> {
 }
 
 // Puts texts behind bytes, with CR LF at the ends of their lines.
-fn put_texts(bytes: &mut Bytes, texts: &[&str]) -> Result<(), Mem> {
+pub(crate) fn put_texts(bytes: &mut Bytes, texts: &[&str]) -> Result<(), Mem> {
     for text in texts {
         for byte in text.as_bytes() {
             if *byte == b'\n' {
@@ -81,7 +81,7 @@ fn put_texts(bytes: &mut Bytes, texts: &[&str]) -> Result<(), Mem> {
     Ok(())
 }
 
-fn bytes_of(alloc: Global, texts: &[&str]) -> Result<Bytes, Mem> {
+pub(crate) fn bytes_of(alloc: Global, texts: &[&str]) -> Result<Bytes, Mem> {
     let mut bytes = Bytes::new(alloc);
     put_texts(&mut bytes, texts)?;
     Ok(bytes)

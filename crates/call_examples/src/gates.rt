@@ -1,14 +1,12 @@
 //! Two workers at once: what a connection brings second can be read only once the other one has got a reply.
 ghost use Rattle.std.specs.Prelude.{◌≡◌, IfOk};
-ghost use Rattle.gnap_io.specs.Gears.{new_gear};
-ghost use Rattle.gnap_io.specs.MemoryForms.{IsUnusedConn};
+ghost use Rattle.gnap_io.specs.Gears.{new_gear, AreStarted};
 
-use crate::bytewise::Bytewise;
-use adding_machine::adder::Adder;
+use crate::served_messages::{BEGIN, bytes_of, put_texts, server};
 use gnap_io::bytes::Bytes;
 use gnap_io::device::{Device, Failed, Sink, Source};
 use gnap_io::gear::{Clock, Counted, Door, Draws, Gear};
-use gnap_io::memory::Mem;
+use gnap_io::memory::{Duplicate, Mem};
 use gnap_io::memory_conn::MemConn;
 use gnap_io::memory_gear::MemGear;
 use serving::threads::serve_gears;
@@ -17,6 +15,10 @@ use std::hint::spin_loop;
 use std::sync::Wait;
 use std::sync::atomic::{AtomicU64, Ordering};
 use std::thread::Threads;
+use table_core::TableCore;
+
+// So many bytes of a connection are asked for at once.
+const PIECE: usize = 4_096;
 
 /// How often a read that waits looks.
 const LOOKS: u32 = 500_000_000;
@@ -148,15 +150,30 @@ impl<'a> Draws for GatedGear<'a> {
 
 impl<'a> Gear for GatedGear<'a> {}
 
-// A gear with one connection that brings four messages by its first read and one by its second.
+// A grant request as long as a piece, by a field that isn't signed.
+fn filled_request(alloc: Global) -> Result<Bytes, Mem> {
+    let (line, rest) = BEGIN.split_once('\n').unwrap_or(("", ""));
+    let mut request = bytes_of(alloc, &[line, "\nX-Filler: "])?;
+    let rest = bytes_of(alloc, &["\n", rest])?;
+    let length = request.len().saturating_add(rest.len());
+    for _ in length..PIECE {
+        request.push(b'a')?;
+    }
+    request.extend(rest.as_slice())?;
+    Ok(request)
+}
+
+// A gear with one connection that brings a grant request by its first read and one by its second.
 fn gear_in_memory(alloc: Global) -> Result<MemGear, Mem>
     ensures { IfOk result (λ gear. ⟦<MemGear as Counted>⟧.state gear ≡ new_gear 1) }
 {
-    let bytes = Bytes::from_slice(alloc, &[1; 5])?;
-    let conn = MemConn::new(alloc, bytes, 10, Vec::new(alloc), Vec::new(alloc))?;
+    let mut bytes = filled_request(alloc)?;
+    put_texts(&mut bytes, &[BEGIN])?;
+    let conn = MemConn::new(alloc, bytes, 8000, Vec::new(alloc), Vec::new(alloc))?;
     let mut conns = Vec::new(alloc);
     conns.push(conn)?;
-    MemGear::new(conns, Vec::new(alloc), Vec::new(alloc), Vec::new(alloc))
+    let moments = Vec::from_slice(alloc, &[1000, 1000])?;
+    MemGear::new(conns, moments, Vec::new(alloc), Vec::new(alloc))
 }
 
 fn gated<'a>(alloc: Global, gate: &'a Gate, is_first: bool) -> Result<GatedGear<'a>, Mem>
@@ -169,22 +186,39 @@ fn gated<'a>(alloc: Global, gate: &'a Gate, is_first: bool) -> Result<GatedGear<
     })
 }
 
-// How many bytes were written to the connections of both gears.
-fn replies_to_both<R: Threads + Wait + Sync>(
+// How many grants were told to a connection.
+fn grants_told(conn: &MemConn) -> usize {
+    let reply = b"HTTP/1.1 200 OK\r\n";
+    conn.written()
+        .windows(reply.len())
+        .filter(|part| *part == reply.as_slice())
+        .count()
+}
+
+// Two gears that wait at the gate.
+fn two_gears<'a>(alloc: Global, gate: &'a Gate) -> Result<Vec<GatedGear<'a>>, Mem>
+    ensures { IfOk result (λ gears. AreStarted ⟦<GatedGear<'a> as Counted>⟧.state 2 4294967295 gears.items) }
+{
+    let mut gears = Vec::new(alloc);
+    gears.push(gated(alloc, gate, true)?)?;
+    gears.push(gated(alloc, gate, false)?)?;
+    Ok(gears)
+}
+
+// How many grants were told to the connections of both gears.
+fn grants_told_to_both<R: Threads + Wait + Sync>(
     rt: &R,
     alloc: Global,
     gate: &Gate,
 ) -> Result<Vec<usize>, Mem> {
-    let mut gears = Vec::new(alloc);
-    gears.push(gated(alloc, gate, true)?)?;
-    gears.push(gated(alloc, gate, false)?)?;
-    let front = Bytewise { start: 0 };
-    let (gears, served) = serve_gears(rt, alloc, Adder::new(alloc, 0, 0), &front, gears);
+    let server = server(alloc)?;
+    let core = TableCore::new(alloc, server.edge.setup().copy()?);
+    let (gears, served) = serve_gears(rt, alloc, core, &server, two_gears(alloc, gate)?);
     served?;
     let mut counts = Vec::new(alloc);
     for gear in &gears {
         for conn in gear.gear.served() {
-            counts.push(conn.written().len())?;
+            counts.push(grants_told(conn))?;
         }
     }
     Ok(counts)
@@ -198,9 +232,9 @@ fn two_workers_serve_at_once(rt: HostRuntime) {
         second: AtomicU64::new(0),
         late: AtomicU64::new(0),
     };
-    let Ok(counts) = replies_to_both(&rt, rt.alloc(), &gate) else {
+    let Ok(counts) = grants_told_to_both(&rt, rt.alloc(), &gate) else {
         panic!(rt; "no memory");
     };
-    assert_eq!(rt; counts.as_slice(), &[5usize, 5][..], "replies");
+    assert_eq!(rt; counts.as_slice(), &[2usize, 2][..], "grants");
     assert_eq!(rt; gate.late.load(Ordering::SeqCst), 0, "waited in vain");
 }
