@@ -7,16 +7,16 @@ use Rattle.std.proofs.Math.ListN.{drop_of_length-le}
 use mathlib.Core.Option.{some, some-injective, some-ne-none}
 use lib.ListN.{get_elem?}
 use Rattle.histories.specs.History.{Legal}
-use Rattle.histories.specs.Steps.{NoneOf}
+use Rattle.histories.specs.Steps.{NoneOf, EachOf}
 use Rattle.histories.specs.Whole.{AllMeet, Below, Joined, own_of}
-use Rattle.histories.proofs.OwnEntries.{own-others}
+use Rattle.histories.proofs.OwnEntries.{own-all, own-others}
 use Rattle.shared_server.specs.Passes.{Sharing, PassState, IsPassOf, AreAll}
 use Rattle.gnap_model.specs.declared.objects.Setup.{Setup}
 use Rattle.gnap_model.specs.declared.calls.Reply.{Reply}
 use Rattle.gnap_history.specs.Gnap.{gnap, GnapEntry}
 use Rattle.desk_load.specs.declared.tally.Tally.{Tally}
 use Rattle.desk_load.specs.LoadCalls.{load_setup}
-use Rattle.desk_load.specs.Loads.{IsLoad, IsShare, shares_from}
+use Rattle.desk_load.specs.Loads.{IsLoad, IsShare, PutsThrough, shares_from}
 use Rattle.desk_load.specs.Sharing.{WorkerState, IsSameWorker, IsWorker, AreWorkers, HasCounted, HasDone, HaveDone}
 use Rattle.desk_load.specs.Tallies.{count_by, one_if_active, one_if_inactive, one_if_done, tally_of, none_counted, Adds, sum_by_tally, sum_of_tallies}
 
@@ -293,3 +293,23 @@ module _ (core : Sharing Setup) (grants : ℕ) where
             ∙ ap sum_of_tallies (sym (map-append (λ (r : PassState Setup GnapEntry × Tally). r.1) done.reports ((pass, tally) ∷ [])));
         each = each-next (λ k r. HasDone core grants k r.0 r.1) done.reports (pass, tally) done.each (subst (λ n. HasDone core grants n pass tally) (sym long) next);
       }
+
+below_one : (h : List GnapEntry) → EachOf 0 h → Below 1 h
+below_one [] each = tt
+below_one (e ∷ h) each = (subst (λ n. n < 1) (sym each.0) (omega arith), below_one h each.1)
+
+-- who is alone has put the load through, in one history of its own
+pub load_of_one : (grants : ℕ) (tally : Tally) (seen : List GnapEntry → Type 0) (p : PutsThrough (IsShare 1 0 grants) 0 seen [] none_counted tally)
+    → EachOf 0 p.grows.history → Legal gnap load_setup p.grows.history → IsLoad grants 1 tally
+load_of_one grants tally seen p all legal =
+    let k : List GnapEntry = p.grows.history in
+    let whole : k ≡ p.entries = sym (own-all 0 k all) ∙ p.grows.own in
+    record {
+      one = record {
+        history = k;
+        legal = legal;
+        numbers = below_one k all;
+        each = (subst (IsShare 1 0 grants) (sym p.grows.own) p.is_done, tt);
+      };
+      counted = subst (λ l. Adds (tally_of l) none_counted tally) (sym whole) p.grows.counted;
+    }

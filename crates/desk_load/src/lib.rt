@@ -5,6 +5,7 @@
 //! before.
 #![tactic(auto)]
 
+mod alone;
 mod asking;
 mod grant_calls;
 mod setup;
@@ -14,6 +15,7 @@ mod words;
 mod worker;
 mod workers;
 
+pub use alone::put_load_alone;
 pub use setup::load_setup;
 pub use tally::Tally;
 pub use workers::put_load;
