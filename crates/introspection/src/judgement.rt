@@ -1,5 +1,5 @@
 //! The judgement of a row.
-ghost use Rattle.std.specs.Prelude.{◌≡◌, option_map};
+ghost use Rattle.std.specs.Prelude.{◌≡◌, option_map, Some};
 ghost use Rattle.introspection.specs.Judgement.{judged};
 
 use gnap_model::objects::Binding;
@@ -18,15 +18,17 @@ pub enum Judged {
     NotServed,
 }
 
-/// Judges the row with the value that an introspection presents, where `approved` says that its grant is approved and `now` is in seconds since 1970. Takes no memory.
+/// Judges the row with the value that an introspection presents, which has these rights, where `approved` says that its grant is approved and `now` is in seconds since 1970. Takes no memory.
 pub fn judge(
     row: Option<&TokenRow>,
+    rights: &Rights,
     approved: bool,
     now: u64,
     names: &Names,
     binding: Option<Binding>,
     wanted: &Option<Rights>,
 ) -> Judged
+    requires rights { (row_is : _) → option_map (λ row. row.now) row ≡ Some row_is → rights.now ≡ row_is.rights }
     ensures { result ≡ judged (option_map (λ row. row.now) row.entry) approved now names.now binding wanted.now }
 {
     if !serves_all(names, wanted) {
@@ -37,7 +39,7 @@ pub fn judge(
             if !row.retired
                 && now < row.until
                 && approved
-                && suits(names, binding, wanted, &row.rights, row.bearer)
+                && suits(names, binding, wanted, rights, row.bearer)
             {
                 Judged::Active
             } else {

@@ -1,11 +1,9 @@
 //! What a call changes in the row of a grant.
-ghost use Rattle.std.specs.Prelude.{◌≡◌, ◌+◌, ◌<◌, Some};
+ghost use Rattle.std.specs.Prelude.{◌≡◌};
 ghost use Rattle.row_store.specs.Grants.{changed_by, CanChange};
 
-use gnap_io::bytes::Bytes;
-use gnap_model::objects::Asks;
-use gnap_model::rights::Rights;
-use gnap_tables::rows::{Decision, GrantRow, Round};
+use gnap_tables::rows::{Decision, GrantRow, KeptRound};
+use kept_rights::{KeptAsks, KeptRights};
 
 /// A change of the row of a grant.
 #[derive(Drop)]
@@ -13,35 +11,20 @@ pub enum Change {
     /// It is asked for this from now on.
     Terms {
         /// The tokens.
-        asks: Asks,
+        asks: KeptAsks,
         /// One token outside an array.
         single: bool,
         /// An identifier of the user.
         subject: bool,
     },
     /// It is pending in a new round.
-    Pend(Round),
+    Pend(KeptRound),
     /// It is approved, and the user granted these rights so far.
-    Approve(Rights),
+    Approve(KeptRights),
     /// The user decided.
     Decide(Decision),
     /// A wrong reference came.
     Wrong,
-}
-
-// One more wrong reference.
-fn count_wrong(round: &mut Round)
-    requires { round.old.wrongs < 255 }
-    ensures { round.new ≡ record round.old { wrongs = round.old.wrongs + 1 } }
-{
-    round.wrongs += 1;
-}
-
-// The round has this decision.
-fn put_decision(round: &mut Round, decision: Decision)
-    ensures { round.new ≡ record round.old { decision = Some decision } }
-{
-    round.decision = Some(decision);
 }
 
 /// Changes the row of a grant.
@@ -70,12 +53,12 @@ pub fn apply(row: &mut GrantRow, change: Change)
         }
         Change::Decide(decision) => {
             if let Some(round) = &mut row.round {
-                put_decision(round, decision);
+                round.decide(decision);
             }
         }
         Change::Wrong => {
             if let Some(round) = &mut row.round {
-                count_wrong(round);
+                round.count_wrong();
             }
         }
     }

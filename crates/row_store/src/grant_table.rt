@@ -18,7 +18,7 @@ use crate::interactions::{InteractionName, is_open, open_code};
 use crate::serials::serial_in_value;
 use gnap_io::memory::Mem;
 use gnap_io::seq::Seq;
-use gnap_tables::rows::{GrantRow, Round};
+use gnap_tables::rows::{GrantRow, KeptRound};
 use ordered_search::{Keyed, Steps, place, place_of};
 use std::alloc::Global;
 use std::marker::Model;
@@ -144,11 +144,11 @@ fn codes_at(alloc: Global, places: &[GrantPlace], now: u64) -> Result<Seq<[u8; 8
 }
 
 /// The end of the round has come.
-fn is_round_over(round: &Option<Round>, now: u64) -> bool
+fn is_round_over(round: &Option<KeptRound>, now: u64) -> bool
     ensures { result ≡ round_over now round.now }
 {
     match round {
-        Some(round) => round.over <= now,
+        Some(round) => round.round().over <= now,
         None => false,
     }
 }

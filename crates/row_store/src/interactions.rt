@@ -2,7 +2,7 @@
 ghost use Rattle.std.specs.Prelude.{◌≡◌};
 ghost use Rattle.row_store.specs.Interactions.{is_called, is_open_by, open_code_in};
 
-use gnap_tables::rows::Round;
+use gnap_tables::rows::{KeptRound, Round};
 
 /// By what the consent front knows an interaction.
 #[derive(Clone, Copy)]
@@ -27,21 +27,25 @@ fn has_name(round: &Round, name: InteractionName) -> bool
 }
 
 /// The user may still decide, and the front knows the interaction by this name.
-pub fn is_open(round: &Option<Round>, now: u64, name: InteractionName) -> bool
+pub fn is_open(round: &Option<KeptRound>, now: u64, name: InteractionName) -> bool
     ensures { result ≡ is_open_by name.entry now round.now }
 {
     match round {
-        Some(round) => round.decision.is_none() && now < round.until && has_name(round, name),
+        Some(kept) => {
+            let round = kept.round();
+            round.decision.is_none() && now < round.until && has_name(round, name)
+        }
         None => false,
     }
 }
 
 /// The user code of a round in which the user may still decide, where one was asked for.
-pub fn open_code(round: &Option<Round>, now: u64) -> Option<[u8; 8]>
+pub fn open_code(round: &Option<KeptRound>, now: u64) -> Option<[u8; 8]>
     ensures { result ≡ open_code_in now round.now }
 {
     match round {
-        Some(round) => {
+        Some(kept) => {
+            let round = kept.round();
             if round.decision.is_none() && now < round.until {
                 round.code
             } else {

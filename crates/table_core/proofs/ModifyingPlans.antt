@@ -12,13 +12,14 @@ use Rattle.gnap_model.specs.declared.objects.Modes.{Modes}
 use Rattle.gnap_model.specs.declared.calls.Reply.{Reply}
 use Rattle.gnap_model.specs.declared.notes.OpeningNote.{OpeningNote}
 use Rattle.gnap_model.specs.declared.notes.TermsNote.{TermsNote}
-use Rattle.gnap_model.specs.declared.notes.RoundNote.{RoundNote}
 use Rattle.gnap_model.specs.declared.notes.TokenNote.{TokenNote}
 use Rattle.gnap_model.specs.declared.notes.Note.{Note}
 use Rattle.gnap_model.specs.declared.notes.Note.TheVariants.{Terms, Approved, Door, Issued, Pended}
 use Rattle.gnap_model.proofs.NoteCounts.{grant_skipped, pend_skipped, retire_skipped}
 use Rattle.gnap_model.proofs.Serials.{grant_values, pend_values, retired_none}
 use Rattle.gnap_tables.specs.declared.rows.GrantRow.{GrantRow}
+use Rattle.gnap_tables.specs.declared.rows.Round.{Round}
+use Rattle.gnap_tables.specs.Rows.{round_row}
 use Rattle.gnap_tables.specs.declared.rows.TokenRow.{TokenRow}
 use Rattle.gnap_tables.specs.Tables.{after_notes, change_grant, drop_tokens_of, new_token, with_approval, with_door, with_terms}
 use Rattle.gnap_tables.specs.RowSearches.{opening_of, token_of}
@@ -74,8 +75,8 @@ granted_anew entering row request count reply terms consent door boxes are count
       can = (drawn_at entering (2 * count) (entering.supply.first + 2 * count) (2 * count + 1) door drawn refl (omega arith), subst (RiseFrom entering.supply.first) (sym rows) (tokens_rise s o request.asks 0 entering.supply.first small (omega arith) (omega arith)));
     }
 
-pub asked_anew : (entering : Entering) (row : GrantRow) (request : GrantRequest) (modes : Modes) (reply : Reply) (count : ℕ) (terms : TermsNote) (round : RoundNote) (door : Text)
-    → AreTokenRows (tables entering).tokens → terms ≡ terms_for (opening_of row) request → round ≡ begun_round entering row.number row.end modes
+pub asked_anew : (entering : Entering) (row : GrantRow) (request : GrantRequest) (modes : Modes) (reply : Reply) (count : ℕ) (terms : TermsNote) (round : Round) (door : Text)
+    → AreTokenRows (tables entering).tokens → terms ≡ terms_for (opening_of row) request → round ≡ round_row 0 None (begun_round entering row.number row.end modes)
     → reply ≡ asking_reply entering (begun_round entering row.number row.end modes) None → count ≡ asking_values modes → door ≡ drawn_value (supply entering) 0
     → Plans entering (ModifyAsking (opening_of row) (old_tokens entering row) request modes)
     (record { reply = reply; drawn = count; change = Pend terms round door entering.supply.first (entering.supply.moment + wait) })

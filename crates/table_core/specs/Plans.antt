@@ -1,5 +1,5 @@
 -- What a call comes to, and what it does to the tables.
-use Rattle.std.specs.Prelude.{◌≡◌, ℕ, ◌+◌, ◌≤◌, Bool, List, [], ◌∷◌, ◌++◌, map, length, if◌then◌else◌}
+use Rattle.std.specs.Prelude.{◌≡◌, ℕ, ◌+◌, ◌≤◌, Bool, false, List, [], ◌∷◌, ◌++◌, map, length, if◌then◌else◌}
 use Rattle.std.specs.Global.{Box}
 use Rattle.std.specs.List.{count_by, flat_map}
 use Rattle.std.specs.declared.option.Option.{Option}
@@ -11,10 +11,10 @@ use Rattle.gnap_model.specs.Actions.{Action, outcome_of}
 use Rattle.gnap_model.specs.declared.rights.Right.{Right}
 use Rattle.gnap_model.specs.declared.calls.Reply.{Reply}
 use Rattle.gnap_model.specs.declared.notes.TermsNote.{TermsNote}
-use Rattle.gnap_model.specs.declared.notes.RoundNote.{RoundNote}
 use Rattle.gnap_tables.specs.declared.rows.GrantRow.{GrantRow}
+use Rattle.gnap_tables.specs.declared.rows.Round.{Round}
 use Rattle.gnap_tables.specs.declared.rows.TokenRow.{TokenRow}
-use Rattle.gnap_tables.specs.Tables.{Tables, after_notes, change_grant, drop_grant, drop_tokens_of, with_approval, with_door, with_round, with_terms}
+use Rattle.gnap_tables.specs.Tables.{Tables, after_notes, change_grant, drop_grant, drop_tokens_of, with_approval, with_door, with_terms}
 use Rattle.row_store.specs.Grants.{BeginsWith, changed_by}
 use Rattle.row_store.specs.Tokens.{IsTokenRow}
 use Rattle.table_core.specs.CallEffects.{tables_in}
@@ -50,9 +50,13 @@ renewed renewal tables = tables_in
     (change_grant renewal.number (with_door renewal.door renewal.earliest) (approved renewal.number renewal.consent (retermed renewal.number renewal.terms tables.grants)))
     (unretired renewal.retires renewal.number tables.tokens ++ rows_in renewal.tokens)
 
-abbrev pub pended : TermsNote → RoundNote → Text → ℕ → List GrantRow → List GrantRow
+-- the row is pending in this round
+abbrev pub in_round : Round → GrantRow → GrantRow
+in_round round row = record row { approved = false; round = Some round }
+
+abbrev pub pended : TermsNote → Round → Text → ℕ → List GrantRow → List GrantRow
 pended terms round door earliest rows =
-    change_grant terms.grant (with_round round) (change_grant terms.grant (with_door door earliest) (change_grant terms.grant (with_terms terms) rows))
+    change_grant terms.grant (in_round round) (change_grant terms.grant (with_door door earliest) (change_grant terms.grant (with_terms terms) rows))
 
 abbrev pub carried : TableChange → Tables → Tables
 carried Nothing tables = tables

@@ -1,18 +1,21 @@
 //! The user is asked: a grant is pending in a new round of interaction (RFC 9635, section 3.3).
 ghost use Rattle.std.specs.Prelude.{◌≡◌, IfOk};
+ghost use Rattle.std.specs.declared.option.Option.TheVariants.{None};
 ghost use Rattle.gnap_model.specs.Common.{some_if};
 ghost use Rattle.gnap_model.specs.Asked.{wants_code};
 ghost use Rattle.gnap_model.specs.Actions.{drawn_value};
+ghost use Rattle.gnap_tables.specs.Rows.{round_row};
 ghost use Rattle.grant_rules.specs.UserCodes.{code_for};
 ghost use Rattle.table_core.specs.Entries.{supply};
 ghost use Rattle.table_core.specs.Askings.{begun_round, asking_reply, asking_values};
 
 use crate::entering::Entering;
+use crate::stored::stored_round;
 use gnap_io::bytes::Bytes;
 use gnap_io::memory::Mem;
 use gnap_model::calls::Reply;
-use gnap_model::notes::RoundNote;
 use gnap_model::objects::Modes;
+use gnap_tables::rows::KeptRound;
 use grant_rules::drawing::pending_reply;
 use grant_rules::user_codes::free_code;
 use std::alloc::Global;
@@ -27,7 +30,7 @@ pub struct Asking {
     /// The continuation value, which is the first of them.
     pub door: [u8; 32],
     /// The round.
-    pub round: RoundNote,
+    pub round: KeptRound,
 }
 
 // The user code that the entry draws: that of no live interaction (RFC 9635, section 3.3.3).
@@ -68,7 +71,7 @@ pub fn ask(
     ensures reply { IfOk result (λ asking. asking.reply ≡ asking_reply entering.now (begun_round entering.now number end modes.now) instance) }
     ensures drawn { IfOk result (λ asking. asking.drawn ≡ asking_values modes.now) }
     ensures door { IfOk result (λ asking. asking.door ≡ drawn_value (supply entering.now) 0) }
-    ensures round { IfOk result (λ asking. asking.round ≡ begun_round entering.now number end modes.now) }
+    ensures round { IfOk result (λ asking. asking.round ≡ round_row 0 None (begun_round entering.now number end modes.now)) }
 {
     let code = wanted_code(alloc, entering, modes)?;
     let round = entering.supply.round(number, end, modes, code)?;
@@ -77,6 +80,6 @@ pub fn ask(
         reply: pending_reply(&round, entering.supply.moment, door, instance)?,
         drawn: value_count(modes),
         door,
-        round,
+        round: stored_round(alloc, round)?,
     })
 }

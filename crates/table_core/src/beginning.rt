@@ -5,31 +5,33 @@ ghost use Rattle.gnap_model.specs.Actions.Action.{OpenAtOnce, OpenAsking};
 ghost use Rattle.gnap_model.specs.Judging.Settled.{AtOnce as SettledAtOnce, ByAsking as SettledByAsking};
 ghost use Rattle.gnap_model.specs.declared.calls.Call.TheVariants.{Begin};
 ghost use Rattle.gnap_tables.specs.declared.rows.GrantRow.{GrantRow};
-ghost use Rattle.gnap_tables.specs.Tables.{new_grant, with_terms, with_door, with_round};
+ghost use Rattle.gnap_tables.specs.Tables.{new_grant, with_terms, with_door};
 ghost use Rattle.gnap_tables.specs.ActionsByRows.{begin_rows, row_action};
 ghost use Rattle.table_core.specs.Entries.{tables};
-ghost use Rattle.table_core.specs.Plans.{Plans};
+ghost use Rattle.table_core.specs.Plans.{Plans, in_round};
 
 use crate::asking::ask;
 use crate::entering::{Entering, Plan, TableChange, refused};
 use crate::issuing::grant;
-use crate::stored::stored_round;
+use crate::kept_terms::KeptTerms;
+use crate::stored::stored_terms;
 use gnap_io::bytes::Bytes;
 use gnap_io::memory::Mem;
 use gnap_io::seq::Seq;
-use gnap_model::notes::{OpeningNote, RoundNote, TermsNote};
+use gnap_model::notes::OpeningNote;
 use gnap_model::objects::{ErrorCode, GrantRequest, Modes, Setup};
-use gnap_tables::rows::GrantRow;
+use gnap_tables::rows::{GrantRow, KeptRound};
 use grant_rules::limits::{LIVE_LIMIT, WAIT};
 use grant_rules::opening::{instance_of, is_past, opening, terms};
 use grant_rules::settling::{Course, settle};
+use kept_rights::KeptRights;
 use std::alloc::Global;
 
 // The row of a grant that was just opened, with its terms and its continuation value.
 fn opened_row(
     alloc: Global,
     opening: OpeningNote,
-    terms: TermsNote,
+    terms: KeptTerms,
     door: [u8; 32],
     earliest: u64,
 ) -> GrantRow
@@ -44,7 +46,7 @@ fn opened_row(
         single: terms.single,
         subject: terms.subject,
         end: opening.end,
-        consent: Seq::new(alloc),
+        consent: KeptRights::new(alloc),
         approved: true,
         round: None,
         door,
@@ -53,11 +55,11 @@ fn opened_row(
 }
 
 // The row is pending in a round that has just begun.
-fn pend(row: &mut GrantRow, round: RoundNote)
-    ensures { row.new ≡ with_round round row.old }
+fn pend(row: &mut GrantRow, round: KeptRound)
+    ensures { row.new ≡ in_round round row.old }
 {
     row.approved = false;
-    row.round = Some(stored_round(round));
+    row.round = Some(round);
 }
 
 // A new grant, whose tokens are issued at once (RFC 9635, section 3.2).
@@ -74,7 +76,8 @@ fn open_at_once(
 {
     let count = request.asks.len();
     let instance = instance_of(&opening)?;
-    let terms = terms(opening.grant, request)?;
+    let wanted = terms(opening.grant, request)?;
+    let terms = stored_terms(alloc, &wanted)?;
     let door = entering.supply.value(2 * count);
     let row = opened_row(alloc, opening, terms, door, entering.supply.moment + WAIT);
     let granting = grant(
@@ -131,7 +134,8 @@ fn open_asking(
     requires numbers { All (λ (row : GrantRow). row.number < entering.now.next) (tables entering.now).grants }
     ensures { IfOk result (Plans entering.now (OpenAsking opening request.now modes.now)) }
 {
-    let terms = terms(opening.grant, request)?;
+    let wanted = terms(opening.grant, request)?;
+    let terms = stored_terms(alloc, &wanted)?;
     let instance = instance_of(&opening)?;
     let asking = ask(alloc, entering, opening.grant, opening.end, modes, instance)?;
     let mut row = opened_row(

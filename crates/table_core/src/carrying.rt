@@ -8,10 +8,10 @@ ghost use Rattle.table_core.specs.Plans.{rows_in, RiseFrom, retermed, approved, 
 
 use crate::answered::Answered;
 use crate::entering::{NewTokens, Plan, Renewal, TableChange};
-use crate::stored::stored_round;
+use crate::kept_terms::KeptTerms;
 use gnap_io::memory::Mem;
-use gnap_model::notes::{RoundNote, TermsNote};
-use gnap_model::rights::Rights;
+use gnap_tables::rows::KeptRound;
+use kept_rights::KeptRights;
 use row_store::{Change, GrantTable, TokenTable};
 
 // Appends rows of tokens, whose serials rise from `first` on.
@@ -28,7 +28,7 @@ fn issue_all(tokens: &mut TokenTable, rows: NewTokens, first: u64)
 }
 
 // The grant has new terms, where there are some.
-fn put_terms(grants: &mut GrantTable, number: u64, terms: Option<TermsNote>)
+fn put_terms(grants: &mut GrantTable, number: u64, terms: Option<KeptTerms>)
     ensures rows { grants.new.rows ≡ retermed number terms grants.old.rows }
     ensures spare { grants.new.spare ≡ grants.old.spare }
     ensures doors { grants.new.doors_below ≡ grants.old.doors_below }
@@ -46,7 +46,7 @@ fn put_terms(grants: &mut GrantTable, number: u64, terms: Option<TermsNote>)
 }
 
 // The grant is approved, where there is a consent.
-fn approve(grants: &mut GrantTable, number: u64, consent: Option<Rights>)
+fn approve(grants: &mut GrantTable, number: u64, consent: Option<KeptRights>)
     ensures rows { grants.new.rows ≡ approved number consent grants.old.rows }
     ensures spare { grants.new.spare ≡ grants.old.spare }
     ensures doors { grants.new.doors_below ≡ grants.old.doors_below }
@@ -98,8 +98,8 @@ fn renew(grants: &mut GrantTable, tokens: &mut TokenTable, first: u64, renewal: 
 // A grant has new terms, and is pending in a new round.
 fn pend(
     grants: &mut GrantTable,
-    terms: TermsNote,
-    round: RoundNote,
+    terms: KeptTerms,
+    round: KeptRound,
     door: [u8; 32],
     serial: u64,
     earliest: u64,
@@ -114,7 +114,7 @@ fn pend(
     let number = terms.grant;
     put_terms(grants, number, Some(terms));
     grants.renew_door(number, door, serial, earliest);
-    grants.change(number, Change::Pend(stored_round(round)));
+    grants.change(number, Change::Pend(round));
 }
 
 // Takes memory for a row and a continuation value of a grant, and for so many rows of tokens.

@@ -13,13 +13,14 @@ use gnap_model::calls::Reply;
 use gnap_model::objects::ErrorCode;
 use gnap_tables::rows::{GrantRow, Round};
 use row_store::InteractionName;
+use std::alloc::Global;
 
 /// What the user is asked in the round of a row, and how long the answer is waited for.
-fn show(entering: &Entering, row: &GrantRow, round: &Round) -> Result<Plan, Mem>
+fn show(alloc: Global, entering: &Entering, row: &GrantRow, round: &Round) -> Result<Plan, Mem>
     ensures { IfOk result (Plans entering.now (ShowRound (round_of row.now.number round.now) (terms_of_row row.now) (opening_of row.now))) }
 {
     Ok(told(Reply::Shown {
-        asks: row.asks.copy()?,
+        asks: row.asks.asks(alloc)?,
         client: row.key.copy()?,
         expires_in: round.until.saturating_sub(entering.supply.moment),
         subject: row.subject,
@@ -28,22 +29,22 @@ fn show(entering: &Entering, row: &GrantRow, round: &Round) -> Result<Plan, Mem>
 }
 
 /// The round of the row is shown.
-fn show_row(entering: &Entering, row: &GrantRow) -> Result<Plan, Mem>
+fn show_row(alloc: Global, entering: &Entering, row: &GrantRow) -> Result<Plan, Mem>
     ensures { IfOk result (Plans entering.now (show_round (interaction_of row.now))) }
 {
     match &row.round {
-        Some(round) => show(entering, row, round),
+        Some(round) => show(alloc, entering, row, round.round()),
         None => Ok(refused(entering, ErrorCode::UnknownInteraction)),
     }
 }
 
 /// Answers a look at the interaction with this handle.
-pub fn look(entering: &Entering, handle: &Bytes) -> Result<Plan, Mem>
+pub fn look(alloc: Global, entering: &Entering, handle: &Bytes) -> Result<Plan, Mem>
     ensures { IfOk result (Plans entering.now (show_round (interaction_by_handle entering.now.supply.moment handle.now (tables entering.now).grants))) }
 {
     let name = InteractionName::Handle(handle.as_slice());
     match entering.grants.by_interaction(entering.supply.moment, name) {
-        Some(row) => show_row(entering, row),
+        Some(row) => show_row(alloc, entering, row),
         None => Ok(refused(entering, ErrorCode::UnknownInteraction)),
     }
 }
@@ -61,7 +62,7 @@ fn hand_row(entering: &Entering, row: &GrantRow) -> Plan
     ensures { Plans entering.now (show_handle (interaction_of row.now)) result }
 {
     match &row.round {
-        Some(round) => hand(entering, row, round),
+        Some(round) => hand(entering, row, round.round()),
         None => refused(entering, ErrorCode::UnknownInteraction),
     }
 }

@@ -22,6 +22,7 @@ use gnap_model::objects::{ErrorCode, Verdict};
 use gnap_tables::rows::{Decision, GrantRow, Round};
 use grant_rules::decided_asks::decided_asks;
 use grant_rules::limits::{WAIT, WRONG_LIMIT};
+use kept_rights::KeptRights;
 use row_store::Change;
 use std::alloc::Global;
 
@@ -78,7 +79,8 @@ fn collect_grant(
     requires { length row.now.asks ≤ 8 }
     ensures { IfOk result (Plans entering.now (collect_rows Grant (tables entering.now) entering.now.supply.moment row.now (decision_of_row row.now.number decision.now))) }
 {
-    let asks = decided_asks(alloc, &decision.rights, &row.asks)?;
+    let asked = row.asks.asks(alloc)?;
+    let asks = decided_asks(alloc, &decision.rights, &asked)?;
     let count = asks.len();
     if entering
         .tokens
@@ -97,6 +99,7 @@ fn collect_grant(
         None,
     )?;
     let door = entering.supply.value(2 * count);
+    let consent = KeptRights::keep(alloc, &decision.rights)?;
     Ok(Plan {
         reply: granting.reply,
         drawn: 2 * count as u64 + 1,
@@ -104,7 +107,7 @@ fn collect_grant(
             number: row.number,
             retires: false,
             terms: None,
-            consent: Some(decision.rights.copy()?),
+            consent: Some(consent),
             door,
             serial: entering.supply.first + 2 * count as u64,
             earliest: entering.supply.moment + WAIT,
@@ -271,7 +274,7 @@ fn continue_row(
     ensures { IfOk result (Plans entering.now (continue_rows (tables entering.now) entering.now.supply.moment reference.now row.now)) }
 {
     match &row.round {
-        Some(round) => continue_pending(alloc, entering, row, reference, round),
+        Some(round) => { continue_pending(alloc, entering, row, reference, round.round()) }
         None => Ok(continue_approved(alloc, entering, row, reference)),
     }
 }

@@ -74,10 +74,11 @@ fn decide_round(
 ) -> Result<Plan, Mem>
     ensures { IfOk result (Plans entering.now (decided_on request.now (round_of row.now.number round.now) (asked_rights row.now.asks))) }
 {
-    if !may_decide(alloc, request, row.asks.as_slice())? {
+    let asks = row.asks.asks(alloc)?;
+    if !may_decide(alloc, request, asks.as_slice())? {
         return Ok(refused(entering, ErrorCode::InvalidRequest));
     }
-    let rights = rights_of_decision(alloc, request, row.asks.as_slice())?;
+    let rights = rights_of_decision(alloc, request, asks.as_slice())?;
     hand_in(entering, row, round, rights, request)
 }
 
@@ -91,7 +92,7 @@ fn decide_row(
     ensures { IfOk result (Plans entering.now (take_decision request.now (interaction_of row.now))) }
 {
     match &row.round {
-        Some(round) => decide_round(alloc, entering, request, row, round),
+        Some(round) => decide_round(alloc, entering, request, row, round.round()),
         None => Ok(refused(entering, ErrorCode::UnknownInteraction)),
     }
 }

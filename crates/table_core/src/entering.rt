@@ -3,13 +3,13 @@ ghost use Rattle.std.specs.Prelude.{◌≡◌};
 ghost use Rattle.gnap_model.specs.Actions.Action.{Refuse};
 ghost use Rattle.table_core.specs.Plans.{Plans, nothing_with};
 
+use crate::kept_terms::KeptTerms;
 use gnap_io::seq::Seq;
 use gnap_model::calls::Reply;
-use gnap_model::notes::{RoundNote, TermsNote};
 use gnap_model::objects::ErrorCode;
-use gnap_model::rights::Rights;
-use gnap_tables::rows::{GrantRow, TokenRow};
+use gnap_tables::rows::{GrantRow, KeptRound, TokenRow};
 use grant_rules::drawing::Supply;
+use kept_rights::KeptRights;
 use row_store::{Change, GrantTable, TokenTable};
 
 /// What the entry of a call has: both tables, the number of the next grant, and what it draws on.
@@ -36,9 +36,9 @@ pub struct Renewal {
     /// The tokens that it had are retired.
     pub retires: bool,
     /// New terms.
-    pub terms: Option<TermsNote>,
+    pub terms: Option<KeptTerms>,
     /// It is approved, and the user granted these rights so far.
-    pub consent: Option<Rights>,
+    pub consent: Option<KeptRights>,
     /// The continuation value.
     pub door: [u8; 32],
     /// The serial of that value.
@@ -80,9 +80,9 @@ pub enum TableChange {
     /// A grant with new terms is pending in a new round, and the tokens that it had are retired.
     Pend {
         /// The terms.
-        terms: TermsNote,
+        terms: KeptTerms,
         /// The round.
-        round: RoundNote,
+        round: KeptRound,
         /// The continuation value.
         door: [u8; 32],
         /// The serial of that value.

@@ -1,5 +1,5 @@
 //! The answer to an introspection (RFC 9767, section 3.3).
-ghost use Rattle.std.specs.Prelude.{◌≡◌, ℕ, option_map, IfOk};
+ghost use Rattle.std.specs.Prelude.{◌≡◌, ℕ, option_map, Some, IfOk};
 ghost use Rattle.gnap_model.specs.Rights.{served_part as part_served};
 ghost use Rattle.gnap_model.specs.declared.calls.Reply.TheVariants.{Active};
 ghost use Rattle.gnap_model.specs.Actions.{Supply};
@@ -22,12 +22,23 @@ use introspection::{Judged, judge};
 use row_store::{GrantTable, TokenTable};
 use std::alloc::Global;
 
-// A token is shown with the rights that the server serves.
-fn shown(alloc: Global, names: &Names, row: &TokenRow) -> Result<Reply, Mem>
+// The rights of the token of a row.
+fn rights_of(alloc: Global, row: Option<&TokenRow>) -> Result<Rights, Mem>
+    ensures { IfOk result (λ rights. (row_is : _) → option_map (λ row. row.now) row.entry ≡ Some row_is → rights ≡ row_is.rights) }
+{
+    match row {
+        Some(row) => row.rights.rights(alloc),
+        None => Ok(Seq::new(alloc)),
+    }
+}
+
+// A token is shown with those of its rights that the server serves.
+fn shown(alloc: Global, names: &Names, row: &TokenRow, rights: &Rights) -> Result<Reply, Mem>
+    requires { rights.now ≡ row.now.rights }
     ensures { IfOk result (λ reply. reply ≡ Active (part_served names.now row.now.rights) row.now.issued row.now.until row.now.key row.now.bearer) }
 {
     Ok(Reply::Active {
-        access: served_part(alloc, &row.rights, names)?,
+        access: served_part(alloc, rights, names)?,
         iat: row.issued,
         exp: row.until,
         instance: row.key.copy()?,
@@ -50,8 +61,10 @@ fn reply_by(
     alloc: Global,
     names: &Names,
     row: Option<&TokenRow>,
+    rights: &Rights,
     judged: Judged,
 ) -> Result<Reply, Mem>
+    requires { (row_is : _) → option_map (λ row. row.now) row ≡ Some row_is → rights.now ≡ row_is.rights }
     ensures { IfOk result (λ reply. reply ≡ judged_reply names.now (option_map (λ row. row.now) row.entry) judged) }
 {
     match judged {
@@ -60,7 +73,7 @@ fn reply_by(
         }),
         Judged::Inactive => Ok(Reply::Inactive),
         Judged::Active => match row {
-            Some(row) => shown(alloc, names, row),
+            Some(row) => shown(alloc, names, row, rights),
             None => Ok(Reply::Inactive),
         },
     }
@@ -89,6 +102,7 @@ pub fn introspect(
     let names = server_names(rules, server.as_slice(), &none);
     let row = tokens.by_value(value.as_slice());
     let approved = grant_approved(grants, row);
-    let judged = judge(row, approved, now, names, binding, wanted);
-    Ok(undrawn(reply_by(alloc, names, row, judged)?))
+    let rights = rights_of(alloc, row)?;
+    let judged = judge(row, &rights, approved, now, names, binding, wanted);
+    Ok(undrawn(reply_by(alloc, names, row, &rights, judged)?))
 }

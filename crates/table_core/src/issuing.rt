@@ -57,7 +57,7 @@ pub fn issue(
     for ask in asks {
         let issued = token(entering, row, ask, index)?;
         told.push(token_out(&issued, entering.supply.moment)?)?;
-        rows.push(Box::new(alloc, stored_token(issued))?)?;
+        rows.push(Box::new(alloc, stored_token(alloc, issued)?)?)?;
         index += 2;
     }
     Ok(IssuedTokens { rows, told })

@@ -14,6 +14,7 @@ pub mod deciding;
 pub mod entering;
 pub mod introspecting;
 pub mod issuing;
+pub mod kept_terms;
 pub mod modifying;
 pub mod planning;
 pub mod revoking;

@@ -12,6 +12,7 @@ ghost use Rattle.table_core.specs.Plans.{Plans};
 use crate::asking::ask;
 use crate::entering::{Entering, Plan, Renewal, TableChange, refused};
 use crate::issuing::grant;
+use crate::stored::stored_terms;
 use gnap_io::bytes::Bytes;
 use gnap_io::memory::{Duplicate, Mem};
 use gnap_model::objects::{ErrorCode, GrantRequest, Modes, Setup};
@@ -43,13 +44,15 @@ fn grant_anew(
         None,
     )?;
     let door = entering.supply.value(2 * count);
+    let wanted = terms(row.number, request)?;
+    let terms = stored_terms(alloc, &wanted)?;
     Ok(Plan {
         reply: granting.reply,
         drawn: 2 * count as u64 + 1,
         change: TableChange::Renew(Renewal {
             number: row.number,
             retires: true,
-            terms: Some(terms(row.number, request)?),
+            terms: Some(terms),
             consent: Some(row.consent.copy()?),
             door,
             serial: entering.supply.first + 2 * count as u64,
@@ -93,11 +96,13 @@ fn modify_asking(
     let _rows = entering.tokens.len();
     let asking = ask(alloc, entering, row.number, row.end, modes, None)?;
     let door = asking.door;
+    let wanted = terms(row.number, request)?;
+    let terms = stored_terms(alloc, &wanted)?;
     Ok(Plan {
         reply: asking.reply,
         drawn: asking.drawn,
         change: TableChange::Pend {
-            terms: terms(row.number, request)?,
+            terms,
             round: asking.round,
             door,
             serial: entering.supply.first,
@@ -132,7 +137,8 @@ fn modify_row(
     requires { length request.now.asks ≤ 8 }
     ensures { IfOk result (Plans entering.now (modify_rows (settle_for setup.now row.now.key row.now.consent request.now) (tables entering.now) entering.now.supply.moment row.now request.now)) }
 {
-    match settle(alloc, setup, row.key.as_slice(), &row.consent, request)? {
+    let consent = row.consent.rights(alloc)?;
+    match settle(alloc, setup, row.key.as_slice(), &consent, request)? {
         Course::AtOnce => modify_at_once(alloc, entering, row, request),
         Course::ByAsking => modify_by_asking(alloc, entering, row, request),
         Course::Never => Ok(refused(entering, ErrorCode::RequestDenied)),

@@ -49,7 +49,7 @@ pub fn plan_call(
             value,
             request,
         } => modify(alloc, setup, entering, key, value, request),
-        Call::Look { front: _, handle } => look(entering, handle),
+        Call::Look { front: _, handle } => look(alloc, entering, handle),
         Call::FindCode { front: _, code } => Ok(find_code(entering, code)),
         Call::Decide { front: _, request } => decide(alloc, entering, request),
         _ => unreachable!(),

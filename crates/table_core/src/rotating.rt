@@ -44,7 +44,12 @@ fn is_live(grants: &GrantTable, row: &TokenRow, now: u64) -> bool
 }
 
 // The token's successor, and what the client is told.
-fn succeed(token: &TokenRow, grant: &GrantRow, supply: &Supply) -> Result<Rotation, Mem>
+fn succeed(
+    alloc: Global,
+    token: &TokenRow,
+    grant: &GrantRow,
+    supply: &Supply,
+) -> Result<Rotation, Mem>
     ensures { IfOk result (λ r. (taken : List Text) → r ≡ rotated_to (supply_with supply.now taken) token.now grant.now) }
 {
     let successor = supply.token(
@@ -52,20 +57,21 @@ fn succeed(token: &TokenRow, grant: &GrantRow, supply: &Supply) -> Result<Rotati
         &grant.key,
         grant.end,
         token.label.copy()?,
-        token.rights.copy()?,
+        token.rights.rights(alloc)?,
         token.bearer,
         0,
     )?;
     let out = token_out(&successor, supply.moment)?;
     Ok(Rotation::Succeeded {
         serial: token.serial,
-        row: stored_token(successor),
+        row: stored_token(alloc, successor)?,
         out,
     })
 }
 
 // What the rotation of a token of a grant comes to.
 fn rotation_on(
+    alloc: Global,
     token: &TokenRow,
     grant: Option<&GrantRow>,
     supply: &Supply,
@@ -82,7 +88,7 @@ fn rotation_on(
             }
             match new_key {
                 Some(_) => Ok(Rotation::Denied(ErrorCode::KeyRotationNotSupported)),
-                None => succeed(token, grant, supply),
+                None => succeed(alloc, token, grant, supply),
             }
         }
     }
@@ -90,6 +96,7 @@ fn rotation_on(
 
 // What a rotation comes to. It takes memory, and changes nothing.
 fn rotation_by(
+    alloc: Global,
     grants: &GrantTable,
     token: Option<&TokenRow>,
     supply: &Supply,
@@ -102,7 +109,14 @@ fn rotation_by(
         None => Ok(Rotation::Denied(ErrorCode::InvalidRotation)),
         Some(token) => {
             if is_live(grants, token, supply.moment) {
-                rotation_on(token, grants.by_number(token.grant), supply, key, new_key)
+                rotation_on(
+                    alloc,
+                    token,
+                    grants.by_number(token.grant),
+                    supply,
+                    key,
+                    new_key,
+                )
             } else {
                 Ok(Rotation::Denied(ErrorCode::InvalidRotation))
             }
@@ -127,7 +141,7 @@ pub fn rotate(
     ensures err { OnErr result (tokens.new.rows ≡ tokens.old.rows) }
 {
     let token = tokens.by_manage(value.as_slice());
-    let rotation = rotation_by(grants, token, supply, key.as_slice(), new_key)?;
+    let rotation = rotation_by(alloc, grants, token, supply, key.as_slice(), new_key)?;
     match rotation {
         Rotation::Denied(code) => Ok(undrawn(Reply::Error { code })),
         Rotation::Succeeded { serial, row, out } => {

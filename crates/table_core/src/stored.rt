@@ -1,39 +1,43 @@
 //! What the notes of an entry leave in rows.
-ghost use Rattle.std.specs.Prelude.{◌≡◌};
+ghost use Rattle.std.specs.Prelude.{◌≡◌, IfOk};
 ghost use Rattle.std.specs.declared.option.Option.TheVariants.{None};
 ghost use Rattle.gnap_tables.specs.Rows.{round_row};
 ghost use Rattle.gnap_tables.specs.Tables.{new_token};
 
-use gnap_model::notes::{RoundNote, TokenNote};
-use gnap_tables::rows::{Round, TokenRow};
+use crate::kept_terms::KeptTerms;
+use gnap_io::memory::Mem;
+use gnap_model::notes::{RoundNote, TermsNote, TokenNote};
+use gnap_tables::rows::{KeptRound, Round, TokenRow};
+use kept_rights::{KeptAsks, KeptRights};
+use std::alloc::Global;
 
 /// The row of a token that was just issued.
-pub fn stored_token(token: TokenNote) -> TokenRow
-    ensures { result ≡ new_token token }
+pub fn stored_token(alloc: Global, token: TokenNote) -> Result<TokenRow, Mem>
+    ensures { IfOk result (λ row. row ≡ new_token token) }
 {
     let value = token.value;
     let manage = token.manage;
-    TokenRow {
+    Ok(TokenRow {
         serial: token.serial,
         grant: token.grant,
         value,
         manage,
         label: token.label,
-        rights: token.rights,
+        rights: KeptRights::keep(alloc, &token.rights)?,
         bearer: token.bearer,
         key: token.key,
         issued: token.issued,
         until: token.until,
         retired: false,
-    }
+    })
 }
 
 /// A round that has just begun.
-pub fn stored_round(round: RoundNote) -> Round
-    ensures { result ≡ round_row 0 None round }
+pub fn stored_round(alloc: Global, round: RoundNote) -> Result<KeptRound, Mem>
+    ensures { IfOk result (λ kept. kept ≡ round_row 0 None round) }
 {
     let handle = round.handle;
-    Round {
+    let begun = Round {
         handle,
         code: round.code,
         nonce: round.nonce,
@@ -42,5 +46,18 @@ pub fn stored_round(round: RoundNote) -> Round
         over: round.over,
         wrongs: 0,
         decision: None,
-    }
+    };
+    KeptRound::keep(alloc, begun)
+}
+
+/// The terms of a grant, as its row keeps them.
+pub fn stored_terms(alloc: Global, terms: &TermsNote) -> Result<KeptTerms, Mem>
+    ensures { IfOk result (λ kept. kept ≡ terms.now) }
+{
+    Ok(KeptTerms {
+        grant: terms.grant,
+        asks: KeptAsks::keep(alloc, &terms.asks)?,
+        single: terms.single,
+        subject: terms.subject,
+    })
 }

@@ -25,6 +25,6 @@ loop-ask-preserved c =
       handed = made_more (token_out entering.supply.moment) before after token [] c.loop-ask.told c.push.new.self c.in_ok-token_out.field-0
           more c.loop-ask.invariant.handed c.in_ok-token_out.ensures c.in_ok-push.ensures.ok;
       stored = made_more new_token before after token [] (rows_in c.loop-ask.rows) (rows_in c.push-in-loop-ask.new.self) c.in_ok-new.field-0.value
-          more c.loop-ask.invariant.stored (c.in_ok-new.ensures.ok ∙ c.stored_token.ensures)
+          more c.loop-ask.invariant.stored (c.in_ok-new.ensures.ok ∙ c.in_ok-stored_token.ensures)
           (ap rows_in c.in_ok-push-2.ensures.ok ∙ map-append (λ (box : Box TokenRow). box.value) c.loop-ask.rows (c.in_ok-new.field-0 ∷ []));
     }
