@@ -6,7 +6,8 @@
 For n of 1,000, 10,000 and 65,000: a file of n grant requests, all live to its end, and 2n introspections that name the tokens in a mixed order. Each file
 is replayed five times, and the best time counts. An introspection's time is what the whole file takes more than its grant requests alone, by 2n; a grant
 request's is what those take more than an empty file, by n. Then a file of 200,000 lines is replayed once, and the memory of the full state of 65,536
-grants is compared with the bytes of the texts that it must keep. The program is ./gnap, or the one that GNAP names.
+grants is compared with the bytes of the texts that it must keep, for a right in full as in RFC 9635's examples and for a name. The program is ./gnap, or
+the one that GNAP names.
 """
 
 import base64
@@ -17,26 +18,42 @@ import sys
 import tempfile
 import time
 
+NAME = "photos"
+IN_FULL = {
+    "type": "photo-api",
+    "actions": ["read", "write", "dolphin"],
+    "locations": ["https://server.example.net/", "https://resource.local/other"],
+    "datatypes": ["metadata", "images"],
+}
 SETUP = {
     "base": "https://as.example",
     "front": "https://front.example",
     "keys": [
-        {"ask": [], "auto": ["photos"], "id": "c1", "role": "client", "secret": "c2VjcmV0LWtleS1vZi1jMQ=="},
-        {"id": "r1", "role": "server", "secret": "c2VjcmV0LWtleS1vZi1yMQ==", "serves": ["photos"]},
+        {"ask": [], "auto": [NAME, IN_FULL], "id": "c1", "role": "client", "secret": "c2VjcmV0LWtleS1vZi1jMQ=="},
+        {"id": "r1", "role": "server", "secret": "c2VjcmV0LWtleS1vZi1yMQ==", "serves": [NAME, IN_FULL["type"]]},
     ],
 }
 # A granted request draws three values: the token's, its management value and the continuation value.
 VALUES = 3
-# What a grant and its token must keep as text: the key twice, the right's type twice, and three values of 32 bytes.
-KEPT = 2 * len("c1") + 2 * len("photos") + VALUES * 32
+
+
+def texts_in(right):
+    if isinstance(right, str):
+        return [right]
+    return [text for value in right.values() for text in ([value] if isinstance(value, str) else value)]
+
+
+def kept(right):
+    """The bytes of text that a grant and its token must keep: the key and the right's texts twice each, and three values of 32 bytes."""
+    return 2 * len("c1") + 2 * sum(len(text) for text in texts_in(right)) + VALUES * 32
 
 
 def line(value):
     return json.dumps(value, separators=(",", ":"), sort_keys=True) + "\n"
 
 
-def grant_request():
-    return line({"at": 1000, "body": {"access_token": {"access": ["photos"]}, "client": "c1"}, "call": "begin", "key": "c1"})
+def grant_request(right):
+    return line({"at": 1000, "body": {"access_token": {"access": [right]}, "client": "c1"}, "call": "begin", "key": "c1"})
 
 
 def introspection(serial):
@@ -46,7 +63,7 @@ def introspection(serial):
 
 def file_of(grants, introspections):
     """A step that has no factor in common with the grants' number mixes the order."""
-    lines = [line(SETUP)] + [grant_request()] * grants
+    lines = [line(SETUP)] + [grant_request(NAME)] * grants
     lines += [introspection(1 + VALUES * (i * 48_611 % grants)) for i in range(introspections)]
     return "".join(lines)
 
@@ -67,7 +84,7 @@ def replayed(program, folder, grants, introspections, times):
     return best
 
 
-def memory(program, folder, grants):
+def memory(program, folder, grants, right):
     """The greatest resident memory, in bytes, of a replay that has answered so many grant requests and waits for more."""
     pipe = os.path.join(folder, "pipe")
     os.mkfifo(pipe)
@@ -75,7 +92,7 @@ def memory(program, folder, grants):
         with open(pipe, "w") as lines:
             lines.write(line(SETUP))
             for _ in range(grants):
-                lines.write(grant_request())
+                lines.write(grant_request(right))
                 lines.flush()
                 replay.stdout.readline()
             with open(f"/proc/{replay.pid}/status") as status:
@@ -96,9 +113,11 @@ def main():
             print(f"{grants:6} grants live: a grant request {request:.1f} µs, an introspection {introspected:.1f} µs", flush=True)
         took = replayed(program, folder, 65_000, 135_000, 1)
         print(f"200,000 lines: {took:.1f} s", flush=True)
-        few, full = memory(program, folder, 1), memory(program, folder, 65_536)
-        ratio = (full - few) / (65_536 * KEPT)
-        print(f"65,536 grants: {full / 1e6:.1f} MB, {few / 1e6:.1f} MB of them without a grant; {ratio:.2f} times the texts kept")
+        for name, right in (("a right in full", IN_FULL), ("a name", NAME)):
+            few, full = memory(program, folder, 1, right), memory(program, folder, 65_536, right)
+            bytes_each = (full - few) / 65_536
+            ratio = bytes_each / kept(right)
+            print(f"65,536 grants with {name}: {full / 1e6:.1f} MB, {bytes_each:.0f} bytes each, {ratio:.2f} times the {kept(right)} of its texts", flush=True)
 
 
 if __name__ == "__main__":
