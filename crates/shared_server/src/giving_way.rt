@@ -3,16 +3,16 @@ ghost use Rattle.std.specs.Prelude.{◌≡◌};
 
 use crate::rule::Top;
 use histories::machine::Core;
-use std::hint::spin_loop;
 use std::sync::Wait;
 use std::thread::Parker;
 use std::time::Duration;
 
-/// How often a worker looks whether no ticket is out before it naps.
-const LOOKS: u32 = 100;
+/// How often a worker looks before it sleeps, which takes some microseconds, longer than most steps of a core. It looks again at once, without the hint for
+/// such loops, which would take as long as thirty looks: the next turn then begins as soon as the one before it ends.
+pub(crate) const LOOKS: u32 = 4000;
 
-/// How long a worker naps, in microseconds, one nap after another: together some three thousandths of a second.
-const NAPS: [u64; 6] = [50, 100, 200, 400, 800, 1600];
+/// How long a worker naps, in microseconds, one nap after another: together some six thousandths of a second.
+const NAPS: [u64; 6] = [100, 200, 400, 800, 1600, 3200];
 
 // Whether no ticket was out at one of the looks.
 fn is_soon_free<C: Core>(top: &Top<C>) -> bool
@@ -22,7 +22,6 @@ fn is_soon_free<C: Core>(top: &Top<C>) -> bool
         if top.peek(0) == top.peek(1) {
             return true;
         }
-        spin_loop();
     }
     false
 }

@@ -4,16 +4,12 @@ ghost use Rattle.histories.specs.History.{last_moment};
 ghost use Rattle.shared_server.specs.Rule.{drawn, on, HasTurn};
 ghost use Rattle.shared_server.specs.Seats.{IsTable, IsSame, CanDraw, CanLook, CanHand, Added, AddedReply};
 
-use crate::giving_way::give_way;
+use crate::giving_way::{LOOKS, give_way};
 use crate::rule::{Draw, EntryOf, Hand, Look, Mark, SeatOf, Told, Top};
 use gnap_io::memory::Mem;
 use histories::machine::{Core, Machine};
-use std::hint::spin_loop;
 use std::marker::Brand;
 use std::sync::Wait;
-
-/// How often who is near its turn looks before it sleeps.
-const LOOKS: u32 = 100;
 
 /// How many turns before its own a worker is woken, so that it looks already when its turn comes.
 const AHEAD: u64 = 1;
@@ -43,7 +39,6 @@ fn wait_for_turn<C: Core, R: Wait>(rt: &R, top: &Top<C>, seat: &mut SeatOf<C>, t
         }
         if looks < LOOKS && ticket.wrapping_sub(serving) <= AHEAD {
             looks += 1;
-            spin_loop();
         } else {
             sleep(rt, top, seat, ticket);
             looks = 0;
