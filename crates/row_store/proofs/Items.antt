@@ -8,10 +8,10 @@ use Rattle.gnap_model.proofs.Doors.{some_if_some, option_or_cases}
 use Rattle.gnap_tables.specs.RowSearches.{newest}
 use Rattle.gnap_tables.proofs.Lists.{HasItem, reverse-cons, any_found}
 
-item-append : {A : Type 0} (xs ys : List A) (z : A) → HasItem (xs ++ ys) z → HasItem xs z ⊎ HasItem ys z
-item-append [] ys z h = inr h
-item-append (x ∷ xs) ys z (inl e) = inl (inl e)
-item-append (x ∷ xs) ys z (inr h) = elim (item-append xs ys z h) [ inl a ↦ inl (inr a) | inr b ↦ inr b ]
+pub item_append : {A : Type 0} (xs ys : List A) (z : A) → HasItem (xs ++ ys) z → HasItem xs z ⊎ HasItem ys z
+item_append [] ys z h = inr h
+item_append (x ∷ xs) ys z (inl e) = inl (inl e)
+item_append (x ∷ xs) ys z (inr h) = elim (item_append xs ys z h) [ inl a ↦ inl (inr a) | inr b ↦ inr b ]
 
 pub item_left : {A : Type 0} (xs ys : List A) (z : A) → HasItem xs z → HasItem (xs ++ ys) z
 item_left [] ys z h = absurd h
@@ -24,7 +24,7 @@ item_right (x ∷ xs) ys z h = inr (item_right xs ys z h)
 
 pub item-reverse : {A : Type 0} (xs : List A) (z : A) → HasItem (reverse xs) z → HasItem xs z
 item-reverse [] z h = h
-item-reverse {A} (x ∷ xs) z h = elim (item-append (reverse xs) (x ∷ []) z (subst (λ (ys : List A). HasItem ys z) (reverse-cons x xs) h)) [
+item-reverse {A} (x ∷ xs) z h = elim (item_append (reverse xs) (x ∷ []) z (subst (λ (ys : List A). HasItem ys z) (reverse-cons x xs) h)) [
   | inl a ↦ inr (item-reverse xs z a)
   | inr b ↦ elim b [ inl e ↦ inl e | inr n ↦ absurd n ]
 ]

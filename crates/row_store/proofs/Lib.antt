@@ -2,6 +2,7 @@ pub mod Decoding
 pub mod Items
 pub mod Placed
 pub mod Changed
+pub mod SerialLemmas
 pub mod TokenLemmas
 pub mod GrantLemmas
 pub mod InteractionLemmas

@@ -6,7 +6,6 @@ use Rattle.std.specs.List.{filter_map, cons_option}
 use Rattle.std.proofs.lemmas.List.{reverse-reverse}
 use Rattle.gnap_model.specs.Common.{Text, some_if}
 use Rattle.gnap_model.specs.Standing.{code_in}
-use Rattle.gnap_model.specs.declared.notes.RoundNote.{RoundNote}
 use Rattle.gnap_tables.specs.declared.rows.GrantRow.{GrantRow}
 use Rattle.gnap_tables.specs.declared.rows.Round.{Round}
 use Rattle.gnap_tables.specs.RowSearches.{is_open_round, open_round, open_rounds, round_of}

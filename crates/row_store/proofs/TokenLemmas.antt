@@ -1,16 +1,17 @@
 -- Rows of tokens, as they are stored.
 use Rattle.std.proofs.Common.{ℕ, ◌≡◌, ◌⊎◌, ◌<◌, ◌≤◌, ◌+◌, ◌-◌, ◌^◌, Bool, true, false, cond, List, [], ◌∷◌, ◌++◌, length, get_or, map, refl, sym, ◌∙◌, ap, subst, inl, inr, arith, Option, Some, None}
-use Rattle.std.specs.Prelude.{slice_get, nat_lt, not, ◌&&◌, filter, ◌==◌, if◌then◌else◌, option_map}
+use Rattle.std.specs.Prelude.{slice_get, nat_lt, not, ◌&&◌, ◌||◌, filter, ◌==◌, if◌then◌else◌, option_map}
 use Rattle.std.specs.Option.{option_and_then}
-use Rattle.std.specs.List.{All, AllPairs, remove, count_by}
+use Rattle.std.specs.List.{All, AllPairs, remove, count_by, list_any}
 use Rattle.std.proofs.Math.ListN.{set}
 use Rattle.std.proofs.lemmas.List.{length-map, get_or-map, map-set, map-append}
 use Rattle.std.proofs.lemmas.List.Elements.{All-filter, All-push, All-set}
+use Rattle.std.proofs.lemmas.List.Folds.{list_any-append}
 use Rattle.std.proofs.lemmas.List.Kept.{AllPairs-filter}
 use Rattle.std.proofs.lemmas.List.Quantifiers.{all_pairs_push}
 use Rattle.std.proofs.lemmas.List.Sums.{length-filter, count_by-le-length}
 use Rattle.std.proofs.lemmas.Option.{slice_get-map}
-use Rattle.std.proofs.lemmas.Bool.{cases_lt}
+use Rattle.std.proofs.lemmas.Bool.{cases_lt, eqb-true}
 use Rattle.std.proofs.lemmas.Bool.Decides.{nat_tests}
 use Rattle.std.proofs.lemmas.Slice.Eq.{bytes_eq-Decides}
 use Rattle.gnap_model.specs.Common.{Text, same_text, some_if}
@@ -20,12 +21,13 @@ use Rattle.gnap_tables.specs.declared.rows.TokenRow.{TokenRow}
 use Rattle.gnap_tables.specs.Tables.{change_token, drop_token, with_retirement}
 use Rattle.gnap_tables.specs.RowSearches.{newest, row_by_manage, is_live_row, live_rows}
 use Rattle.gnap_tables.specs.ActionsByRows.{rows_of_others}
-use Rattle.gnap_tables.proofs.Lists.{HasItem}
+use Rattle.gnap_tables.proofs.Lists.{HasItem, filter_is, filter_map_same, all_kept}
 use Rattle.ordered_search.specs.Order.{IsAscending, IsPlaceOf}
+use Rattle.row_store.specs.declared.serials_by_grant.OwnedSerial.{OwnedSerial}
 use Rattle.row_store.specs.declared.token_table.TokenPlace.{TokenPlace}
-use Rattle.row_store.specs.Tokens.{IsTokenRow, AreTokenRows, row_by_value, token_in, IsTokenPlace, AreTokenPlaces, Marks, is_live_place, is_live_elsewhere}
-use Rattle.row_store.proofs.Items.{item_all, item_of_map, get_at, get_past, newest_none}
-use Rattle.row_store.proofs.Placed.{ascending_keys, at_place, placed}
+use Rattle.row_store.specs.Tokens.{IsTokenRow, AreTokenRows, row_by_value, token_in, IsTokenPlace, AreTokenPlaces, AreListed, owned_serial, is_among, Marks, is_live_place, is_live_elsewhere}
+use Rattle.row_store.proofs.Items.{item_all, item_in, item_of_map, get_at, get_past, newest_none}
+use Rattle.row_store.proofs.Placed.{ascending_keys, at_place, one_key, placed, eqb-self}
 use Rattle.row_store.proofs.Changed.{changed_at, changed_past, removed_at, all_left, map-filter}
 
 abbrev pub place_serials : List TokenPlace → List ℕ
@@ -198,7 +200,7 @@ dropped_are test rows are = record {
 }
 
 -- the serials of the places ascend
-place_pairs : (places : List TokenPlace) → AreTokenPlaces places → AllPairs (λ (a b : TokenPlace). a.serial < b.serial) places
+pub place_pairs : (places : List TokenPlace) → AreTokenPlaces places → AllPairs (λ (a b : TokenPlace). a.serial < b.serial) places
 place_pairs places are i j d lt jn =
     let many = length-map places token_in in
     let pair = are.rows.ascending i j d.row.value lt (omega (arith, many, jn)) in
@@ -243,6 +245,166 @@ none_removed slice places rows at serial same view are place other = all_left (�
     inside q mine there (inl lt) = let k : Some (get_or places at q) ≡ Some q = sym (get_at places at q lt) ∙ there in other q lt (sym (cc k)) mine
     inside q mine there (inr le) = let k : None ≡ Some q = sym (get_past places at le) ∙ there in cc k
 
+-- ---- the rows of a grant that are taken out
+
+-- the serials of places ascend
+abbrev pub AreInOrder : List TokenPlace → Type 0
+AreInOrder places = AllPairs (λ (a b : TokenPlace). a.serial < b.serial) places
+
+-- the place is the grant's and has this serial
+abbrev pub is_this : ℕ → ℕ → TokenPlace → Bool
+is_this grant serial place = (grant == place.grant) && (serial == place.serial)
+
+filter-filter : {A : Type 0} (p q : A → Bool) (xs : List A) → filter p (filter q xs) ≡ filter (λ x. p x && q x) xs
+filter-filter p q [] = refl
+filter-filter {A} p q (x ∷ xs) = at (q x) (p x) refl (filter-filter p q xs)
+  where
+    at : (b c : Bool) → p x ≡ c → filter p (filter q xs) ≡ filter (λ x. p x && q x) xs
+        → filter p (cond b (x ∷ filter q xs) (filter q xs)) ≡ cond (c && b) (x ∷ filter (λ x. p x && q x) xs) (filter (λ x. p x && q x) xs)
+    at true true e rest = rw e (ap (λ (ys : List A). x ∷ ys) rest)
+    at true false e rest = rw e rest
+    at false true e rest = rest
+    at false false e rest = rest
+
+filter_agrees : (t u : TokenPlace → Bool) (places : List TokenPlace) → ((p : TokenPlace) → HasItem places p → t p ≡ u p) → filter t places ≡ filter u places
+filter_agrees t u places same = filter_is t places ∙ filter_map_same _ _ places (λ p h. ap (λ b. some_if b p) (same p h)) ∙ sym (filter_is u places)
+
+-- where none passes, none is taken out
+pub all_stay : (t : TokenPlace → Bool) (places : List TokenPlace) → ((p : TokenPlace) → HasItem places p → t p ≡ true → ⊥) → places ≡ filter (λ (p : TokenPlace). not (t p)) places
+all_stay t places never = sym (filter_is (λ (p : TokenPlace). not (t p)) places ∙ filter_map_same _ (λ (p : TokenPlace). Some p) places (λ p h. stays p h (t p) refl) ∙ all_kept places)
+  where
+    stays : (p : TokenPlace) → HasItem places p → (b : Bool) → t p ≡ b → some_if (not b) p ≡ Some p
+    stays p h true e = absurd (never p h e)
+    stays p h false e = refl
+
+both_true : (a b : Bool) → (a && b) ≡ true → (a ≡ true) × (b ≡ true)
+both_true true b e = (refl, e)
+both_true false b e = cc e
+
+pub taken_out : (places : List TokenPlace) (at grant serial : ℕ) (old : TokenPlace) → AreInOrder places → at < length places → old ≡ get_or places at old → old.serial ≡ serial → old.grant ≡ grant
+    → remove places at ≡ filter (λ (p : TokenPlace). not (is_this grant serial p)) places
+taken_out places at grant serial old order inside is mine its =
+    removed_at (λ (p : TokenPlace). p.serial) places at serial old order inside (ap (λ (p : TokenPlace). p.serial) (sym is) ∙ mine)
+    ∙ filter_agrees (λ (p : TokenPlace). not (serial == p.serial)) (λ (p : TokenPlace). not (is_this grant serial p)) places (λ p h. ap not (same p h (serial == p.serial) refl))
+  where
+    has : HasItem places old
+    has = subst (HasItem places) (sym is) (item_in places at old inside)
+
+    same : (p : TokenPlace) → HasItem places p → (b : Bool) → (serial == p.serial) ≡ b → b ≡ ((grant == p.grant) && b)
+    same p h true e =
+        let one : p ≡ old = one_key (λ (q : TokenPlace). q.serial) places p old order h has (sym (eqb-true serial p.serial e) ∙ sym mine) in
+        let g : grant ≡ p.grant = sym its ∙ ap (λ (q : TokenPlace). q.grant) (sym one) in
+        let t : (grant == p.grant) ≡ true = subst (λ n. (grant == n) ≡ true) g (eqb-self grant) in rw t refl
+    same p h false e = none (grant == p.grant)
+      where
+        none : (a : Bool) → false ≡ (a && false)
+        none true = refl
+        none false = refl
+
+pub none_out : (slice places : List TokenPlace) (at grant serial : ℕ) → slice ≡ places → AreInOrder places → IsPlaceOf serial (place_serials slice) at
+    → ((old : TokenPlace) → at < length places → old ≡ get_or places at old → old.serial ≡ serial → old.grant ≡ grant → ⊥)
+    → places ≡ filter (λ (p : TokenPlace). not (is_this grant serial p)) places
+none_out slice places at grant serial same order place other = all_stay (is_this grant serial) places (λ p h e.
+    let both = both_true (grant == p.grant) (serial == p.serial) e in
+    let mine : p.serial ≡ serial = sym (eqb-true serial p.serial both.1) in
+    let its : p.grant ≡ grant = sym (eqb-true grant p.grant both.0) in
+    let there : slice_get places at ≡ Some p = ap (λ (ps : List TokenPlace). slice_get ps at) (sym same)
+    ∙ at_place (λ (q : TokenPlace). q.serial) slice at serial p (ascending_keys (λ (q : TokenPlace). q.serial) slice (subst AreInOrder (sym same) order)) place (subst (λ (ps : List TokenPlace). HasItem ps p) (sym same) h) mine in
+    inside p mine its there (cases_lt at (length places)))
+  where
+    inside : (q : TokenPlace) → q.serial ≡ serial → q.grant ≡ grant → slice_get places at ≡ Some q → (at < length places) ⊎ (length places ≤ at) → ⊥
+    inside q mine its there (inl lt) = let k : Some (get_or places at q) ≡ Some q = sym (get_at places at q lt) ∙ there in other q lt (sym (cc k)) mine its
+    inside q mine its there (inr le) = let k : None ≡ Some q = sym (get_past places at le) ∙ there in cc k
+
+-- one serial more
+pub one_more : (places : List TokenPlace) (grant : ℕ) (owned : List OwnedSerial) (one : OwnedSerial)
+    → filter (λ (p : TokenPlace). not (is_this grant one.serial p)) (filter (λ (p : TokenPlace). not (is_among grant owned p)) places) ≡ filter (λ (p : TokenPlace). not (is_among grant (owned ++ one ∷ []) p)) places
+one_more places grant owned one =
+    filter-filter (λ (p : TokenPlace). not (is_this grant one.serial p)) (λ (p : TokenPlace). not (is_among grant owned p)) places
+    ∙ filter_agrees _ _ places (λ p h. joined (grant == p.grant) (one.serial == p.serial) (list_any (λ (o : OwnedSerial). o.serial == p.serial) owned) ∙ ap (λ b. not ((grant == p.grant) && b)) (sym (any_appended p)))
+  where
+    joined : (g s a : Bool) → (not (g && s) && not (g && a)) ≡ not (g && (a || s))
+    joined true true true = refl
+    joined true true false = refl
+    joined true false true = refl
+    joined true false false = refl
+    joined false s a = refl
+
+    last : (b : Bool) → (b || false) ≡ b
+    last true = refl
+    last false = refl
+
+    any_appended : (p : TokenPlace) → list_any (λ (o : OwnedSerial). o.serial == p.serial) (owned ++ one ∷ []) ≡ (list_any (λ (o : OwnedSerial). o.serial == p.serial) owned || (one.serial == p.serial))
+    any_appended p = list_any-append (λ (o : OwnedSerial). o.serial == p.serial) owned (one ∷ []) ∙ ap (λ b. list_any (λ (o : OwnedSerial). o.serial == p.serial) owned || b) (last (one.serial == p.serial))
+
+pub none_yet : (places : List TokenPlace) (grant : ℕ) → places ≡ filter (λ (p : TokenPlace). not (is_among grant [] p)) places
+none_yet places grant = all_stay (is_among grant []) places (λ p h e. let both = both_true (grant == p.grant) false e in cc both.1)
+
+-- What stands under the grant are all tokens of it.
+pub all_of_grant : (places : List TokenPlace) (owned run : List OwnedSerial) (grant : ℕ) → AreListed owned places → ((one : OwnedSerial) → HasItem owned one → one.grant ≡ grant → HasItem run one)
+    → filter (λ (p : TokenPlace). not (is_among grant run p)) places ≡ filter (λ (p : TokenPlace). not (grant == p.grant)) places
+all_of_grant places owned run grant listed all =
+    filter_agrees (λ (p : TokenPlace). not (is_among grant run p)) (λ (p : TokenPlace). not (grant == p.grant)) places (λ p h. ap not (same p h (grant == p.grant) refl))
+  where
+    found : (p : TokenPlace) (os : List OwnedSerial) → HasItem os (owned_serial p.grant p.serial) → list_any (λ (o : OwnedSerial). o.serial == p.serial) os ≡ true
+    found p [] h = absurd h
+    found p (o ∷ os) (inl e) = let s : o.serial ≡ p.serial = ap (λ (x : OwnedSerial). x.serial) (sym e) in rw (subst (λ n. (n == p.serial) ≡ true) (sym s) (eqb-self p.serial)) refl
+    found p (o ∷ os) (inr h) = either (o.serial == p.serial) (found p os h)
+      where
+        either : (b : Bool) → list_any (λ (o : OwnedSerial). o.serial == p.serial) os ≡ true → (b || list_any (λ (o : OwnedSerial). o.serial == p.serial) os) ≡ true
+        either true e = refl
+        either false e = e
+
+    same : (p : TokenPlace) → HasItem places p → (b : Bool) → (grant == p.grant) ≡ b → (b && list_any (λ (o : OwnedSerial). o.serial == p.serial) run) ≡ b
+    same p h true e = found p run (all (owned_serial p.grant p.serial) (item_all (λ (q : TokenPlace). HasItem owned (owned_serial q.grant q.serial)) places p listed h) (sym (eqb-true grant p.grant e)))
+    same p h false e = refl
+
+-- what is left is listed
+pub listed_left : (test : TokenPlace → Bool) (owned : List OwnedSerial) (places : List TokenPlace) → AreListed owned places → AreListed owned (filter test places)
+listed_left test owned places listed = All-filter test (λ (p : TokenPlace). HasItem owned (owned_serial p.grant p.serial)) places listed
+
+pub listed_removed : (owned : List OwnedSerial) (places : List TokenPlace) (at serial : ℕ) (old : TokenPlace) → AreTokenPlaces places → AreListed owned places → at < length places → old ≡ get_or places at old → old.serial ≡ serial
+    → AreListed owned (remove places at)
+listed_removed owned places at serial old are listed inside is mine =
+    subst (AreListed owned) (sym (removed_at (λ (p : TokenPlace). p.serial) places at serial old (place_pairs places are) inside (ap (λ (p : TokenPlace). p.serial) (sym is) ∙ mine)))
+    (listed_left (λ (p : TokenPlace). not (serial == p.serial)) owned places listed)
+
+pub listed_marked : (owned : List OwnedSerial) (places : List TokenPlace) (at serial : ℕ) (old new : TokenPlace) → AreListed owned places → at < length places → old ≡ get_or places at old → Marks serial old new
+    → AreListed owned (set places at new)
+listed_marked owned places at serial old new listed inside is marks =
+    All-set (λ (p : TokenPlace). HasItem owned (owned_serial p.grant p.serial)) places at new (rw (marks.serial_kept, marks.grant_kept) (subst (λ (p : TokenPlace). HasItem owned (owned_serial p.grant p.serial)) (sym is) (listed at old inside))) listed
+
+pub listed_pushed : (before after : List OwnedSerial) (places : List TokenPlace) (new : TokenPlace) → AreListed before places → ((one : OwnedSerial) → HasItem before one → HasItem after one) → HasItem after (owned_serial new.grant new.serial)
+    → AreListed after (places ++ new ∷ [])
+listed_pushed before after places new listed kept has =
+    All-push (λ (p : TokenPlace). HasItem after (owned_serial p.grant p.serial)) places new (λ k d inside. kept (owned_serial (get_or places k d).grant (get_or places k d).serial) (listed k d inside)) has
+
+-- a serial of a row stays in the index
+pub listed_still : (owned : List OwnedSerial) (slice places : List TokenPlace) → slice ≡ places → AreListed owned places
+    → AreListed (filter (λ (one : OwnedSerial). list_any (λ (p : TokenPlace). p.serial == one.serial) slice) owned) places
+listed_still owned slice places same listed k d inside =
+    kept owned (get_or places k d) (item_in places k d inside) (listed k d inside)
+  where
+    here : (p : TokenPlace) (ps : List TokenPlace) → HasItem ps p → list_any (λ (q : TokenPlace). q.serial == p.serial) ps ≡ true
+    here p [] h = absurd h
+    here p (q ∷ qs) (inl e) = let s : q.serial ≡ p.serial = ap (λ (x : TokenPlace). x.serial) (sym e) in rw (subst (λ n. (n == p.serial) ≡ true) (sym s) (eqb-self p.serial)) refl
+    here p (q ∷ qs) (inr h) = either (q.serial == p.serial) (here p qs h)
+      where
+        either : (b : Bool) → list_any (λ (q : TokenPlace). q.serial == p.serial) qs ≡ true → (b || list_any (λ (q : TokenPlace). q.serial == p.serial) qs) ≡ true
+        either true e = refl
+        either false e = e
+
+    kept : (os : List OwnedSerial) (p : TokenPlace) → HasItem places p → HasItem os (owned_serial p.grant p.serial) → HasItem (filter (λ (one : OwnedSerial). list_any (λ (q : TokenPlace). q.serial == one.serial) slice) os) (owned_serial p.grant p.serial)
+    kept [] p h l = absurd l
+    kept (o ∷ os) p h (inl e) = subst (λ b. HasItem (cond b (o ∷ filter (λ (one : OwnedSerial). list_any (λ (q : TokenPlace). q.serial == one.serial) slice) os) (filter (λ (one : OwnedSerial). list_any (λ (q : TokenPlace). q.serial == one.serial) slice) os)) (owned_serial p.grant p.serial))
+        (sym (subst (λ (x : OwnedSerial). list_any (λ (q : TokenPlace). q.serial == x.serial) slice ≡ true) e (here p slice (subst (λ (ps : List TokenPlace). HasItem ps p) (sym same) h)))) (inl e)
+    kept (o ∷ os) p h (inr l) = either (list_any (λ (q : TokenPlace). q.serial == o.serial) slice) (kept os p h l)
+      where
+        either : (b : Bool) → HasItem (filter (λ (one : OwnedSerial). list_any (λ (q : TokenPlace). q.serial == one.serial) slice) os) (owned_serial p.grant p.serial)
+            → HasItem (cond b (o ∷ filter (λ (one : OwnedSerial). list_any (λ (q : TokenPlace). q.serial == one.serial) slice) os) (filter (λ (one : OwnedSerial). list_any (λ (q : TokenPlace). q.serial == one.serial) slice) os)) (owned_serial p.grant p.serial)
+        either true i = inr i
+        either false i = i
+
 -- ---- a row that is appended
 
 pub place_pushed : (places : List TokenPlace) (new : TokenPlace) → AreTokenPlaces places → IsTokenPlace new → IsTokenRow new.row.value
@@ -263,17 +425,6 @@ place_pushed places new are is row above =
 
 count-map : {A B : Type 0} (f : A → B) (t : A → Bool) (u : B → Bool) (xs : List A) → ((x : A) → HasItem xs x → t x ≡ u (f x)) → count_by t xs ≡ length (filter u (map f xs))
 count-map {A} {B} f t u xs same = sym (length-filter t xs) ∙ sym (length-map (filter t xs) f) ∙ ap (length {A = B}) (map-filter f t u xs same)
-
-filter-filter : {A : Type 0} (p q : A → Bool) (xs : List A) → filter p (filter q xs) ≡ filter (λ x. p x && q x) xs
-filter-filter p q [] = refl
-filter-filter {A} p q (x ∷ xs) = at (q x) (p x) refl (filter-filter p q xs)
-  where
-    at : (b c : Bool) → p x ≡ c → filter p (filter q xs) ≡ filter (λ x. p x && q x) xs
-        → filter p (cond b (x ∷ filter q xs) (filter q xs)) ≡ cond (c && b) (x ∷ filter (λ x. p x && q x) xs) (filter (λ x. p x && q x) xs)
-    at true true e rest = rw e (ap (λ (ys : List A). x ∷ ys) rest)
-    at true false e rest = rw e rest
-    at false true e rest = rest
-    at false false e rest = rest
 
 pub live_counted : (places : List TokenPlace) (rows : List TokenRow) (grants : List GrantRow) (now : ℕ) → map token_in places ≡ rows → count_by (is_live_place now grants) places ≡ length (live_rows now grants rows)
 live_counted places rows grants now view =

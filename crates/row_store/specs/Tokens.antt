@@ -1,6 +1,6 @@
 -- Rows of tokens in the order of their serials, with values that begin with them.
 use Rattle.std.specs.Prelude.{ℕ, ◌≡◌, ◌+◌, ◌-◌, ◌^◌, ◌<◌, ◌==◌, Bool, not, ◌&&◌, List, map, if◌then◌else◌}
-use Rattle.std.specs.List.{All, AllPairs}
+use Rattle.std.specs.List.{All, AllPairs, list_any}
 use Rattle.std.specs.declared.option.Option.{Option}
 use Rattle.gnap_model.specs.Common.{Text, same_text, some_if}
 use Rattle.gnap_model.specs.Values.{value_text}
@@ -8,6 +8,8 @@ use Rattle.gnap_tables.specs.declared.rows.GrantRow.{GrantRow}
 use Rattle.gnap_tables.specs.declared.rows.TokenRow.{TokenRow}
 use Rattle.gnap_tables.specs.Tables.{with_retirement}
 use Rattle.gnap_tables.specs.RowSearches.{newest, is_live_row}
+use Rattle.gnap_tables.proofs.Lists.{HasItem}
+use Rattle.row_store.specs.declared.serials_by_grant.OwnedSerial.{OwnedSerial}
 use Rattle.row_store.specs.declared.token_table.TokenPlace.{TokenPlace}
 
 -- what contracts see of a table of tokens: its rows, and room for so many more
@@ -42,6 +44,29 @@ pub record IsTokenPlace (place : TokenPlace) : Type 0 where
 pub record AreTokenPlaces (places : List TokenPlace) : Type 0 where
   pub rows : AreTokenRows (map token_in places)
   pub each : All (λ (place : TokenPlace). IsTokenPlace place) places
+
+-- ---- serials by grants
+
+-- what contracts see of serials that are listed by grants, and room for so many more
+pub record ListedSerials : Type 0 where
+  pub owned : List OwnedSerial
+  pub spare : ℕ
+
+abbrev pub owned_serial : ℕ → ℕ → OwnedSerial
+owned_serial grant serial = record { grant = grant; serial = serial }
+
+abbrev pub owner : OwnedSerial → ℕ
+owner one = one.grant
+
+-- each place is listed under its grant
+abbrev pub AreListed : List OwnedSerial → List TokenPlace → Type 0
+AreListed owned places = All (λ (place : TokenPlace). HasItem owned (owned_serial place.grant place.serial)) places
+
+-- the place is the grant's, and its serial is among these
+abbrev pub is_among : ℕ → List OwnedSerial → TokenPlace → Bool
+is_among grant owned place = (grant == place.grant) && list_any (λ (one : OwnedSerial). one.serial == place.serial) owned
+
+-- ---- changes
 
 -- the row of this serial is marked, and what stands beside it stays
 pub record Marks (serial : ℕ) (old new : TokenPlace) : Type 0 where

@@ -8,6 +8,7 @@ pub mod changes;
 pub mod grant_table;
 pub mod interactions;
 pub mod serials;
+mod serials_by_grant;
 pub mod token_table;
 
 pub use changes::Change;

@@ -1,16 +1,18 @@
 //! The rows of tokens.
-ghost use Rattle.std.specs.Prelude.{◌≡◌, ◌+◌, ◌-◌, ◌*◌, ◌^◌, ◌<◌, ◌≤◌, [], ◌∷◌, ◌++◌, length, option_map, slice_get, OnOk, OnErr, if◌then◌else◌, ◌==◌};
+ghost use Rattle.std.specs.Prelude.{◌≡◌, ◌+◌, ◌-◌, ◌*◌, ◌^◌, ◌<◌, ◌≤◌, [], ◌∷◌, ◌++◌, length, filter, option_map, slice_get, vec_len, vec_capacity, OnOk, not, ◌&&◌, ◌==◌};
 ghost use Rattle.std.specs.Option.{option_and_then};
-ghost use Rattle.std.specs.List.{All, count_by};
+ghost use Rattle.std.specs.List.{All, AllPairs, count_by};
 ghost use Rattle.gnap_model.specs.Common.{same_text, some_if};
 ghost use Rattle.gnap_tables.specs.declared.rows.TokenRow.{TokenRow};
 ghost use Rattle.gnap_tables.specs.Tables.{sweep_tokens, drop_tokens_of, drop_token, change_token, with_retirement};
 ghost use Rattle.gnap_tables.specs.RowSearches.{row_by_manage, is_live_row, live_rows};
 ghost use Rattle.gnap_tables.specs.ActionsByRows.{pass_live, rows_of_others};
-ghost use Rattle.row_store.specs.Tokens.{AreTokenRows, IsTokenRow, row_by_value, token_in, is_live_place, is_live_elsewhere, Marks};
+ghost use Rattle.row_store.specs.Tokens.{AreTokenRows, IsTokenRow, row_by_value, token_in, is_live_place, is_live_elsewhere, is_among, Marks};
+ghost use Rattle.row_store.specs.declared.token_table.TokenPlace.{TokenPlace};
 
 use crate::grant_table::GrantTable;
 use crate::serials::serial_in_value;
+use crate::serials_by_grant::{OwnedSerial, SerialsByGrant};
 use gnap_io::memory::Mem;
 use gnap_tables::rows::TokenRow;
 use ordered_search::{Keyed, Steps, place, place_of};
@@ -37,21 +39,22 @@ impl Keyed for TokenPlace {
     }
 }
 
-/// The rows of the tokens that can be managed, in order of their serials.
+/// The rows of the tokens that can be managed, in order of their serials, with an index by their grants.
 #[derive(Drop)]
 pub struct TokenTable {
     places: Vec<TokenPlace>,
+    serials: SerialsByGrant,
 }
 
 impl Model for TokenTable {
-    ghost use Rattle.std.specs.Prelude.{map, ◌-◌, vec_len, vec_capacity};
-    ghost use Rattle.row_store.specs.Tokens.{StoredTokens, AreTokenPlaces, token_in};
+    ghost use Rattle.std.specs.Prelude.{map, ◌-◌, min, vec_len, vec_capacity};
+    ghost use Rattle.row_store.specs.Tokens.{StoredTokens, AreTokenPlaces, AreListed, token_in};
 
     ghost Value = { StoredTokens };
 
-    ghost view = { λ s. record { rows = map token_in s.places.items; spare = vec_capacity s.places - vec_len s.places } };
+    ghost view = { λ s. record { rows = map token_in s.places.items; spare = min (vec_capacity s.places - vec_len s.places) s.serials.spare } };
 
-    ghost invariant = { λ s. AreTokenPlaces s.places.items };
+    ghost invariant = { λ s. AreTokenPlaces s.places.items × AreListed s.serials.owned s.places.items };
 }
 
 // The row at a place.
@@ -120,6 +123,31 @@ fn mark(place: &mut TokenPlace, serial: u64)
     }
 }
 
+// Takes out the token with this serial, where it is the grant's.
+fn take_out(places: &mut Vec<TokenPlace>, grant: u64, serial: u64)
+    requires { AllPairs (λ (a b : TokenPlace). a.serial < b.serial) places.old.items }
+    ensures items { places.new.items ≡ filter (λ (place : TokenPlace). not ((grant == place.grant) && (serial == place.serial))) places.old.items }
+    ensures fewer { vec_len places.new ≤ vec_len places.old }
+    ensures capacity { vec_capacity places.new ≡ vec_capacity places.old }
+{
+    let at = place_of(places.as_slice(), serial);
+    if at < places.len() && places[at].serial == serial && places[at].grant == grant {
+        let _gone = places.remove(at);
+    }
+}
+
+// Takes out the tokens with these serials, where they are the grant's.
+fn take_out_all(places: &mut Vec<TokenPlace>, grant: u64, owned: &[OwnedSerial])
+    requires { AllPairs (λ (a b : TokenPlace). a.serial < b.serial) places.old.items }
+    ensures items { places.new.items ≡ filter (λ (place : TokenPlace). not (is_among grant owned.now place)) places.old.items }
+    ensures fewer { vec_len places.new ≤ vec_len places.old }
+    ensures capacity { vec_capacity places.new ≡ vec_capacity places.old }
+{
+    for one in owned {
+        take_out(places, grant, one.serial);
+    }
+}
+
 // The same search with a ledger of its own.
 fn find_from<'a, L: Ledger>(
     table: &'a TokenTable,
@@ -157,6 +185,7 @@ impl TokenTable {
     {
         TokenTable {
             places: Vec::new(alloc),
+            serials: SerialsByGrant::new(alloc),
         }
     }
 
@@ -168,16 +197,25 @@ impl TokenTable {
         self.places.len()
     }
 
-    /// Takes memory for so many rows more. An `Err` changes nothing.
+    // Leaves out of the index what no row has, where it is longer than twice the rows.
+    fn drop_former(&mut self)
+        ensures { self.new.rows ≡ self.old.rows }
+    {
+        if self.serials.len() / 2 > self.places.len() {
+            self.serials.drop_missing(self.places.as_slice());
+        }
+    }
+
+    /// Takes memory for so many rows more. An `Err` changes no row.
     pub fn reserve(&mut self, more: usize) -> Result<(), Mem>
         ensures rows { self.new.rows ≡ self.old.rows }
         ensures ok { OnOk result (more ≤ self.new.spare) }
-        ensures err { OnErr result (self.new ≡ self.old) }
     {
+        self.drop_former();
         if self.places.reserve(more).is_err() {
             return Err(Mem);
         }
-        Ok(())
+        self.serials.reserve(more)
     }
 
     /// Appends a row, which has a greater serial than all. Takes no memory.
@@ -193,6 +231,7 @@ impl TokenTable {
             grant: row.grant,
             row,
         };
+        self.serials.list(place.grant, place.serial);
         self.places.push_reserved(place);
     }
 
@@ -295,7 +334,7 @@ impl TokenTable {
         ensures rows { self.new.rows ≡ drop_tokens_of grant self.old.rows }
         ensures spare { self.old.spare ≤ self.new.spare }
     {
-        self.places.retain(|place| grant != place.grant);
+        take_out_all(&mut self.places, grant, self.serials.of(grant));
     }
 
     /// Takes out the tokens whose grant isn't among these. Takes no memory.

@@ -13,4 +13,4 @@ returns-then-len-more c =
 
 pub returns : goal.returns
 returns c = limit_moved c.live_elsewhere.result (length (rows_of_others c.args.number (live_rows c.args.now c.args.grants.now.rows c.args.self.now.rows))) c.args.more
-    (c.live_elsewhere.ensures ∙ others_counted c.as_slice.result.now c.args.self.now.rows c.args.grants.now.rows c.args.number c.args.now (ap (map token_in) c.as_slice.ensures.value ∙ (ap (λ (s : StoredTokens). s.rows) c.self.view_is)) (subst AreTokenPlaces (sym c.as_slice.ensures.value) c.self.invariant)) c.requires
+    (c.live_elsewhere.ensures ∙ others_counted c.as_slice.result.now c.args.self.now.rows c.args.grants.now.rows c.args.number c.args.now (ap (map token_in) c.as_slice.ensures.value ∙ (ap (λ (s : StoredTokens). s.rows) c.self.view_is)) (subst AreTokenPlaces (sym c.as_slice.ensures.value) c.self.invariant.0)) c.requires
