@@ -26,7 +26,7 @@ pub(crate) struct SerialsByGrant {
 
 impl Model for SerialsByGrant {
     ghost use Rattle.std.specs.Prelude.{◌-◌, vec_len, vec_capacity};
-    ghost use Rattle.core.specs.List.Sorted.{IsNonDecreasingBy};
+    ghost use Rattle.std.specs.List.Sorted.{IsNonDecreasingBy};
     ghost use Rattle.row_store.specs.Tokens.{ListedSerials, owner};
 
     ghost Value = { ListedSerials };
