@@ -340,23 +340,24 @@ one_more places grant owned one =
 pub none_yet : (places : List TokenPlace) (grant : ℕ) → places ≡ filter (λ (p : TokenPlace). not (is_among grant [] p)) places
 none_yet places grant = all_stay (is_among grant []) places (λ p h e. let both = both_true (grant == p.grant) false e in cc both.1)
 
+-- an item has its own key
+any_with_key : {A : Type 0} (key : A → ℕ) (xs : List A) (z : A) → HasItem xs z → list_any (λ x. key x == key z) xs ≡ true
+any_with_key key [] z h = absurd h
+any_with_key key (x ∷ xs) z (inl e) = rw (subst (λ n. (n == key z) ≡ true) (ap key e) (eqb-self (key z))) refl
+any_with_key {A} key (x ∷ xs) z (inr h) = either (key x == key z) (any_with_key key xs z h)
+  where
+    either : (b : Bool) → list_any (λ (y : A). key y == key z) xs ≡ true → (b || list_any (λ (y : A). key y == key z) xs) ≡ true
+    either true e = refl
+    either false e = e
+
 -- What stands under the grant are all tokens of it.
 pub all_of_grant : (places : List TokenPlace) (owned run : List OwnedSerial) (grant : ℕ) → AreListed owned places → ((one : OwnedSerial) → HasItem owned one → one.grant ≡ grant → HasItem run one)
     → filter (λ (p : TokenPlace). not (is_among grant run p)) places ≡ filter (λ (p : TokenPlace). not (grant == p.grant)) places
 all_of_grant places owned run grant listed all =
     filter_agrees (λ (p : TokenPlace). not (is_among grant run p)) (λ (p : TokenPlace). not (grant == p.grant)) places (λ p h. ap not (same p h (grant == p.grant) refl))
   where
-    found : (p : TokenPlace) (os : List OwnedSerial) → HasItem os (owned_serial p.grant p.serial) → list_any (λ (o : OwnedSerial). o.serial == p.serial) os ≡ true
-    found p [] h = absurd h
-    found p (o ∷ os) (inl e) = let s : o.serial ≡ p.serial = ap (λ (x : OwnedSerial). x.serial) (sym e) in rw (subst (λ n. (n == p.serial) ≡ true) (sym s) (eqb-self p.serial)) refl
-    found p (o ∷ os) (inr h) = either (o.serial == p.serial) (found p os h)
-      where
-        either : (b : Bool) → list_any (λ (o : OwnedSerial). o.serial == p.serial) os ≡ true → (b || list_any (λ (o : OwnedSerial). o.serial == p.serial) os) ≡ true
-        either true e = refl
-        either false e = e
-
     same : (p : TokenPlace) → HasItem places p → (b : Bool) → (grant == p.grant) ≡ b → (b && list_any (λ (o : OwnedSerial). o.serial == p.serial) run) ≡ b
-    same p h true e = found p run (all (owned_serial p.grant p.serial) (item_all (λ (q : TokenPlace). HasItem owned (owned_serial q.grant q.serial)) places p listed h) (sym (eqb-true grant p.grant e)))
+    same p h true e = any_with_key (λ (o : OwnedSerial). o.serial) run (owned_serial p.grant p.serial) (all (owned_serial p.grant p.serial) (item_all (λ (q : TokenPlace). HasItem owned (owned_serial q.grant q.serial)) places p listed h) (sym (eqb-true grant p.grant e)))
     same p h false e = refl
 
 -- what is left is listed
@@ -385,19 +386,10 @@ pub listed_still : (owned : List OwnedSerial) (slice places : List TokenPlace) �
 listed_still owned slice places same listed k d inside =
     kept owned (get_or places k d) (item_in places k d inside) (listed k d inside)
   where
-    here : (p : TokenPlace) (ps : List TokenPlace) → HasItem ps p → list_any (λ (q : TokenPlace). q.serial == p.serial) ps ≡ true
-    here p [] h = absurd h
-    here p (q ∷ qs) (inl e) = let s : q.serial ≡ p.serial = ap (λ (x : TokenPlace). x.serial) (sym e) in rw (subst (λ n. (n == p.serial) ≡ true) (sym s) (eqb-self p.serial)) refl
-    here p (q ∷ qs) (inr h) = either (q.serial == p.serial) (here p qs h)
-      where
-        either : (b : Bool) → list_any (λ (q : TokenPlace). q.serial == p.serial) qs ≡ true → (b || list_any (λ (q : TokenPlace). q.serial == p.serial) qs) ≡ true
-        either true e = refl
-        either false e = e
-
     kept : (os : List OwnedSerial) (p : TokenPlace) → HasItem places p → HasItem os (owned_serial p.grant p.serial) → HasItem (filter (λ (one : OwnedSerial). list_any (λ (q : TokenPlace). q.serial == one.serial) slice) os) (owned_serial p.grant p.serial)
     kept [] p h l = absurd l
     kept (o ∷ os) p h (inl e) = subst (λ b. HasItem (cond b (o ∷ filter (λ (one : OwnedSerial). list_any (λ (q : TokenPlace). q.serial == one.serial) slice) os) (filter (λ (one : OwnedSerial). list_any (λ (q : TokenPlace). q.serial == one.serial) slice) os)) (owned_serial p.grant p.serial))
-        (sym (subst (λ (x : OwnedSerial). list_any (λ (q : TokenPlace). q.serial == x.serial) slice ≡ true) e (here p slice (subst (λ (ps : List TokenPlace). HasItem ps p) (sym same) h)))) (inl e)
+        (sym (subst (λ (x : OwnedSerial). list_any (λ (q : TokenPlace). q.serial == x.serial) slice ≡ true) e (any_with_key (λ (q : TokenPlace). q.serial) slice p (subst (λ (ps : List TokenPlace). HasItem ps p) (sym same) h)))) (inl e)
     kept (o ∷ os) p h (inr l) = either (list_any (λ (q : TokenPlace). q.serial == o.serial) slice) (kept os p h l)
       where
         either : (b : Bool) → HasItem (filter (λ (one : OwnedSerial). list_any (λ (q : TokenPlace). q.serial == one.serial) slice) os) (owned_serial p.grant p.serial)
