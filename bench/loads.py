@@ -3,14 +3,18 @@
 
     bench/loads.py [GRANTS]
 
-For 1, 2, 4, 8, 16 and 64 workers: so many grants, 100,000 where no number is given, the best of three runs. Of each grant there are five calls, and of each
-second one two more. The start of the program is counted in. The program is ./gnap, or the one that GNAP names.
+For 1, 2, 4, 8, 16 and 64 workers, in turns: so many grants, 100,000 where no number is given. Printed are the best of eight runs and the median. Of each
+grant there are five calls, and of each second one two more. The start of the program is counted in. The program is ./gnap, or the one that GNAP names.
 """
 
 import os
+import statistics
 import subprocess
 import sys
 import time
+
+WORKERS = (1, 2, 4, 8, 16, 64)
+RUNS = 8
 
 
 def told(grants):
@@ -18,16 +22,13 @@ def told(grants):
     return f"grants {grants} active {2 * grants} inactive {grants + ended} cancelled {ended}\n"
 
 
-def best_time(program, grants, workers):
-    best = None
-    for _ in range(3):
-        start = time.perf_counter()
-        done = subprocess.run([program, "load", str(grants), "7", str(workers)], stdout=subprocess.PIPE, text=True, check=True)
-        took = time.perf_counter() - start
-        best = took if best is None else min(best, took)
-        if done.stdout != told(grants):
-            raise SystemExit(f"not what a load has to tell: {done.stdout!r}")
-    return best
+def time_of(program, grants, workers):
+    start = time.perf_counter()
+    done = subprocess.run([program, "load", str(grants), "7", str(workers)], stdout=subprocess.PIPE, text=True, check=True)
+    took = time.perf_counter() - start
+    if done.stdout != told(grants):
+        raise SystemExit(f"not what a load has to tell: {done.stdout!r}")
+    return took
 
 
 def main():
@@ -35,9 +36,13 @@ def main():
     grants = int(sys.argv[1]) if len(sys.argv) > 1 else 100_000
     calls = 5 * grants + 2 * ((grants + 1) // 2)
     print(f"{os.cpu_count()} processors, {calls} calls")
-    for workers in (1, 2, 4, 8, 16, 64):
-        took = best_time(program, grants, workers)
-        print(f"{workers:3} workers: {calls / took:,.0f} calls a second, {took:.2f} s", flush=True)
+    times = {workers: [] for workers in WORKERS}
+    for _ in range(RUNS):
+        for workers in WORKERS:
+            times[workers].append(time_of(program, grants, workers))
+    for workers, took in times.items():
+        best, middle = calls / min(took), calls / statistics.median(took)
+        print(f"{workers:3} workers: {best:,.0f} calls a second at best, {middle:,.0f} by the median", flush=True)
 
 
 if __name__ == "__main__":
