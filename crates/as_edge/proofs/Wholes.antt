@@ -5,7 +5,7 @@ use Rattle.gnap_io.specs.declared.message.Message.{Message}
 use Rattle.histories.specs.Turns.{Turn, IsTurn}
 use Rattle.http_edge.specs.declared.fault.EdgeFault.{EdgeFault}
 use Rattle.gnap_model.specs.declared.objects.Setup.{Setup}
-use Rattle.gnap_history.specs.Gnap.{GnapEntry, gnap}
+use Rattle.grant_machine.specs.Gnap.{GnapEntry, gnap}
 use Rattle.serving.specs.Connections.{AreMessages, Finishes, whole, cut_response, cut_closing, Session}
 use Rattle.serving.specs.declared.ends.ConnectionEnd.{ConnectionEnd}
 use Rattle.as_edge.specs.EdgeFace.{edge_face}

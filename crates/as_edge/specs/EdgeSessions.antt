@@ -6,8 +6,8 @@ use Rattle.histories.specs.Turns.{Turn, IsTurn, messages_in, bytes_in}
 use Rattle.http_edge.specs.declared.fault.EdgeFault.{EdgeFault}
 use Rattle.gnap_model.specs.declared.objects.Setup.{Setup}
 use Rattle.gnap_objects.specs.CallsFit.{ReplyFits}
-use Rattle.gnap_history.specs.Gnap.{GnapEntry, gnap}
-use Rattle.gnap_history.proofs.FitsThrough.{replies_fit}
+use Rattle.grant_machine.specs.Gnap.{GnapEntry, gnap}
+use Rattle.grant_machine.proofs.FitsThrough.{replies_fit}
 use Rattle.serving.specs.Connections.{AreMessages, AreTurns, Ends, Session}
 use Rattle.serving.specs.MessageSteps.{SaysAllReplies}
 use Rattle.serving.specs.declared.ends.ConnectionEnd.{ConnectionEnd}

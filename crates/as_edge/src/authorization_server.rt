@@ -4,12 +4,12 @@ ghost use Rattle.as_edge.specs.EdgeWire.{no_message};
 
 use crate::replies::{ReadyReply, http_reply, print_direct, write_whole};
 use as_requests::{Edge, RequestStep, desk_call};
-use gnap_history::Gnap;
 use gnap_io::device::{Failed, Sink, Source};
 use gnap_io::gear::{Clock, Draws};
 use gnap_io::memory::Mem;
 use gnap_io::message::Message;
 use gnap_model::calls::{Call, Reply};
+use grant_machine::Gnap;
 use histories::machine::Desk;
 use http_edge::{EdgeFault, Held, HttpReply, fault_reply};
 use serving::connection::serve_connection;

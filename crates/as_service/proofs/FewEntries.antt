@@ -11,8 +11,8 @@ use Rattle.histories.specs.Whole.{OneHistory}
 use Rattle.serving.specs.Workers.{HaveServedAll, accounts_of}
 use Rattle.serving.proofs.EntryCounts.{connections_of, history_few, session_few}
 use Rattle.gnap_model.specs.declared.objects.Setup.{Setup}
-use Rattle.gnap_history.specs.Gnap.{GnapEntry, gnap}
-use Rattle.gnap_history.specs.Laws.{WhatHolds}
+use Rattle.grant_machine.specs.Gnap.{GnapEntry, gnap}
+use Rattle.grant_machine.specs.Laws.{WhatHolds}
 use Rattle.as_edge.specs.EdgeFace.{edge_face}
 use Rattle.as_edge.specs.EdgeSessions.{IsEdgeSession}
 use Rattle.as_edge.specs.EdgeWire.{edge_wire}

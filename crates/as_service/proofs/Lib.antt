@@ -1,3 +1,2 @@
-pub mod UsedUp
 pub mod TakenBack
 mod FewEntries

@@ -12,10 +12,11 @@ use Rattle.histories.specs.Whole.{OneHistory}
 use Rattle.serving.specs.Workers.{accounts_of}
 use Rattle.serving.proofs.EntryCounts.{connections_of}
 use Rattle.gnap_model.specs.declared.objects.Setup.{Setup}
-use Rattle.gnap_history.specs.Gnap.{GnapEntry, gnap}
-use Rattle.gnap_history.specs.Laws.{WhatHolds}
+use Rattle.grant_machine.specs.Gnap.{GnapEntry, gnap}
+use Rattle.grant_machine.specs.Laws.{WhatHolds}
 use Rattle.as_edge.specs.EdgeSessions.{IsEdgeSession}
-use Rattle.as_service.specs.Services.{IsService, IsEndOfService, served}
+use Rattle.serving.specs.ServiceEnds.{IsEndOfService}
+use Rattle.as_service.specs.Services.{IsService, served}
 use Rattle.as_service.proofs.FewEntries.{history_holds}
 
 pub taken_back : {Done G : Type 0} (state : G → GearState) (setup : Setup) (address : List ℕ) (n quota : ℕ) (result : Result Done WorldFault)

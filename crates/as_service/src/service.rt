@@ -2,16 +2,17 @@
 ghost use Rattle.std.specs.Prelude.{◌≡◌, ◌≤◌};
 ghost use Rattle.std.specs.List.{list_any};
 ghost use Rattle.gnap_objects.specs.Setups.{IsSetup};
-ghost use Rattle.as_service.specs.Services.{has_failed, IsService};
+ghost use Rattle.serving.specs.ServiceEnds.{has_failed};
+ghost use Rattle.as_service.specs.Services.{IsService};
 
 use as_edge::AuthorizationServer;
 use as_requests::Edge;
-use gnap_history::laws::what_holds;
 use gnap_io::bytes::Bytes;
 use gnap_io::gear::{Counted, Door};
 use gnap_io::memory::{Duplicate, Mem};
 use gnap_io::world::{World, WorldFault};
 use gnap_model::objects::Setup;
+use grant_machine::laws::what_holds;
 use serving::threads::serve_gears;
 use std::alloc::Global;
 use std::sync::Wait;

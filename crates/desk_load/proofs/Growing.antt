@@ -9,7 +9,7 @@ use Rattle.histories.proofs.OwnEntries.{own-next, places_own}
 use Rattle.gnap_model.specs.declared.calls.Call.{Call}
 use Rattle.gnap_model.specs.declared.calls.Reply.{Reply}
 use Rattle.gnap_model.specs.declared.objects.Setup.{Setup}
-use Rattle.gnap_history.specs.Gnap.{gnap, GnapEntry}
+use Rattle.grant_machine.specs.Gnap.{gnap, GnapEntry}
 use Rattle.desk_load.specs.declared.tally.Tally.{Tally}
 use Rattle.desk_load.specs.LoadCalls.{opening_call, question_about, rotation_of, cancellation_of, calls_after, calls_through}
 use Rattle.desk_load.specs.Tallies.{count_by, one_if_active, one_if_inactive, one_if_done, tally_of, tally_of_reply, none_counted, Adds}

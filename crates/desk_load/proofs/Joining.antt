@@ -13,7 +13,7 @@ use Rattle.histories.proofs.OwnEntries.{own-all, own-others}
 use Rattle.shared_server.specs.Passes.{Sharing, PassState, IsPassOf, AreAll}
 use Rattle.gnap_model.specs.declared.objects.Setup.{Setup}
 use Rattle.gnap_model.specs.declared.calls.Reply.{Reply}
-use Rattle.gnap_history.specs.Gnap.{gnap, GnapEntry}
+use Rattle.grant_machine.specs.Gnap.{gnap, GnapEntry}
 use Rattle.desk_load.specs.declared.tally.Tally.{Tally}
 use Rattle.desk_load.specs.LoadCalls.{load_setup}
 use Rattle.desk_load.specs.Loads.{IsLoad, IsShare, PutsThrough, shares_from}

@@ -6,7 +6,7 @@ use Rattle.histories.specs.History.{Legal}
 use Rattle.histories.specs.Histories.{legal-nil}
 use Rattle.shared_server.specs.Passes.{StationState}
 use Rattle.gnap_model.specs.declared.objects.Setup.{Setup}
-use Rattle.gnap_history.specs.Gnap.{gnap, GnapEntry}
+use Rattle.grant_machine.specs.Gnap.{gnap, GnapEntry}
 use Rattle.desk_load.specs.declared.tally.Tally.{Tally}
 use Rattle.desk_load.specs.Loads.{HasRoom, PutsThrough, IsShare}
 use Rattle.desk_load.specs.Sharing.{HasCounted}

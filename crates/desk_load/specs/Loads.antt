@@ -6,7 +6,7 @@ use Rattle.histories.specs.Whole.{OneHistory, own_of}
 use Rattle.gnap_model.specs.declared.calls.Call.{Call}
 use Rattle.gnap_model.specs.declared.calls.Call.TheVariants.{Lapse}
 use Rattle.gnap_model.specs.declared.calls.Reply.{Reply}
-use Rattle.gnap_history.specs.Gnap.{gnap, GnapEntry, GnapFits}
+use Rattle.grant_machine.specs.Gnap.{gnap, GnapEntry, GnapFits}
 use Rattle.desk_load.specs.declared.tally.Tally.{Tally}
 use Rattle.desk_load.specs.LoadCalls.{load_setup, calls_after, calls_through}
 use Rattle.desk_load.specs.Tallies.{none_counted, tally_of, Adds}

@@ -6,7 +6,7 @@ use Rattle.gnap_io.specs.declared.memory.Mem.{Mem}
 use Rattle.histories.specs.Whole.{own_of}
 use Rattle.shared_server.specs.Passes.{Sharing, PassState, StationState, IsPassOf}
 use Rattle.gnap_model.specs.declared.objects.Setup.{Setup}
-use Rattle.gnap_history.specs.Gnap.{GnapEntry}
+use Rattle.grant_machine.specs.Gnap.{GnapEntry}
 use Rattle.desk_load.specs.declared.tally.Tally.{Tally}
 use Rattle.desk_load.specs.Loads.{IsShare}
 use Rattle.desk_load.specs.Tallies.{counted_in, none_counted, tally_of, Adds, sum_of_tallies}

@@ -2,7 +2,7 @@
 use Rattle.std.specs.Prelude.{◌≡◌, ℕ, ◌+◌, List, [], ◌∷◌}
 use Rattle.gnap_model.specs.declared.calls.Reply.{Reply}
 use Rattle.gnap_model.specs.declared.calls.Reply.TheVariants.{Active, Inactive, Done}
-use Rattle.gnap_history.specs.Gnap.{GnapEntry}
+use Rattle.grant_machine.specs.Gnap.{GnapEntry}
 use Rattle.desk_load.specs.declared.tally.Tally.{Tally}
 
 abbrev pub one_if_active : Reply → ℕ

@@ -5,9 +5,9 @@ ghost use Rattle.desk_load.specs.Tallies.{counted_in};
 
 use crate::tally::Tally;
 use crate::words::Words;
-use gnap_history::Gnap;
 use gnap_io::memory::Mem;
 use gnap_model::calls::{Call, Reply};
+use grant_machine::Gnap;
 use histories::machine::Desk;
 
 /// The moment of all calls.

@@ -3,15 +3,15 @@ ghost use Rattle.std.specs.Prelude.{◌≡◌, ◌<◌, ◌≤◌, ℕ, List, []
 ghost use Rattle.histories.specs.History.{Legal};
 ghost use Rattle.histories.specs.Whole.{Joined};
 ghost use Rattle.shared_server.specs.Passes.{AreAll, AreNew};
-ghost use Rattle.gnap_history.specs.Gnap.{gnap};
+ghost use Rattle.grant_machine.specs.Gnap.{gnap};
 ghost use Rattle.desk_load.specs.LoadCalls.{load_setup};
 ghost use Rattle.desk_load.specs.Loads.{IsLoad};
 ghost use Rattle.desk_load.specs.Sharing.{IsSameWorker, AreWorkers, HaveDone};
 
 use crate::tally::Tally;
 use crate::worker::Worker;
-use gnap_history::Gnap;
 use gnap_io::memory::Mem;
+use grant_machine::Gnap;
 use histories::machine::Core;
 use shared_server::shared::{Pass, Shared, close};
 use std::alloc::Global;

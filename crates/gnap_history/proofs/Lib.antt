@@ -1,9 +1,6 @@
 pub mod Acting
-pub mod ActionsFit
 pub mod Bounds
 pub mod Counts
-pub mod FitsThrough
-pub mod FoundFits
 pub mod Holders
 pub mod Interactions
 pub mod Deciding
@@ -12,4 +9,3 @@ pub mod Modifying
 pub mod Retiring
 pub mod Supplied
 pub mod Terms
-pub mod Weaker

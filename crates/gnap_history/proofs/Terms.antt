@@ -17,7 +17,7 @@ use Rattle.gnap_model.specs.declared.notes.OpeningNote.{OpeningNote}
 use Rattle.gnap_model.specs.declared.notes.TokenNote.{TokenNote}
 use Rattle.gnap_model.proofs.Causes.{Cause, cause_of, IsBegin, IsModify}
 use Rattle.gnap_history.specs.Terms.{AsksForFew, AskForFew}
-use Rattle.gnap_history.proofs.FoundFits.{all-append, if_both}
+use Rattle.grant_machine.proofs.FoundFits.{all-append, if_both}
 
 issued_few : (tokens : List TokenNote) → AskForFew (map Issued tokens)
 issued_few [] = tt

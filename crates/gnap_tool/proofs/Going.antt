@@ -7,7 +7,7 @@ use Rattle.histories.proofs.LogLemmas.{entries_few}
 use Rattle.histories.proofs.OwnEntries.{places_own}
 use Rattle.histories.proofs.TurnLemmas.{entries_in-next, each-next}
 use Rattle.gnap_model.specs.declared.objects.Setup.{Setup}
-use Rattle.gnap_history.specs.Gnap.{GnapEntry, gnap}
+use Rattle.grant_machine.specs.Gnap.{GnapEntry, gnap}
 use Rattle.gnap_tool.specs.declared.answering.After.{After}
 use Rattle.gnap_tool.specs.declared.ended.Ended.{Ended}
 use Rattle.gnap_tool.specs.LineRuns.{EndsAs}

@@ -14,7 +14,8 @@ use Rattle.gnap_io.specs.Worlds.{WorldState, with_opening, with_gears}
 use Rattle.gnap_io.specs.Openings.{Gives, gears_in, new_files}
 use Rattle.gnap_io.proofs.OpeningLemmas.{gives-gears, back-all}
 use Rattle.gnap_model.specs.declared.objects.Setup.{Setup}
-use Rattle.as_service.specs.Services.{has_failed, IsUsedUp, IsEndOfService, IsService, not_started, served}
+use Rattle.serving.specs.ServiceEnds.{has_failed, IsUsedUp, IsEndOfService}
+use Rattle.as_service.specs.Services.{IsService, not_started, served}
 use Rattle.gnap_tool.specs.declared.ended.Ended.{Ended}
 use Rattle.gnap_tool.specs.declared.ended.Ended.TheVariants.{Done, Failed, Memory}
 use Rattle.gnap_tool.specs.Runs.{ended_service, NothingFailed, UsesWorld, new_openings}

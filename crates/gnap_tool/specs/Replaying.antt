@@ -4,7 +4,7 @@ use Rattle.gnap_io.specs.Outside.{Told}
 use Rattle.histories.specs.Turns.{Each, entries_in}
 use Rattle.histories.specs.Whole.{own_of}
 use Rattle.gnap_model.specs.declared.objects.Setup.{Setup}
-use Rattle.gnap_history.specs.Gnap.{GnapEntry}
+use Rattle.grant_machine.specs.Gnap.{GnapEntry}
 use Rattle.gnap_tool.specs.declared.answering.After.{After}
 use Rattle.gnap_tool.specs.declared.ended.Ended.{Ended}
 use Rattle.gnap_tool.specs.LineRuns.{GoesBy, Prints, EndsAs, GoesOn, RunsLines}

@@ -8,8 +8,8 @@ use Rattle.gnap_model.specs.declared.calls.Call.{Call}
 use Rattle.gnap_model.specs.declared.calls.Reply.{Reply}
 use Rattle.gnap_objects.specs.Setups.{setup_of}
 use Rattle.gnap_objects.specs.declared.setups.SetupFault.{SetupFault}
-use Rattle.gnap_history.specs.Gnap.{GnapEntry, gnap}
-use Rattle.gnap_history.specs.Laws.{WhatHolds}
+use Rattle.grant_machine.specs.Gnap.{GnapEntry, gnap}
+use Rattle.grant_machine.specs.Laws.{WhatHolds}
 use Rattle.gnap_tool.specs.declared.call_lines.LineStep.TheVariants.{Say, Ask}
 use Rattle.gnap_tool.specs.declared.ended.Ended.{Ended}
 use Rattle.gnap_tool.specs.declared.ended.Ended.TheVariants.{Done, NoSetup, Failed, WriteFault, Memory, Refused, TooLong}

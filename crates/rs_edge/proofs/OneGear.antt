@@ -9,8 +9,8 @@ use Rattle.gnap_io.specs.declared.world.Opening.TheVariants as opening
 use Rattle.gnap_io.specs.declared.world.WorldFault.{WorldFault}
 use Rattle.gnap_io.specs.declared.world.WorldFault.TheVariants as faults
 use Rattle.serving.specs.Workers.{HasServedAll}
-use Rattle.as_service.specs.Services.{has_failed, IsUsedUp}
-use Rattle.as_service.proofs.UsedUp.{used_up}
+use Rattle.serving.specs.ServiceEnds.{has_failed, IsUsedUp}
+use Rattle.serving.proofs.UsedUp.{used_up}
 use Rattle.resource_server.specs.declared.setup.RsSetup.{RsSetup}
 use Rattle.rs_edge.specs.RsSessions.{IsRsAccount}
 use Rattle.rs_edge.specs.RsServices.{ServesOneGear, IsRsService, not_started, served}

@@ -5,7 +5,7 @@ use Rattle.gnap_io.specs.Links.{LinkState, new_link}
 use Rattle.gnap_io.specs.Worlds.{WorldState, HasWorldCause, with_opening, with_gears, with_link}
 use Rattle.gnap_io.specs.declared.world.Opening.TheVariants as opening
 use Rattle.gnap_io.specs.declared.world.WorldFault.{WorldFault}
-use Rattle.as_service.specs.Services.{has_failed, IsUsedUp, IsEndOfService}
+use Rattle.serving.specs.ServiceEnds.{has_failed, IsUsedUp, IsEndOfService}
 use Rattle.resource_server.specs.declared.setup.RsSetup.{RsSetup}
 use Rattle.rs_edge.specs.RsSessions.{IsRsAccount}
 

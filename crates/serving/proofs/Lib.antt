@@ -4,3 +4,4 @@ pub mod WorkerLemmas
 mod Starting
 mod Ending
 pub mod EntryCounts
+pub mod UsedUp

@@ -3,3 +3,4 @@ pub mod Reading
 pub mod MessageSteps
 pub mod MessageTurns
 pub mod Workers
+pub mod ServiceEnds

@@ -13,8 +13,8 @@ use Rattle.gnap_tables.specs.Tables.{Tables, sweep, after_notes}
 use Rattle.gnap_tables.specs.ActionsByRows.{row_action, row_supply}
 use Rattle.gnap_tables.specs.StandsFor.{Kept, kept_of, machine_of, StandsByRows, at_moment, row_answer, with_notes}
 use Rattle.gnap_tables.proofs.TablesThroughCalls.{swept_is, FitFew, answers-by_rows, lapses-by_rows, unswept}
-use Rattle.gnap_history.specs.Gnap.{GnapFits}
-use Rattle.gnap_history.proofs.Weaker.{grant_legal}
+use Rattle.grant_machine.specs.Gnap.{GnapFits}
+use Rattle.grant_machine.proofs.Weaker.{grant_legal}
 use Rattle.row_store.specs.Grants.{StoredGrants}
 use Rattle.row_store.specs.Tokens.{StoredTokens}
 use Rattle.table_core.specs.CallEffects.{ActsBy, HasRoom, tables_in, kept_in, moved}

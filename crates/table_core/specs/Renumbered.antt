@@ -4,7 +4,7 @@ use Rattle.histories.specs.History.{Renumbered}
 use Rattle.gnap_model.specs.declared.objects.Setup.{Setup}
 use Rattle.gnap_model.specs.Notes.{Event}
 use Rattle.gnap_tables.proofs.TablesThroughCalls.{rows-renumbered}
-use Rattle.gnap_history.specs.Gnap.{GnapFits}
+use Rattle.grant_machine.specs.Gnap.{GnapFits}
 use Rattle.row_store.specs.Grants.{StoredGrants}
 use Rattle.row_store.specs.Tokens.{StoredTokens}
 use Rattle.table_core.specs.CallEffects.{kept_in}

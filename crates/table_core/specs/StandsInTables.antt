@@ -3,7 +3,7 @@ use Rattle.std.specs.Prelude.{ℕ, ◌≤◌, List}
 use Rattle.gnap_model.specs.declared.objects.Setup.{Setup}
 use Rattle.gnap_model.specs.Notes.{Event}
 use Rattle.gnap_tables.specs.StandsFor.{StandsByRows}
-use Rattle.gnap_history.specs.Gnap.{GnapFits}
+use Rattle.grant_machine.specs.Gnap.{GnapFits}
 use Rattle.row_store.specs.Grants.{StoredGrants}
 use Rattle.row_store.specs.Tokens.{StoredTokens}
 use Rattle.table_core.specs.CallEffects.{kept_in}

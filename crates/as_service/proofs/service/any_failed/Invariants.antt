@@ -1,6 +1,6 @@
 use Rattle.std.proofs.Common.{◌≡◌, drop}
 use Rattle.std.specs.List.{list_any}
-use Rattle.as_service.specs.Services.{has_failed}
+use Rattle.serving.specs.ServiceEnds.{has_failed}
 use Rattle.as_service.proofs.service.any_failed.Given as goal
 
 abbrev pub invariant-loop-gear : goal.invariant-loop-gear

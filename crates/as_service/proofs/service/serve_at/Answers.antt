@@ -7,12 +7,13 @@ use Rattle.std.proofs.lemmas.List.Elements.{All-map}
 use Rattle.gnap_io.specs.Gears.{IsUnused}
 use Rattle.gnap_io.specs.declared.world.WorldFault.TheVariants.{OutOfMemory}
 use Rattle.gnap_model.specs.declared.objects.Setup.{Setup}
-use Rattle.gnap_history.specs.Gnap.{gnap}
+use Rattle.grant_machine.specs.Gnap.{gnap}
 use Rattle.histories.specs.Whole.{OneHistory}
 use Rattle.serving.specs.Workers.{accounts_of}
 use Rattle.as_edge.specs.EdgeSessions.{IsEdgeSession}
-use Rattle.as_service.specs.Services.{has_failed, not_started}
-use Rattle.as_service.proofs.UsedUp.{any_counted, used_up}
+use Rattle.serving.specs.ServiceEnds.{has_failed}
+use Rattle.as_service.specs.Services.{not_started}
+use Rattle.serving.proofs.UsedUp.{any_counted, used_up}
 use Rattle.as_service.proofs.FewEntries.{unused_few, started_few}
 use Rattle.as_service.proofs.TakenBack.{taken_back}
 use Rattle.as_service.proofs.service.serve_at.Goals as goal

@@ -1,6 +1,6 @@
 use Rattle.std.proofs.Common.{◌∙◌, [], subst, arith}
 use Rattle.histories.specs.History.{Legal}
-use Rattle.gnap_history.specs.Gnap.{gnap}
+use Rattle.grant_machine.specs.Gnap.{gnap}
 use Rattle.desk_load.proofs.Joining.{load_of_one}
 use Rattle.desk_load.proofs.alone.put_load_alone.Goals as goal
 

@@ -3,7 +3,7 @@ use mathlib.Core.Option.{some}
 use lib.ListN.{get_elem?}
 use Rattle.shared_server.specs.Passes.{StationState}
 use Rattle.gnap_model.specs.declared.objects.Setup.{Setup}
-use Rattle.gnap_history.specs.Gnap.{GnapEntry}
+use Rattle.grant_machine.specs.Gnap.{GnapEntry}
 use Rattle.desk_load.specs.Sharing.{WorkerState, IsWorker}
 use Rattle.desk_load.proofs.Joining.{each-next, next_at, parts-next, size-next}
 use Rattle.desk_load.proofs.workers.start_workers.Goals as goal

@@ -2,8 +2,8 @@ use Rattle.std.proofs.Common.{◌∙◌, ℕ, List, [], ◌++◌, ap, sym, subst
 use Rattle.histories.specs.History.{Legal, entry_of}
 use Rattle.gnap_model.specs.declared.objects.Setup.{Setup}
 use Rattle.gnap_model.specs.declared.calls.Call.TheVariants.{Lapse}
-use Rattle.gnap_history.specs.Gnap.{GnapEntry, gnap}
-use Rattle.gnap_history.proofs.FitsThrough.{entered_fits}
+use Rattle.grant_machine.specs.Gnap.{GnapEntry, gnap}
+use Rattle.grant_machine.proofs.FitsThrough.{entered_fits}
 use Rattle.gnap_tool.specs.CallLines.{line_step}
 use Rattle.gnap_tool.specs.ReplyLines.{reply_line}
 use Rattle.histories.specs.Turns.{direct, called, starved, lapsed, unsaid}

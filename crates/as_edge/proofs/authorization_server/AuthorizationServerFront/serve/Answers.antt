@@ -1,6 +1,6 @@
 use Rattle.histories.specs.Turns.{IsTurn}
 use Rattle.histories.proofs.LogLemmas.{serves-so}
-use Rattle.gnap_history.specs.Gnap.{gnap}
+use Rattle.grant_machine.specs.Gnap.{gnap}
 use Rattle.serving.specs.Connections.{Session}
 use Rattle.as_edge.specs.EdgeFace.{edge_face}
 use Rattle.as_edge.specs.EdgeWire.{edge_wire}

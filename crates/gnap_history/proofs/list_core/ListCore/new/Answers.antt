@@ -1,7 +1,7 @@
 use Rattle.histories.specs.ByNotes.{stands-nil}
 use Rattle.gnap_model.specs.Answer.{gnap_answer}
 use Rattle.gnap_model.specs.declared.calls.Call.TheVariants.{Lapse}
-use Rattle.gnap_history.specs.Gnap.{GnapFits}
+use Rattle.grant_machine.specs.Gnap.{GnapFits}
 use Rattle.gnap_history.proofs.list_core.ListCore.new.Goals as goal
 
 pub returns-clause-empty : goal.returns-clause-empty

@@ -3,7 +3,7 @@ use Rattle.std.proofs.lemmas.Result.{IfOk-weaker, on_err_weaker}
 use Rattle.histories.specs.ByNotes.{answers-by_notes, lapses-by_notes}
 use Rattle.gnap_model.specs.Answer.{gnap_answer}
 use Rattle.gnap_model.specs.declared.calls.Call.TheVariants.{Lapse}
-use Rattle.gnap_history.specs.Gnap.{GnapFits}
+use Rattle.grant_machine.specs.Gnap.{GnapFits}
 use Rattle.gnap_history.proofs.list_core.ListCoreCore.step.Goals as goal
 
 pub returns-clause-ok : goal.returns-clause-ok

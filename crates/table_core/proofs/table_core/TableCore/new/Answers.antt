@@ -1,5 +1,5 @@
 use Rattle.std.proofs.Common.{arith}
-use Rattle.gnap_history.specs.Gnap.{GnapFits}
+use Rattle.grant_machine.specs.Gnap.{GnapFits}
 use Rattle.gnap_tables.proofs.TablesThroughCalls.{stands-nothing}
 use Rattle.table_core.proofs.table_core.TableCore.new.Goals as goal
 

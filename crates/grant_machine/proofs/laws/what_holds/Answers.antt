@@ -4,10 +4,10 @@ use Rattle.gnap_model.specs.Answer.{gnap_answer}
 use Rattle.gnap_model.specs.Provenance.{is_active}
 use Rattle.gnap_model.specs.declared.calls.Call.{Call}
 use Rattle.gnap_model.specs.Legal.{grant_law}
-use Rattle.gnap_history.specs.Gnap.{GnapEntry}
-use Rattle.gnap_history.proofs.FitsThrough.{replies_fit}
-use Rattle.gnap_history.proofs.Weaker.{grant_legal}
-use Rattle.gnap_history.proofs.laws.what_holds.Goals as goal
+use Rattle.grant_machine.specs.Gnap.{GnapEntry}
+use Rattle.grant_machine.proofs.FitsThrough.{replies_fit}
+use Rattle.grant_machine.proofs.Weaker.{grant_legal}
+use Rattle.grant_machine.proofs.laws.what_holds.Goals as goal
 
 pub returns : goal.returns
 returns c = λ rules h legal few.

@@ -18,7 +18,7 @@ use Rattle.gnap_model.specs.declared.calls.Reply.TheVariants.{Error}
 use Rattle.gnap_model.specs.declared.objects.ErrorCode.{ErrorCode}
 use Rattle.gnap_model.specs.declared.objects.Setup.{Setup}
 use Rattle.gnap_objects.specs.CallsFit.{ReplyFits}
-use Rattle.gnap_history.specs.Gnap.{GnapEntry}
+use Rattle.grant_machine.specs.Gnap.{GnapEntry}
 
 -- After the entries before it an introspection is answered Active exactly where the server serves every right that it asks about,
 -- and the value is a live token's that suits it (RFC 9767, section 3.3).

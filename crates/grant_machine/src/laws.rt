@@ -1,10 +1,10 @@
 //! What is known of each legal history of the grant machine, and so of all that a desk has seen. The contracts are the laws; the bodies do nothing.
 ghost use Rattle.std.specs.Prelude.{◌≡◌, ◌≤◌, ◌^◌, List, length};
 ghost use Rattle.histories.specs.History.{Legal};
-ghost use Rattle.gnap_history.specs.Gnap.{gnap};
-ghost use Rattle.gnap_history.specs.Laws.{WhatHolds};
+ghost use Rattle.grant_machine.specs.Gnap.{gnap};
+ghost use Rattle.grant_machine.specs.Laws.{WhatHolds};
 
-use crate::grant_machine::Gnap;
+use crate::machine::Gnap;
 use gnap_model::laws::{
     doors_open_once, drawn_codes_are_free, drawn_values_differ, limits_hold, refusals_have_causes,
     says_active, tells_what_came, wrong_references_are_few,

@@ -7,7 +7,7 @@ use Rattle.std.proofs.lemmas.List.Elements.{All-cons, All-nil}
 use Rattle.gnap_io.specs.Outside.{Rose}
 use Rattle.gnap_io.specs.Gears.{GearState, IsUnused}
 use Rattle.serving.specs.Workers.{HasServedAll, HaveServedAll}
-use Rattle.as_service.specs.Services.{has_failed, IsUsedUp}
+use Rattle.serving.specs.ServiceEnds.{has_failed, IsUsedUp}
 
 -- the same of gears and of what they count
 pub any_counted : {G : Type 0} (state : G → GearState) (gears : List G) → list_any has_failed (map state gears) ≡ list_any (λ gear. has_failed (state gear)) gears

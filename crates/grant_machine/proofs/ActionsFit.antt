@@ -24,7 +24,7 @@ use Rattle.gnap_model.specs.declared.objects.Modes.{Modes}
 use Rattle.gnap_model.specs.declared.objects.Finish.{Finish}
 use Rattle.gnap_objects.specs.Fits.{AskFits}
 use Rattle.gnap_objects.specs.CallsFit.{RightsFit, FinishFitsOr, ModesFit, TokenFits, EndingFits, DecisionFits, ReplyFits, NoteFits, NotesFit}
-use Rattle.gnap_history.proofs.FoundFits.{all-append, if_both, OpeningFits, TermsFit, TokenNoteFits, RoundFits, DecidedFits}
+use Rattle.grant_machine.proofs.FoundFits.{all-append, if_both, OpeningFits, TermsFit, TokenNoteFits, RoundFits, DecidedFits}
 
 -- ---- drawn texts
 

@@ -45,9 +45,9 @@ use Rattle.gnap_model.specs.declared.objects.ErrorCode.TheVariants.{RequestDenie
 use Rattle.gnap_model.specs.declared.rights.Right.{Right}
 use Rattle.gnap_objects.specs.Fits.{AskFits}
 use Rattle.gnap_objects.specs.CallsFit.{RightsFit, RightsFitOr, ModesFit, ModesFitOr, DecisionFits, TextsFit, ReplyFits, NoteFits, NotesFit}
-use Rattle.gnap_history.specs.Gnap.{gnap, GnapEntry}
-use Rattle.gnap_history.proofs.ActionsFit.{ActionFits, outcome_fits}
-use Rattle.gnap_history.proofs.FoundFits.{all-append, all-reverse, all-filter, if_both, OpeningFits, TermsFit, TokenNoteFits, RoundFits, DecidedFits, opening_fits, terms_fit, token_fits, named_fits, consent_fits, decision_of_fits, by_handle_fits, by_code_fits, asked_fit, decided_fit}
+use Rattle.grant_machine.specs.Gnap.{gnap, GnapEntry}
+use Rattle.grant_machine.proofs.ActionsFit.{ActionFits, outcome_fits}
+use Rattle.grant_machine.proofs.FoundFits.{all-append, all-reverse, all-filter, if_both, OpeningFits, TermsFit, TokenNoteFits, RoundFits, DecidedFits, opening_fits, terms_fit, token_fits, named_fits, consent_fits, decision_of_fits, by_handle_fits, by_code_fits, asked_fit, decided_fit}
 
 -- ---- from a call that fits, after notes that fit, to an action that fits
 

@@ -1,0 +1,4 @@
+pub mod ActionsFit
+pub mod FitsThrough
+pub mod FoundFits
+pub mod Weaker

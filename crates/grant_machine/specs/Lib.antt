@@ -1,0 +1,2 @@
+pub mod Gnap
+pub mod Laws

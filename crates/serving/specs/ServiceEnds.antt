@@ -1,0 +1,21 @@
+-- How the serving of gears ends.
+use Rattle.std.specs.Prelude.{◌≡◌, nat_lt, Bool, true, List, All, Result, Ok, Err}
+use Rattle.std.specs.List.{list_any}
+use Rattle.gnap_io.specs.Gears.{GearState, IsUnused}
+use Rattle.gnap_io.specs.declared.world.WorldFault.{WorldFault}
+use Rattle.gnap_io.specs.declared.world.WorldFault.TheVariants.{Failed, OutOfMemory}
+
+-- the door failed
+abbrev pub has_failed : GearState → Bool
+has_failed gear = nat_lt 0 gear.faults
+
+-- the door gave all its connections, and never failed
+pub record IsUsedUp (gear : GearState) : Type 0 where
+  pub left : gear.left ≡ 0
+  pub unfailed : gear.faults ≡ 0
+
+-- How it ended: each door gave all its connections; or one failed; or memory ran out before the first connection.
+abbrev pub IsEndOfService : {Done : Type 0} → List GearState → Result Done WorldFault → Type 0
+IsEndOfService gears (Ok done) = All IsUsedUp gears
+IsEndOfService gears (Err Failed) = list_any has_failed gears ≡ true
+IsEndOfService gears (Err OutOfMemory) = All IsUnused gears
