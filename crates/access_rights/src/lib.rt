@@ -16,6 +16,3 @@ pub use inclusion::covers;
 pub use printing::rights_value;
 pub use reading::{RightsFault, read_rights};
 pub use served::{served_part, serves};
-
-#[cfg(test)]
-mod tests;

@@ -12,6 +12,3 @@ mod line;
 pub use checking::check;
 pub use fault::DigestFault;
 pub use line::digest_line;
-
-#[cfg(test)]
-mod tests;

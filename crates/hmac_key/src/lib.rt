@@ -9,6 +9,3 @@ mod mac;
 
 pub use keyring::Keyring;
 pub use mac::{hmac, same};
-
-#[cfg(test)]
-mod tests;

@@ -10,8 +10,6 @@ mod reading;
 mod reply;
 mod reply_reading;
 mod request_heads;
-#[cfg(test)]
-mod tests;
 mod writing;
 
 pub use fault::EdgeFault;

@@ -15,6 +15,3 @@ pub use body::{BodyFault, has_fraction, read_body};
 pub use members::{member, member_within, other_member};
 pub use text_set::TextSet;
 pub use values::{compact_text, optional_value, put, text_value, texts_value};
-
-#[cfg(test)]
-mod tests;

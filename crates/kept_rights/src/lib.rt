@@ -12,6 +12,3 @@ pub mod rights;
 
 pub use asks::KeptAsks;
 pub use rights::KeptRights;
-
-#[cfg(test)]
-mod tests;

@@ -16,6 +16,3 @@ pub use grant_table::GrantTable;
 pub use interactions::InteractionName;
 pub use serials::serial_in_value;
 pub use token_table::TokenTable;
-
-#[cfg(test)]
-mod tests;

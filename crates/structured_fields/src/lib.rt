@@ -28,6 +28,3 @@ pub use reading::{read_dictionary, read_item, read_list};
 pub use writing::{
     append_inner, append_item, write_dictionary, write_inner, write_item, write_list,
 };
-
-#[cfg(test)]
-mod tests;

@@ -1,4 +1,0 @@
-pub mod Adding
-pub mod Amounts
-pub mod Standing
-pub mod Refusals

@@ -1,0 +1,173 @@
+//! Bytes as messages.
+ghost use Rattle.std.specs.Prelude.{◌≡◌, ◌<◌, length, [], ◌∷◌, ◌++◌, IfOk};
+ghost use Rattle.test_adding.specs.Bytewise.{Fills, HasFillCause};
+
+use crate::adding::{Adding, Call, Reply};
+use crate::fault::NoAmount;
+use gnap_io::bytes::Bytes;
+use gnap_io::device::{Failed, Sink, Source, write_all};
+use gnap_io::gear::{Clock, Draws};
+use gnap_io::memory::Mem;
+use histories::machine::Desk;
+use serving::connection::serve_connection;
+use serving::ends::NoMessage;
+use serving::front::Front;
+use serving::message_step::MessageStep;
+use serving::server::Server;
+use std::alloc::Global;
+
+/// A server of an adding machine that starts from an amount.
+#[derive(Drop)]
+pub struct Bytewise {
+    pub start: u64,
+}
+
+// Takes the first byte off.
+fn take_first(alloc: Global, held: &mut Bytes) -> Result<u8, Mem>
+    requires { 0 < length held.old }
+    ensures { IfOk result (λ byte. held.old ≡ byte ∷ held.new) }
+{
+    let byte = held.as_slice()[0];
+    let rest = Bytes::from_slice(alloc, &held.as_slice()[1..])?;
+    *held = rest;
+    Ok(byte)
+}
+
+// Reads some bytes, where none are held.
+fn fill<S: Source>(source: &mut S, held: &mut Bytes) -> Result<(), NoMessage<NoAmount>>
+    ensures fills { Fills held.old held.new (S.told source.old) (S.told source.new) result }
+    ensures cause { HasFillCause (S.faults source.old) (S.faults source.new) result }
+{
+    if held.len() > 0 {
+        return Ok(());
+    }
+    let mut buf = [0u8; 4];
+    match source.read(&mut buf) {
+        Err(Failed) => Err(NoMessage::Failed),
+        Ok(count) => match held.extend(&buf[..count]) {
+            Ok(()) => Ok(()),
+            Err(Mem) => Err(NoMessage::OutOfMemory),
+        },
+    }
+}
+
+impl Server for Bytewise {
+    ghost use Rattle.test_adding.specs.Bytewise.{byte_wire, byte_face, stays};
+
+    type M = Adding;
+
+    type Message = u8;
+
+    type Fault = NoAmount;
+
+    type Response = Bytes;
+
+    type Held = Bytes;
+
+    ghost rules = { λ server. server.start };
+
+    ghost face = { byte_face };
+
+    ghost wire = { byte_wire };
+
+    ghost text = { λ response. response };
+
+    ghost can_say = { λ reply. Unit {0} };
+
+    ghost held_bytes = { λ held. held };
+
+    ghost stays = { stays };
+
+    ghost says_all = { λ rules before e after legal. tt };
+
+    fn hold_none(&self, alloc: Global) -> Bytes {
+        Bytes::new(alloc)
+    }
+
+    fn next_message<S: Source>(
+        &self,
+        alloc: Global,
+        source: &mut S,
+        held: &mut Bytes,
+    ) -> Result<Option<u8>, NoMessage<NoAmount>> {
+        fill(source, held)?;
+        if held.len() == 0 {
+            return Ok(None);
+        }
+        match take_first(alloc, held) {
+            Err(Mem) => Err(NoMessage::OutOfMemory),
+            Ok(byte) => {
+                if byte == 0 {
+                    return Err(NoMessage::Refused(NoAmount));
+                }
+                Ok(Some(byte))
+            }
+        }
+    }
+
+    fn is_last(&self, message: &u8) -> bool {
+        *message == 255
+    }
+
+    fn step(
+        &self,
+        alloc: Global,
+        message: &u8,
+        _moment: u64,
+        _last: bool,
+    ) -> Result<MessageStep<Bytes, Call>, Mem> {
+        if *message == 254 {
+            return Ok(MessageStep::Say(Bytes::from_slice(alloc, &[254])?));
+        }
+        Ok(MessageStep::Ask(Call::Add(u64::from(*message))))
+    }
+
+    fn respond(&self, alloc: Global, reply: &Reply, last: bool) -> Result<Bytes, Mem> {
+        let byte = match *reply {
+            Reply::Sum(sum) => (sum % 256) as u8,
+            Reply::Lapsed => 0,
+        };
+        if last {
+            return Bytes::from_slice(alloc, &[byte, 255]);
+        }
+        Bytes::from_slice(alloc, &[byte])
+    }
+
+    fn write_response<K: Sink>(&self, response: &Bytes, out: &mut K) -> Result<(), Failed> {
+        write_all(out, response.as_slice())
+    }
+
+    fn write_busy<K: Sink>(&self, out: &mut K) -> Result<(), Failed> {
+        write_all(out, &[1])
+    }
+
+    fn write_starved<K: Sink>(&self, out: &mut K) -> Result<(), Failed> {
+        write_all(out, &[2])
+    }
+
+    fn write_refusal<K: Sink>(&self, _fault: &NoAmount, out: &mut K) -> Result<(), Failed> {
+        write_all(out, &[0])
+    }
+}
+
+impl Front for Bytewise {
+    ghost use Rattle.test_adding.specs.Bytewise.{IsByteSession};
+
+    type M = Adding;
+
+    type Message = u8;
+
+    ghost rules = { λ server. server.start };
+
+    ghost session = { IsByteSession };
+
+    fn serve<D: Desk<M = Adding>, S: Source + Sink, G: Clock + Draws>(
+        &self,
+        alloc: Global,
+        desk: &mut D,
+        conn: &mut S,
+        gear: &mut G,
+    ) {
+        serve_connection(self, alloc, desk, conn, gear);
+    }
+}

@@ -1,0 +1,86 @@
+//! What two gears' connections are answered.
+ghost use Rattle.std.specs.Prelude.{◌≡◌, IfOk};
+ghost use Rattle.gnap_io.specs.Gears.{new_gear, AreStarted};
+ghost use Rattle.gnap_io.specs.MemoryForms.{IsUnusedConn};
+
+use gnap_io::bytes::Bytes;
+use gnap_io::gear::Counted;
+use gnap_io::memory::Mem;
+use gnap_io::memory_conn::MemConn;
+use gnap_io::memory_gear::MemGear;
+use serving::threads::serve_gears;
+use std::alloc::Global;
+use std::sync::Wait;
+use std::thread::Threads;
+use test_adding::adder::Adder;
+use test_adding::bytewise::Bytewise;
+
+fn conn(alloc: Global, bytes: &[u8]) -> Result<MemConn, Mem>
+    ensures { IfOk result IsUnusedConn }
+{
+    MemConn::new(
+        alloc,
+        Bytes::from_slice(alloc, bytes)?,
+        2000,
+        Vec::new(alloc),
+        Vec::new(alloc),
+    )
+}
+
+// A gear with two connections of these bytes.
+fn gear(alloc: Global, first: &[u8], second: &[u8]) -> Result<MemGear, Mem>
+    ensures { IfOk result (λ gear. ⟦<MemGear as Counted>⟧.state gear ≡ new_gear 2) }
+{
+    let mut conns = Vec::new(alloc);
+    conns.push(conn(alloc, first)?)?;
+    conns.push(conn(alloc, second)?)?;
+    MemGear::new(conns, Vec::new(alloc), Vec::new(alloc), Vec::new(alloc))
+}
+
+// One has direct answers and a fault, the other a last message with a byte behind it and more messages than are answered.
+fn two_gears(alloc: Global) -> Result<Vec<MemGear>, Mem>
+    ensures { IfOk result (λ gears. AreStarted ⟦<MemGear as Counted>⟧.state 2 4294967295 gears.items) }
+{
+    let mut gears = Vec::new(alloc);
+    gears.push(gear(alloc, &[254, 254, 0, 7], &[])?)?;
+    gears.push(gear(alloc, &[255, 9], &[1; 1001])?)?;
+    Ok(gears)
+}
+
+// The gears after all was served.
+fn served_gears<R: Threads + Wait + Sync>(rt: &R, alloc: Global) -> Result<Vec<MemGear>, Mem> {
+    let front = Bytewise { start: 0 };
+    let (gears, served) = serve_gears(
+        rt,
+        alloc,
+        Adder::new(alloc, 0, 0),
+        &front,
+        two_gears(alloc)?,
+    );
+    served?;
+    Ok(gears)
+}
+
+// What was written to a connection.
+fn written(gears: &[MemGear], gear: usize, place: usize) -> Option<&[u8]> {
+    Some(gears.get(gear)?.served().get(place)?.written())
+}
+
+/// Direct answers, the refusal of a byte and a last message give these bytes, and of 1,001 messages the 1,000th is the last one that is
+/// answered.
+#[test]
+fn two_gears_are_served(rt: HostRuntime) {
+    let gears = served_gears(&rt, rt.alloc());
+    assert!(rt; gears.is_ok(), "no memory");
+    let gears = gears.unwrap_or(Vec::new(rt.alloc()));
+    for (gear, place, want) in [
+        (0, 0, &[254u8, 254, 0][..]),
+        (0, 1, &[]),
+        (1, 0, &[255, 255]),
+    ] {
+        assert_eq!(rt; written(&gears, gear, place), Some(want), "{gear}, {place}");
+    }
+    let many = written(&gears, 1, 1).unwrap_or(&[]);
+    assert_eq!(rt; many.len(), 1001, "a thousand messages");
+    assert_eq!(rt; &many[998..], &[230u8, 231, 255][..], "the thousandth");
+}

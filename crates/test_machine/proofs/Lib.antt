@@ -1,0 +1,9 @@
+pub mod ExampleHistories
+pub mod Examples
+pub mod TellingExamples
+pub mod LegalExample
+pub mod GeneratedWords
+pub mod GeneratedSetups
+pub mod GeneratedHistories1
+pub mod GeneratedHistories2
+pub mod GeneratedHistories3

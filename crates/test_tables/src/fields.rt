@@ -1,0 +1,33 @@
+//! The table of structured fields. A line is the kind of a field (`item`, `list` or `dictionary`) and, behind one space, its text. Told is the canonical
+//! text, or `not in the grammar`. What is expected was worked out from RFC 8941, section 4, beside this repository.
+
+use gnap_io::bytes::Bytes;
+use gnap_io::memory::Mem;
+use std::alloc::Global;
+use structured_fields::{
+    FieldFault, read_dictionary, read_item, read_list, write_dictionary, write_item, write_list,
+};
+
+fn canonical(alloc: Global, kind: &str, text: &[u8]) -> Result<Bytes, FieldFault> {
+    match kind {
+        "item" => Ok(write_item(alloc, &read_item(alloc, text)?)?),
+        "list" => Ok(write_list(alloc, &read_list(alloc, text)?)?),
+        "dictionary" => Ok(write_dictionary(alloc, &read_dictionary(alloc, text)?)?),
+        _ => Err(FieldFault::NotInGrammar),
+    }
+}
+
+/// What a line's field comes to.
+pub fn answer(alloc: Global, line: &str) -> Result<String, Mem> {
+    let Some((kind, text)) = line.split_once(' ') else {
+        return Ok(format!(in alloc; "no kind")?);
+    };
+    match canonical(alloc, kind, text.as_bytes()) {
+        Ok(out) => match std::str::from_utf8(out.as_slice()) {
+            Ok(printed) => Ok(format!(in alloc; "{printed}")?),
+            Err(_) => Ok(format!(in alloc; "no text")?),
+        },
+        Err(FieldFault::NotInGrammar) => Ok(format!(in alloc; "not in the grammar")?),
+        Err(FieldFault::OutOfMemory) => Err(Mem),
+    }
+}

@@ -1,0 +1,65 @@
+//! Reads three tables and prints what the libraries give of each line. A line of standard input is the word of its table, a space, and what the table says
+//! of it:
+//!
+//! - `field`: the text of a structured field (`fields`);
+//! - `signature`: a message that is verified or signed (`signatures`);
+//! - `object`: a JSON text and who reads it (`objects`).
+//!
+//! The lines and what must be printed stand in `expected/`, from where `expected/write.py` writes them: the first two tables as texts, and the third by the
+//! rules of docs/ in another language, apart from this code.
+#![tactic(auto)]
+
+mod fields;
+mod objects;
+mod repeated;
+mod shown;
+mod signatures;
+
+use gnap_io::memory::Mem;
+use std::alloc::Global;
+use std::io;
+
+// A table.
+#[derive(Clone, Copy)]
+enum Table {
+    Fields,
+    Signatures,
+    Objects,
+}
+
+impl Table {
+    fn named(word: &str) -> Option<Table> {
+        match word {
+            "field" => Some(Table::Fields),
+            "signature" => Some(Table::Signatures),
+            "object" => Some(Table::Objects),
+            _ => None,
+        }
+    }
+
+    fn answer(self, alloc: Global, text: &str) -> Result<String, Mem> {
+        match self {
+            Table::Fields => fields::answer(alloc, text),
+            Table::Signatures => signatures::answer(alloc, text),
+            Table::Objects => Ok(objects::answer(alloc, text)?),
+        }
+    }
+}
+
+fn answer(alloc: Global, line: &str) -> Result<String, Mem> {
+    let (word, text) = line.split_once(' ').unwrap_or((line, ""));
+    match Table::named(word) {
+        Some(table) => table.answer(alloc, text),
+        None => Ok(String::from_str(alloc, "no such table")?),
+    }
+}
+
+fn main(rt: HostRuntime) -> io::Result<()> {
+    for line in rt.lines(rt.alloc()) {
+        match answer(rt.alloc(), line?.as_str()) {
+            Ok(text) => println!(rt; "{text}")?,
+            Err(Mem) => println!(rt; "out of memory")?,
+        }
+    }
+    Ok(())
+}

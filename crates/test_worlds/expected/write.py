@@ -1,0 +1,65 @@
+"""Writes ../stdin, a table of cases, and ../stdout, what comes of each by the rules of docs/, without the program. Behind the cases and a line `histories`
+stand the lines of the replays among them, with an empty line behind each, and for each the line says how many bytes it prints.
+
+Run it anew where a rule or a case changes: python3 crates/test_worlds/expected/write.py
+"""
+
+import json
+from pathlib import Path
+
+import client_cases
+import edge_cases
+import generated_histories
+import http_cases
+import line_cases
+import outside_cases
+import resource_cases
+import rights_cases
+import run_cases
+import scripted_grants
+import scripted_interactions
+import stored_histories
+import written_cases
+from checks import check_all
+from worlds import outcome
+
+
+def cases():
+    for module in (http_cases, edge_cases, outside_cases, rights_cases, line_cases, written_cases, client_cases, resource_cases):
+        yield from module.cases()
+    yield from run_cases.cases(scripted_grants.RUNS + scripted_interactions.RUNS)
+    yield from map(run_cases.replay_case, generated_histories.runs() + stored_histories.runs())
+
+
+def lines_of(values):
+    return "".join(json.dumps(value, ensure_ascii=False, separators=(",", ":")) + "\n" for value in values)
+
+
+def is_plain_replay(case):
+    """A replay of a file that stands in the case, over devices that do as they are told."""
+    return case["words"][:1] == ["replay"] and set(case) == {"name", "words", "files"}
+
+
+def histories(table):
+    """For each replay its lines, none of them empty, and what it prints."""
+    for case in filter(is_plain_replay, table):
+        lines = [line for line in case["files"][0][1].split("\n") if line]
+        told = outcome(case)
+        if lines and told["status"] == 0 and all(ord(c) < 128 for c in case["files"][0][1]):
+            yield lines, told["out"]
+
+
+def main():
+    check_all()
+    table = list(cases())
+    assert len({case["name"] for case in table}) == len(table)
+    replays = list(histories(table))
+    replayed = "".join("\n".join(lines) + "\n\n" for lines, _ in replays)
+    counts = "".join(f"{len(printed)} bytes\n" for _, printed in replays)
+    folder = Path(__file__).resolve().parent.parent
+    (folder / "stdin").write_text(lines_of(table) + "histories\n" + replayed, encoding="utf-8")
+    (folder / "stdout").write_text(lines_of(map(outcome, table)) + counts, encoding="utf-8")
+
+
+if __name__ == "__main__":
+    main()

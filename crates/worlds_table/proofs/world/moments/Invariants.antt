@@ -1,6 +1,0 @@
-use Rattle.std.specs.Prelude.{◌≤◌, All}
-use Rattle.gnap_io.specs.Gears.{last_moment}
-use Rattle.worlds_table.proofs.world.moments.Given as goal
-
-abbrev pub invariant-loop-moment : goal.invariant-loop-moment
-invariant-loop-moment l = All (λ m. m ≤ last_moment) l.moments.items
