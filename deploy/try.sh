@@ -104,11 +104,11 @@ openssl req -x509 -newkey ec -pkeyopt ec_paramgen_curve:P-256 -noenc -days 7 -su
     -addext 'subjectAltName=DNS:as.localhost,DNS:rs.localhost,DNS:front.localhost' \
     -keyout "$work/key.pem" -out "$work/certificate.pem" 2>"$work/logs/openssl.log"
 
-start as "$gnap" as "$work/as.json" "127.0.0.1:$AS" 8 100000
+start as "$gnap" as "$work/as.json" "127.0.0.1:$AS" "$WORKERS" "$QUOTA"
 listens as "$AS"
-start rs1 "$gnap" rs "$work/rs.json" "127.0.0.1:$RS1" "127.0.0.1:$AS" 100000
+start rs1 "$gnap" rs "$work/rs.json" "127.0.0.1:$RS1" "127.0.0.1:$INNER" "$QUOTA"
 listens rs1 "$RS1"
-start rs2 "$gnap" rs "$work/rs.json" "127.0.0.1:$RS2" "127.0.0.1:$AS" 100000
+start rs2 "$gnap" rs "$work/rs.json" "127.0.0.1:$RS2" "127.0.0.1:$INNER" "$QUOTA"
 listens rs2 "$RS2"
 start front "$python" -m front "$work/front.json"
 listens front "$FRONT"
