@@ -1,4 +1,4 @@
-"""Writes what a deployment for one machine needs into a folder: secrets, the setups of all parts, nginx's configuration.
+"""Writes what a deployment for one machine needs into a folder: secrets, the setups of all parts, nginx's configuration, units of systemd.
 
     python3 make_files.py FOLDER
     python3 make_files.py FOLDER --names as.example.org rs.example.org front.example.org [--ports AS=8401 ..] [--address 0.0.0.0] [--logs FOLDER]
@@ -27,6 +27,8 @@ USUAL_PORTS = {"AS": 8401, "INNER": 8402, "FRONT": 8403, "RS1": 8411, "RS2": 841
 PORTS = range(20000, 32000)
 # More workers than connections that nginx opens (deploy/nginx/gnap.conf), and the largest quota that there is.
 NUMBERS = {"WORKERS": 64, "QUOTA": 1000000}
+PROGRAM = "/usr/local/bin/gnap"
+UNITS = ("gnap-as.service", "gnap-rs@.service", "gnap-front.service")
 
 
 def free_ports(names: list[str]) -> dict[str, int]:
@@ -139,10 +141,14 @@ def texts(folder: Path, words: argparse.Namespace, ports: dict[str, int]) -> dic
         "ADDRESS": words.address,
         "LOGS": words.logs or folder / "logs",
         "FOLDER": folder,
+        "DEPLOY": HERE,
+        "PROGRAM": PROGRAM,
+        "SANDBOX": (HERE / "systemd" / "sandbox.conf").read_text(),
     }
     setups = Setups(folder, words.names, ports, demo).files()
     made = {name: json.dumps(said, indent=2) + "\n" for name, said in setups.items()}
-    return made | {name: filled(f"nginx/{name}", values) for name in ("nginx.conf", "gnap.conf", "common.conf")}
+    made |= {name: filled(f"nginx/{name}", values) for name in ("nginx.conf", "gnap.conf", "common.conf")}
+    return made | {name: filled(f"systemd/{name}", values) for name in UNITS}
 
 
 def host(text: str) -> str:
