@@ -2,6 +2,7 @@
 
 import logging
 import traceback
+from collections.abc import Sequence
 
 from flask import Flask, Response, g, redirect, render_template, request
 from werkzeug.exceptions import HTTPException
@@ -9,10 +10,10 @@ from werkzeug.exceptions import HTTPException
 from front import sentences, words
 from front.finishing import push
 from front.server_calls import Refused, ServerCalls, Unreachable
-from front.sessions import Sessions, WrongCodes
+from front.sessions import Devices, WrongCodes
 from front.settings import Settings, User
+from front.visitors import Visitors, keep_cookie
 
-COOKIE = "__Host-consent"
 LONGEST_FORM = 16 * 1024
 
 log = logging.getLogger("front")
@@ -29,40 +30,34 @@ class Pages:
     def __init__(self, settings: Settings, calls: ServerCalls):
         self.settings = settings
         self.calls = calls
-        self.sessions = Sessions()
+        self.visitors = Visitors(settings)
         self.wrong_codes = WrongCodes()
+        self.devices = Devices()
 
     # Who is there
 
     def begin_request(self) -> tuple[str, int] | None:
         """Finds out who asks, and refuses forms that didn't come from a page of this front."""
-        g.value = request.cookies.get(COOKIE) or self.sessions.new_visit()
         g.finish = ()
-        if request.method != "POST" or self.sessions.is_form_token(g.value, request.form.get("form_token", "")):
-            return None
-        return message(*sentences.OLD_FORM, 403)
+        return None if self.visitors.arrive() else message(*sentences.OLD_FORM, 403)
 
-    def user(self) -> User | None:
-        """The user who is signed in."""
-        return self.settings.users.get(self.sessions.user(g.value) or "")
-
-    def sign_in_page(self, handle: str = "") -> str:
+    def sign_in_page(self, handle: str = "", status: int = 200) -> tuple[str, int]:
         """The page on which a user signs in, to go on with this interaction or with a code."""
-        return render_template("sign_in.html", users=self.settings.users.values(), handle=handle)
+        if self.settings.elsewhere:
+            return message(*sentences.NOT_SIGNED_IN, 403)
+        return render_template("sign_in.html", users=self.settings.users.values(), handle=handle), status
 
     def sign_in(self) -> Response | tuple[str, int]:
-        """Signs a user in, under a new value of the cookie. This demonstration asks for no password."""
+        """Signs a user in. This demonstration asks for no password."""
         user = self.settings.users.get(request.form.get("user", ""))
         if user is None:
-            return self.sign_in_page(request.form.get("handle", "")), 400
-        self.sessions.sign_out(g.value)
-        g.value = self.sessions.sign_in(user.id)
+            return self.sign_in_page(request.form.get("handle", ""), 400)
+        self.visitors.sign_in(user)
         return self.onward()
 
     def sign_out(self) -> Response:
         """Ends the session."""
-        self.sessions.sign_out(g.value)
-        g.value = self.sessions.new_visit()
+        self.visitors.sign_out()
         return self.onward()
 
     def onward(self) -> Response:
@@ -73,16 +68,19 @@ class Pages:
     # An interaction
 
     def interaction(self, handle: str) -> str | tuple[str, int]:
-        """Shows what is asked."""
+        """Shows what is asked; to somebody who typed a code, after the question whether the device is at hand."""
         if not words.is_handle(handle):
             return message(*sentences.ENDED, 404)
-        user = self.user()
+        user = self.visitors.user()
         if user is None:
             return self.sign_in_page(handle)
-        return self.consent_page(user, handle, self.calls.look(handle))
+        shown = self.calls.look(handle)
+        if self.devices.code(handle):
+            return self.device_page(user, handle, shown)
+        return self.consent_page(user, handle, shown)
 
     def consent_page(
-        self, user: User, handle: str, shown: dict, problem: str = "", ticked: list[int] | None = None, tells: bool = True
+        self, user: User, handle: str, shown: dict, problem: str = "", ticked: Sequence[int] = (), tells: bool = False
     ) -> str:
         """The page on which a user decides; the one for somebody else where the client named another user."""
         client = self.settings.client(shown["client"])
@@ -94,10 +92,7 @@ class Pages:
             handle=handle,
             client=client,
             choices=words.choices(shown, self.settings.rights),
-            bearers=[
-                name for name, token in zip(words.token_names(shown), shown["access_token"]) if "bearer" in token.get("flags", [])
-            ],
-            tokens=words.token_names(shown),
+            keys=words.keys(shown),
             asks_who=shown["subject"],
             time_left=words.time_left(shown["expires_in"]),
             problem=problem,
@@ -108,25 +103,27 @@ class Pages:
     def decide(self) -> Response | str | tuple[str, int]:
         """Carries out what the user chose."""
         handle, verdict = request.form.get("handle", ""), request.form.get("verdict", "")
-        if not words.is_handle(handle) or verdict not in ("grant", "deny", "unknown"):
+        if not words.is_handle(handle) or verdict not in ("grant", "all", "deny", "unknown"):
             return message(*sentences.NOT_TAKEN, 400)
-        user = self.user()
+        user = self.visitors.user()
         if user is None:
             return self.sign_in_page(handle)
         shown = self.calls.look(handle)
-        if verdict != "grant":
+        if verdict in ("deny", "unknown"):
             return self.finish(shown, verdict, self.calls.decide(handle, verdict))
-        return self.grant(user, handle, shown)
+        if self.devices.code(handle):
+            return self.device_page(user, handle, shown), 400
+        return self.grant(user, handle, shown, verdict == "all")
 
-    def grant(self, user: User, handle: str, shown: dict) -> Response | str | tuple[str, int]:
-        """Grants the rights that are ticked, and tells who the user is where that is ticked."""
+    def grant(self, user: User, handle: str, shown: dict, whole: bool) -> Response | str | tuple[str, int]:
+        """Grants all, or the rights that are ticked, and tells who the user is where that is ticked."""
         if shown.get("user", user.subject) != user.subject:
             return self.consent_page(user, handle, shown), 400
         asked = words.asked_rights(shown)
-        ticked = [place for place in range(len(asked)) if str(place) in request.form.getlist("right")]
-        tells = bool(shown["subject"]) and "tell" in request.form
+        ticked = [place for place in range(len(asked)) if whole or str(place) in request.form.getlist("right")]
+        tells = bool(shown["subject"]) and (whole or "tell" in request.form)
         if not ticked and not tells:
-            return self.consent_page(user, handle, shown, sentences.NOTHING_CHOSEN, ticked, tells), 400
+            return self.consent_page(user, handle, shown, sentences.NOTHING_CHOSEN), 400
         more = words.included(asked, ticked)
         if more:
             choices = words.choices(shown, self.settings.rights)
@@ -150,31 +147,49 @@ class Pages:
 
     # A user code
 
-    def code_page(self, problem: str = "") -> str:
-        """The page on which a user types the code that a device shows."""
-        user = self.user()
-        return self.sign_in_page() if user is None else render_template("code.html", user=user, problem=problem)
+    def code_page(self, problem: str = "", status: int = 200) -> tuple[str, int]:
+        """The page on which a user types the code that a device shows. What was typed stays there where it was wrong."""
+        user = self.visitors.user()
+        if user is None:
+            return self.sign_in_page()
+        return render_template("code.html", user=user, problem=problem, typed=request.form.get("code", "")), status
 
-    def find_code(self) -> Response | str | tuple[str, int]:
+    def find_code(self) -> Response | tuple[str, int]:
         """Goes to the interaction with this code."""
-        user = self.user()
+        user = self.visitors.user()
         if user is None:
             return self.sign_in_page()
         if not self.wrong_codes.may_try(user.id):
-            return self.code_page(sentences.TOO_MANY_CODES), 429
+            return self.code_page(sentences.TOO_MANY_CODES, 429)
+        typed = request.form.get("code", "")
         try:
-            handle = self.calls.find_code(request.form.get("code", ""))
+            handle = self.calls.find_code(typed)
         except Refused as refused:
             if refused.code == "invalid_request":
-                return self.code_page(sentences.CODE_FORM), 400
+                return self.code_page(sentences.CODE_FORM, 400)
             self.wrong_codes.was_wrong(user.id)
-            return self.code_page(sentences.CODE_UNKNOWN), 400
+            return self.code_page(sentences.CODE_UNKNOWN, 400)
+        self.devices.came(handle, words.code_text(typed))
         return redirect(f"/i/{handle}", 303)
+
+    def device_page(self, user: User, handle: str, shown: dict) -> str:
+        """Asks whether the device that shows the code is at hand: a code can come from somebody far away (RFC 8628, section 5.4)."""
+        client = self.settings.client(shown["client"])
+        g.finish = client.finish
+        return render_template("device.html", user=user, handle=handle, client=client, code=self.devices.code(handle))
+
+    def device_is_at_hand(self) -> Response | tuple[str, int]:
+        """The user says that it is, and goes on to what is asked."""
+        handle = request.form.get("handle", "")
+        if self.visitors.user() is None:
+            return self.sign_in_page(handle)
+        self.devices.is_at_hand(handle)
+        return self.onward()
 
 
 def guard(reply: Response) -> Response:
-    """Sets the cookie and the fields that each page has."""
-    reply.set_cookie(COOKIE, g.value, secure=True, httponly=True, samesite="Lax", path="/")
+    """Sets the cookie where it is a new one, and the fields that each page has."""
+    keep_cookie(reply)
     targets = " ".join(["'self'", *g.finish])
     reply.headers["Content-Security-Policy"] = (
         f"default-src 'none'; style-src 'self'; form-action {targets}; frame-ancestors 'none'; base-uri 'none'"
@@ -208,11 +223,14 @@ def make_app(settings: Settings) -> Flask:
     app.after_request(guard)
     app.register_error_handler(Exception, fault_page)
     app.add_template_filter(words.visible, "visible")
-    app.context_processor(lambda: {"form_token": pages.sessions.form_token(g.value)})
+    app.context_processor(lambda: {"form_token": pages.visitors.form_token(), "elsewhere": settings.elsewhere})
     app.add_url_rule("/", view_func=lambda: redirect("/code", 303), endpoint="start")
     app.add_url_rule("/i/<handle>", view_func=pages.interaction, endpoint="interaction")
     app.add_url_rule("/code", view_func=pages.code_page, endpoint="code")
     app.add_url_rule("/code", view_func=pages.find_code, endpoint="find_code", methods=["POST"])
-    for path, view in (("sign-in", pages.sign_in), ("sign-out", pages.sign_out), ("decide", pages.decide)):
+    forms = {"decide": pages.decide, "device": pages.device_is_at_hand}
+    if settings.elsewhere is None:
+        forms |= {"sign-in": pages.sign_in, "sign-out": pages.sign_out}
+    for path, view in forms.items():
         app.add_url_rule(f"/{path}", view_func=view, endpoint=path, methods=["POST"])
     return app

@@ -20,7 +20,12 @@ OLD_FORM = (
 NOT_HERE = ("There is no such page", "The address may be incomplete. Open the link of the application again.")
 FAULT = ("Something went wrong here", "It isn't your fault, and nothing more was done. Please try again in a moment.")
 
-NOTHING_CHOSEN = "Tick what you want to allow, or choose Deny."
+NOT_SIGNED_IN = (
+    "You aren't signed in",
+    "This page is told who you are by the sign-in before it, and was told of nobody. Sign in there, and open the link again.",
+)
+
+NOTHING_CHOSEN = "Nothing is ticked. Tick what you want to allow, or choose Allow all or Deny."
 CODE_UNKNOWN = "No request waits under this code. Look at your device again: a code can be used once, and for ten minutes."
 CODE_FORM = "A code has eight letters, such as BCDF-GHJK. It has no vowels and no digits."
 TOO_MANY_CODES = "Too many codes were wrong. Please wait ten minutes."

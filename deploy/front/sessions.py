@@ -46,13 +46,38 @@ class Sessions:
         with self._lock:
             self._signed_in.pop(value, None)
 
-    def form_token(self, value: str) -> str:
-        """What a form has to carry that is sent with this cookie."""
-        return hmac.new(self._key, value.encode(), hashlib.sha256).hexdigest()
+    def form_token(self, value: str, account: str) -> str:
+        """What a form has to carry that is sent with this cookie, and by this account where one signed in elsewhere."""
+        return hmac.new(self._key, f"{value}\n{account}".encode(), hashlib.sha256).hexdigest()
 
-    def is_form_token(self, value: str, token: str) -> bool:
-        """Whether a form came from a page of ours for this cookie."""
-        return hmac.compare_digest(self.form_token(value).encode(), token.encode())
+    def is_form_token(self, value: str, account: str, token: str) -> bool:
+        """Whether a form came from a page of ours for this cookie and this account. None does without a cookie."""
+        return value != "" and hmac.compare_digest(self.form_token(value, account).encode(), token.encode())
+
+
+class Devices:
+    """The interactions that were reached by a code, until somebody says that the device with this code is at hand."""
+
+    def __init__(self) -> None:
+        self._lock = threading.Lock()
+        self._codes: dict[str, str] = {}
+
+    def came(self, handle: str, code: str) -> None:
+        """Somebody typed the code, and came to this interaction."""
+        with self._lock:
+            if len(self._codes) >= MOST:
+                del self._codes[next(iter(self._codes))]
+            self._codes[handle] = code
+
+    def code(self, handle: str) -> str:
+        """The code of an interaction whose device is still to be asked for; an empty one for all others."""
+        with self._lock:
+            return self._codes.get(handle, "")
+
+    def is_at_hand(self, handle: str) -> None:
+        """The device is at hand."""
+        with self._lock:
+            self._codes.pop(handle, None)
 
 
 class WrongCodes:

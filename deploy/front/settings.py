@@ -1,6 +1,8 @@
 """What a front is told by its setup."""
 
 import base64
+import hashlib
+import hmac
 import json
 import re
 from dataclasses import dataclass
@@ -8,6 +10,7 @@ from pathlib import Path
 
 # What begins a URI that can be read in one way only: no user, no backslash, no port that isn't one.
 ORIGIN = re.compile(r"(https?://[a-z0-9.-]+)(:[0-9]{1,5})?(?=[/?]|$)")
+HOST = re.compile(r"https?://([a-z0-9.-]+)")
 
 
 @dataclass(frozen=True)
@@ -26,11 +29,36 @@ class Client:
     name: str
     about: str
     finish: tuple[str, ...]
+    described: bool = True
 
     def may_be_told_at(self, uri: str) -> bool:
         """Whether the URI has one of the client's origins."""
         origin = ORIGIN.match(uri)
         return origin is not None and not {origin[0], f"{origin[1]}:*"}.isdisjoint(self.finish)
+
+    def hosts(self) -> list[str]:
+        """The hosts to which the client may have a user sent, each once."""
+        found = (HOST.match(origin) for origin in self.finish)
+        return list(dict.fromkeys(origin[1] for origin in found if origin))
+
+
+@dataclass(frozen=True)
+class Elsewhere:
+    """A sign-in before this front, as nginx's `auth_request` does it: a field of each request, `header`, names the account.
+
+    The field is trusted, so whatever stands before the front has to set it in each request, or take it out, and nobody may
+    reach the front past that. `sign_out` is the address where people sign out, empty where there is none. It takes the place
+    of the page on which one chooses a user.
+    """
+
+    header: str
+    secret: bytes
+    sign_out: str
+
+    def user(self, account: str) -> User:
+        """The user of an account. The subject is made from the account by the secret, and stays the same as long as that does."""
+        made = hmac.new(self.secret, account.encode(), hashlib.sha256).digest()
+        return User(account, account, base64.urlsafe_b64encode(made[:16]).rstrip(b"=").decode())
 
 
 @dataclass(frozen=True)
@@ -45,15 +73,22 @@ class Settings:
     users: dict[str, User]
     clients: dict[str, Client]
     rights: dict[str, dict[str, str]]
+    elsewhere: Elsewhere | None
 
     def client(self, key_id: str) -> Client:
         """The client with this key. One that nobody described has its id for a name, and is told nowhere."""
-        return self.clients.get(key_id) or Client(key_id, "", ())
+        return self.clients.get(key_id) or Client(key_id, "", (), described=False)
 
 
 def _address(text: str) -> tuple[str, int]:
     host, port = text.rsplit(":", 1)
     return host, int(port)
+
+
+def _elsewhere(said: dict | None) -> Elsewhere | None:
+    if said is None:
+        return None
+    return Elsewhere(said["header"], base64.b64decode(said["secret"]), said.get("sign_out", ""))
 
 
 def read_settings(path: Path) -> Settings:
@@ -71,4 +106,5 @@ def read_settings(path: Path) -> Settings:
             for key_id, client in said["clients"].items()
         },
         rights=said["rights"],
+        elsewhere=_elsewhere(said.get("sign_in_elsewhere")),
     )

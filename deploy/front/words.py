@@ -28,15 +28,30 @@ def visible(text: str) -> str:
     return "".join(sign if sign.isprintable() else f"⟨{ord(sign):04X}⟩" for sign in text)
 
 
+def code_text(typed: str) -> str:
+    """A code as devices show it, however it was typed."""
+    letters = "".join(typed.replace("-", "").split()).upper()
+    return f"{letters[:4]}-{letters[4:]}"
+
+
+@dataclass(frozen=True)
+class Key:
+    """A token on the page: its name, whether that is the client's word, and whether anybody who holds the token can use it."""
+
+    name: str
+    theirs: bool
+    bearer: bool
+
+
 @dataclass(frozen=True)
 class Choice:
-    """A right on the page: its place among the asked ones, its name, what it is, and the labels of the tokens that would have it."""
+    """A right on the page: its place among the asked ones, its name, what it is, and the tokens that would have it."""
 
     place: int
     title: str
     about: str
     details: tuple[tuple[str, str], ...]
-    tokens: tuple[str, ...]
+    keys: tuple[Key, ...]
 
 
 def _text_of(value: object) -> str:
@@ -60,12 +75,12 @@ def details(right: object) -> tuple[tuple[str, str], ...]:
     return tuple((LABELS.get(name, f"Further, “{name}”"), _text_of(value)) for name, value in members)
 
 
-def token_names(shown: dict) -> list[str]:
-    """A name for each token that is asked for: its label, or its number where there are several."""
-    tokens = shown["access_token"]
-    if len(tokens) == 1:
-        return [tokens[0].get("label", "this access")]
-    return [token.get("label", f"token {number}") for number, token in enumerate(tokens, 1)]
+def keys(shown: dict) -> list[Key]:
+    """The tokens that are asked for. The name of each is its label, or its number."""
+    return [
+        Key(token.get("label", f"number {number}"), "label" in token, "bearer" in token.get("flags", []))
+        for number, token in enumerate(shown["access_token"], 1)
+    ]
 
 
 def asked_rights(shown: dict) -> list:
@@ -78,16 +93,13 @@ def asked_rights(shown: dict) -> list:
 
 def choices(shown: dict, known: dict[str, dict[str, str]]) -> list[Choice]:
     """What the user can allow, right by right."""
-    named = [
-        (name, {_one_text(right) for right in token["access"]})
-        for name, token in zip(token_names(shown), shown["access_token"])
-    ]
+    named = [(key, {_one_text(right) for right in token["access"]}) for key, token in zip(keys(shown), shown["access_token"])]
     made = []
     for place, right in enumerate(asked_rights(shown)):
         name = right if isinstance(right, str) else right["type"]
         words = known.get(name, {"title": name, "about": "This server has no description of it."})
-        tokens = tuple(label for label, texts in named if _one_text(right) in texts)
-        made.append(Choice(place, words["title"], words["about"], details(right), tokens))
+        opening = tuple(key for key, texts in named if _one_text(right) in texts)
+        made.append(Choice(place, words["title"], words["about"], details(right), opening))
     return made
 
 
