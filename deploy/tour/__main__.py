@@ -23,11 +23,14 @@ def go_around(tour: Tour, quick: bool) -> None:
         visits.grant_all_by_push,
         visits.deny,
         visits.user_code,
+        visits.code_of_another,
         visits.part_of_another,
         visits.taken_back,
         visits.somebody_else,
         guards.hostile_texts,
         guards.forms_and_cookies,
+        guards.other_site,
+        guards.colours,
         guards.terminator,
     ):
         print(visit.__doc__, flush=True)

@@ -117,8 +117,17 @@ class Browser:
             self.click(css)
 
     def type(self, css: str, text: str) -> None:
-        """Types a text there."""
+        """Types a text there, in the place of what stands there."""
+        self._do("POST", f"{self._find(css)}/clear", {})
         self._do("POST", f"{self._find(css)}/value", {"text": text})
+
+    def value(self, css: str) -> str:
+        """What stands in this field."""
+        return self._do("GET", f"{self._find(css)}/property/value")
+
+    def title(self) -> str:
+        """The title of the page."""
+        return self._do("GET", "/title")
 
     def cookies(self) -> list[dict]:
         """The cookies of the page."""
@@ -138,3 +147,12 @@ class Browser:
         width = self._shot(path.with_name(f"{path.stem}-phone.png"))
         self._view(DESKTOP)
         return width <= PHONE["width"]
+
+    def dark_picture(self, path: Path) -> None:
+        """Takes a picture of the page as it is for those who like it dark."""
+        self._scheme("dark")
+        self._shot(path.with_name(f"{path.stem}-dark.png"))
+        self._scheme("light")
+
+    def _scheme(self, name: str) -> None:
+        self._tell_chromium("Emulation.setEmulatedMedia", features=[{"name": "prefers-color-scheme", "value": name}])

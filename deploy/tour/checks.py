@@ -1,6 +1,7 @@
 """What a tour has at hand, and how it says what it saw."""
 
 import json
+import re
 import time
 from collections.abc import Callable
 from dataclasses import dataclass, field
@@ -54,6 +55,7 @@ class Tour:
     def picture(self, name: str) -> None:
         """Takes pictures of the page."""
         self.check(f"the page fits a phone (picture {name})", self.browser.picture(self.pictures / name))
+        self.browser.dark_picture(self.pictures / name)
 
     def begin(self, *words: object, **more: object) -> Grant:
         """Begins a grant, and remembers what of it is secret."""
@@ -88,6 +90,11 @@ class Tour:
 def handle_of(grant: Grant) -> str:
     """The handle in the address to which the user is sent."""
     return grant.interact["redirect"].rsplit("/", 1)[1]
+
+
+def form_token(page: Reply) -> str:
+    """The token that the forms of a page carry."""
+    return re.search(r'name="form_token" value="([0-9a-f]{64})"', page.content.decode())[1]
 
 
 def start_tour(work: Path, pictures: Path, browser: Browser) -> Tour:

@@ -6,13 +6,14 @@ import time
 
 from client.coming_back import ComingBack
 from client.gnap_client import Grant, WrongHash
-from tour.checks import Tour
+from tour.checks import Tour, form_token
 
 ALLOW = "button[value=grant]"
+ALLOW_ALL = "button[value=all]"
 DENY = "button[value=deny]"
 FIRST = "input[name=right][value='0']"
 SECOND = "input[name=right][value='1']"
-THIRD = "input[name=right][value='2']"
+TELL = "input[name=tell]"
 ROUND = 600
 
 GRANTED_IN_PART = """\
@@ -43,7 +44,7 @@ def sign_in(tour: Tour, user: str) -> None:
 
 
 def decide_in_part(tour: Tour, client: subprocess.Popen) -> None:
-    """Opens the link that the client prints, signs in, and grants all but the letters."""
+    """Opens the link that the client prints, signs in, and ticks all but the letters."""
     link = next((line.strip() for line in client.stdout if "https://" in line), "")
     tour.check("the client prints a link", link != "")
     tour.secrets.add(link.rsplit("/", 1)[1])
@@ -60,8 +61,12 @@ def decide_in_part(tour: Tour, client: subprocess.Popen) -> None:
         "works for anybody who holds it",
         "Signed in as Alice Moreau",
     )
+    tour.check("nothing is ticked beforehand", tour.browser.count("input[type=checkbox]") == 4 and tour.browser.count("input:checked") == 0)
+    tour.shows("labels are told as the client's words", "its word: pictures", "its word: letters", "written by the application itself")
+    tour.shows("the page says where it may send the user", "sent to 127.0.0.1 (your own machine), and nowhere else")
     tour.picture("2-consent")
-    tour.browser.tick(THIRD, False)
+    for box in (FIRST, SECOND, TELL):
+        tour.browser.tick(box, True)
     tour.browser.click(ALLOW)
     tour.shows("the browser is back at the client", "You are back at the application")
     tour.check("on the loopback address", tour.browser.uri().startswith("http://127.0.0.1:"))
@@ -88,14 +93,12 @@ def grant_all_by_push(tour: Tour) -> None:
     with ComingBack() as back:
         grant = tour.begin(tour.config["wanted"], ["redirect"], ("push", back.uri))
         tour.browser.go(grant.interact["redirect"])
-        for box in (FIRST, SECOND, THIRD):
-            tour.browser.tick(box, False)
         tour.browser.click(ALLOW)
-        tour.shows("nothing ticked is no decision", "Tick what you want to allow")
+        tour.shows("nothing ticked is no decision", "Nothing is ticked")
+        tour.check("the message is tied to the boxes", tour.browser.count("fieldset[aria-describedby=problem]") == 1)
+        tour.check("the title says it too", tour.browser.title() == "Please check: Print Shop asks for access")
         tour.picture("4-nothing-ticked")
-        for box in (FIRST, SECOND, THIRD):
-            tour.browser.tick(box, True)
-        tour.browser.click(ALLOW)
+        tour.browser.click(ALLOW_ALL)
         tour.shows("the page says that the client knows", "You allowed it", "The application knows of it now")
         tour.picture("5-allowed")
         shown, reference = back.wait(20)
@@ -135,31 +138,69 @@ def deny(tour: Tour) -> None:
     tour.is_refused("the grant is over", "invalid_continuation", lambda: tour.client.cancel(grant))
 
 
+def type_code(tour: Tour, code: str) -> None:
+    """Types a code on the page for it."""
+    tour.browser.type("#code", code)
+    tour.browser.click("button.main")
+
+
+def tells_wrong_code(tour: Tour, typed: str, problem: str) -> None:
+    """Checks that the page tells what is wrong with a code, and keeps it."""
+    tour.shows(f"{typed} isn't taken", problem)
+    tour.check("it stays in its field", tour.browser.value("#code") == typed)
+    tied = tour.browser.count("#code[aria-invalid=true][aria-describedby=problem]") == 1 and tour.browser.count("#problem") == 1
+    tour.check("to which the message is tied", tied)
+    tour.check("and the title says that something is to be checked", tour.browser.title() == "Please check: Type the code")
+
+
+def isnt_gone_around(tour: Tour, handle: str) -> None:
+    """Checks that the question for the device comes before all that allows something."""
+    tour.secrets.add(handle)
+    cookie = "; ".join(f"{one['name']}={one['value']}" for one in tour.browser.cookies())
+    page = tour.fetch(f"/i/{handle}", cookie=cookie)
+    tour.check("which isn't gone around by its link", b"Is the device with you?" in page.content)
+    reply = tour.fetch("/decide", f"form_token={form_token(page)}&handle={handle}&verdict=all", cookie)
+    tour.check("nor by a decision", reply.status == 400 and b"Is the device with you?" in reply.content)
+
+
 def user_code(tour: Tour) -> None:
     """A user types the code that a device shows, and the device polls:"""
     grant = tour.begin({"access": ["photos"]}, ["user_code_uri"])
     shown = grant.interact["user_code_uri"]
     code = shown["code"]
     tour.browser.go(shown["uri"])
-    tour.browser.type("#code", "AEIOU")
-    tour.browser.click("button.main")
-    tour.shows("what is no code is told", "A code has eight letters")
+    tour.picture("6-code")
+    type_code(tour, "AEIOU")
+    tells_wrong_code(tour, "AEIOU", "A code has eight letters")
     wrong = "BBBBBBBB" if code != "BBBBBBBB" else "CCCCCCCC"
-    tour.browser.type("#code", wrong)
-    tour.browser.click("button.main")
-    tour.shows("a wrong code is told", "No request waits under this code")
+    type_code(tour, wrong)
+    tells_wrong_code(tour, wrong, "No request waits under this code")
     tour.picture("6-wrong-code")
-    tour.browser.type("#code", f"{code[:4]}-{code[4:]}".lower())
+    type_code(tour, f"{code[:4]}-{code[4:]}".lower())
+    tour.shows("the right one leads to a question", "Is the device with you?", "Print Shop", f"{code[:4]}-{code[4:]}")
+    tour.picture("7-device")
+    isnt_gone_around(tour, tour.browser.uri().rsplit("/", 1)[1])
     tour.browser.click("button.main")
-    tour.shows("the right one leads to what is asked", "Print Shop asks for access", "See your photos")
-    tour.secrets.add(tour.browser.uri().rsplit("/", 1)[1])
+    tour.shows("and then to what is asked", "Print Shop asks for access", "See your photos")
     tour.picture("7-consent-by-code")
-    tour.browser.click(ALLOW)
+    tour.browser.click(ALLOW_ALL)
     tour.shows("the page sends the user back to the device", "You allowed it", "go back to your device")
     tour.client.poll(grant)
     tour.remember(grant)
     reply = tour.client.use(grant.tokens[0], "GET", f"{tour.config['resource']}/photos")
     tour.check("the device got a token that opens the photos", reply.status == 200)
+
+
+def code_of_another(tour: Tour) -> None:
+    """A user was given the code of a device that is somewhere else:"""
+    grant = tour.begin({"access": ["photos"]}, ["user_code_uri"])
+    tour.browser.go(grant.interact["user_code_uri"]["uri"])
+    type_code(tour, grant.interact["user_code_uri"]["code"])
+    tour.shows("the page asks for the device", "If somebody sent or told you the code, it is their device")
+    tour.secrets.add(tour.browser.uri().rsplit("/", 1)[1])
+    tour.browser.click(DENY)
+    tour.shows("no is a refusal", "You denied it")
+    tour.is_refused("the device is told", "user_denied", lambda: tour.client.poll(grant))
 
 
 def part_of_another(tour: Tour) -> None:
@@ -169,10 +210,11 @@ def part_of_another(tour: Tour) -> None:
     wanted = [{"label": "look", "access": [read]}, {"label": "change", "access": [write]}]
     grant = tour.begin(wanted, ["redirect"], subject=True)
     tour.browser.go(grant.interact["redirect"])
-    tour.browser.tick(FIRST, False)
+    tour.browser.tick(SECOND, True)
+    tour.browser.tick(TELL, True)
     tour.browser.click(ALLOW)
     tour.shows("the page says what the choice includes", "includes this as well: Your calendar")
-    tour.check("and keeps the other ticks", tour.browser.count("input[name=tell]:checked") == 1)
+    tour.check("and keeps the other ticks", tour.browser.count(f"{TELL}:checked") == 1)
     tour.browser.tick(FIRST, True)
     tour.browser.tick(SECOND, False)
     tour.browser.click(ALLOW)
@@ -199,7 +241,7 @@ def somebody_else(tour: Tour) -> None:
     tour.shows("the page says that it is for somebody else", "asks for somebody else")
     tour.check("it offers no grant", tour.browser.count(ALLOW) == 0)
     tour.picture("9-somebody-else")
-    tour.browser.click("button.link")
+    tour.browser.click("button.main")
     tour.shows("after signing out the page asks who it is", "Who are you?")
     sign_in(tour, "bruno")
     tour.shows("the other user comes to the same request", "asks for somebody else", "Signed in as Bruno Haas")
