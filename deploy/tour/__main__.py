@@ -9,7 +9,7 @@ import sys
 import time
 from pathlib import Path
 
-from tour import guards, visits
+from tour import elsewhere, guards, visits
 from tour.browser import Browser, NotThere
 from tour.checks import Failed, Tour, start_tour
 
@@ -31,6 +31,7 @@ def go_around(tour: Tour, quick: bool) -> None:
         guards.forms_and_cookies,
         guards.other_site,
         guards.colours,
+        elsewhere.signed_in_elsewhere,
         guards.terminator,
     ):
         print(visit.__doc__, flush=True)
