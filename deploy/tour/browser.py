@@ -72,7 +72,8 @@ class Browser:
                 return json.load(reply)["value"]
         except urllib.error.HTTPError as error:
             said = json.load(error)["value"]
-            if said["error"] in ("no such element", "stale element reference"):
+            # While a page gives way to the next one, Chromium at times tells of an element of the former one in words of its own.
+            if said["error"] in ("no such element", "stale element reference") or "does not belong to the document" in said["message"]:
                 raise NotThere(said["message"].splitlines()[0]) from None
             raise RuntimeError(f"{said['error']}: {said['message'].splitlines()[0]}") from None
 
