@@ -7,7 +7,7 @@ ghost use Rattle.gnap_model.specs.Rights.{values_of, right_atoms, same_atom, cov
 ghost use Rattle.access_rights.specs.Inclusion.{has_atom, atom_at, covers_privileges, covers_datatypes, covers_locations, covers_object};
 
 use crate::masks::covers_by_masks;
-use gnap_io::bytes::Bytes;
+use bytes_and_lists::bytes::Bytes;
 use gnap_model::rights::{Right, RightObject, Rights, Texts};
 
 /// Each atom of the wanted rights is an atom of the granted ones. A reference is one atom; a right in full has one for each choice

@@ -7,7 +7,7 @@ ghost use Rattle.access_rights.specs.Masks.{texts_in, is_alike, has_value, with_
 
 use crate::inclusion::{is_value, same_option};
 use arrayvec::ArrayVec;
-use gnap_io::bytes::Bytes;
+use bytes_and_lists::bytes::Bytes;
 use gnap_model::rights::{Right, RightObject, Rights, Texts};
 
 /// What a right in full may be narrowed to by several values (RFC 9635, section 8).

@@ -8,8 +8,8 @@ ghost use Rattle.json_objects.specs.Texts.{AreUtf8};
 ghost use Rattle.access_rights.specs.Fits.{IsFurther, FitsObject, Fits};
 ghost use Rattle.access_rights.specs.Printing.{members_read, right_members, right_data, rights_data};
 
-use gnap_io::bytes::Bytes;
-use gnap_io::memory::Mem;
+use bytes_and_lists::bytes::Bytes;
+use bytes_and_lists::memory::Mem;
 use gnap_model::rights::{Right, RightObject, Rights, Texts};
 use json_objects::{optional_value, put, text_value, texts_value};
 use serde_json::{Map, Value};

@@ -10,9 +10,9 @@ ghost use Rattle.access_rights.specs.declared.reading.RightsFault.TheVariants.{O
 ghost use Rattle.access_rights.specs.Fits.{is_own, IsFurther, FitsObject, Fits};
 ghost use Rattle.access_rights.specs.Reading.{any_text, sized, type_of, dimension_of, identifier_of, others, further_of, extent, right_object_of, right_of, rights_of};
 
-use gnap_io::bytes::Bytes;
-use gnap_io::memory::Mem;
-use gnap_io::seq::Seq;
+use bytes_and_lists::bytes::Bytes;
+use bytes_and_lists::memory::Mem;
+use bytes_and_lists::seq::Seq;
 use gnap_model::rights::{Right, RightObject, Rights, Texts};
 use json_objects::compact_text;
 use serde_json::{Map, Value};

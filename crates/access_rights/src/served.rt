@@ -4,9 +4,9 @@ ghost use Rattle.std.specs.List.{list_any};
 ghost use Rattle.gnap_model.specs.Common.{same_text};
 ghost use Rattle.gnap_model.specs.Rights.{right_name, serves, served_part};
 
-use gnap_io::bytes::Bytes;
-use gnap_io::memory::{Duplicate, Mem};
-use gnap_io::seq::Seq;
+use bytes_and_lists::bytes::Bytes;
+use bytes_and_lists::memory::{Duplicate, Mem};
+use bytes_and_lists::seq::Seq;
 use gnap_model::rights::{Names, Right, Rights};
 use std::alloc::Global;
 

@@ -9,7 +9,7 @@ ghost use Rattle.json_objects.specs.Sizes.{capped, items_size, members_size, fie
 ghost use Rattle.access_rights.specs.Fits.{IsFurther, FitsObject, Fits};
 ghost use Rattle.access_rights.specs.Printing.{members_read, right_members, right_data};
 
-use gnap_io::bytes::Bytes;
+use bytes_and_lists::bytes::Bytes;
 use gnap_model::rights::{Right, RightObject, Rights};
 use json_objects::sizes::{
     enclosed_size, text_member_size, text_size, texts_member_size, total_size,

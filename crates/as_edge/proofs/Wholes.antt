@@ -1,7 +1,7 @@
 -- Connections on which nothing failed.
 use Rattle.std.proofs.Common.{◌≡◌, ℕ, List, [], ◌∷◌, ◌++◌, ap, arith}
 use Rattle.gnap_io.specs.Outside.{Served}
-use Rattle.gnap_io.specs.declared.message.Message.{Message}
+use Rattle.bytes_and_lists.specs.declared.message.Message.{Message}
 use Rattle.histories.specs.Turns.{Turn, IsTurn}
 use Rattle.http_edge.specs.declared.fault.EdgeFault.{EdgeFault}
 use Rattle.gnap_model.specs.declared.objects.Setup.{Setup}

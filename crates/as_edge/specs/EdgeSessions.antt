@@ -1,7 +1,7 @@
 -- What is done with a connection to the authorization server.
 use Rattle.std.specs.Prelude.{◌≡◌, ℕ, List, ◌∷◌, ◌++◌, refl}
 use Rattle.gnap_io.specs.Outside.{Served}
-use Rattle.gnap_io.specs.declared.message.Message.{Message}
+use Rattle.bytes_and_lists.specs.declared.message.Message.{Message}
 use Rattle.histories.specs.Turns.{Turn, IsTurn, messages_in, bytes_in}
 use Rattle.http_edge.specs.declared.fault.EdgeFault.{EdgeFault}
 use Rattle.gnap_model.specs.declared.objects.Setup.{Setup}

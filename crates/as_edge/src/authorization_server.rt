@@ -4,10 +4,10 @@ ghost use Rattle.as_edge.specs.EdgeWire.{no_message};
 
 use crate::replies::{ReadyReply, http_reply, print_direct, write_whole};
 use as_requests::{Edge, RequestStep, desk_call};
+use bytes_and_lists::memory::Mem;
+use bytes_and_lists::message::Message;
 use gnap_io::device::{Failed, Sink, Source};
 use gnap_io::gear::{Clock, Draws};
-use gnap_io::memory::Mem;
-use gnap_io::message::Message;
 use gnap_model::calls::{Call, Reply};
 use grant_machine::Gnap;
 use histories::machine::Desk;

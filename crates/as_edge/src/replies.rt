@@ -7,9 +7,9 @@ ghost use Rattle.http_edge.specs.Replies.{is_used, plain_reply, reply_bytes, May
 ghost use Rattle.as_edge.specs.DirectReplies.{http_reply, allow_reply, direct_reply};
 
 use as_requests::{DirectAnswer, Route};
-use gnap_io::bytes::Bytes;
+use bytes_and_lists::bytes::Bytes;
+use bytes_and_lists::memory::Mem;
 use gnap_io::device::{Failed, Sink};
-use gnap_io::memory::Mem;
 use gnap_model::calls::Reply;
 use gnap_model::objects::Setup;
 use gnap_replies::discovery::{print_client_discovery, print_server_discovery};

@@ -4,7 +4,7 @@ use Rattle.std.specs.Prelude.{is_some, codes}
 use Rattle.std.specs.Option.{option_map}
 use Rattle.std.specs.Str.{bytes_eq}
 use Rattle.std.proofs.Math.Seq.{drop-cons}
-use Rattle.gnap_io.specs.declared.message.Field.{Field}
+use Rattle.bytes_and_lists.specs.declared.message.Field.{Field}
 use Rattle.as_requests.specs.Presented.{authorizations, presented_in}
 
 -- the one that was met so far, before others

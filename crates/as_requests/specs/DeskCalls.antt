@@ -1,7 +1,7 @@
 -- What a request asks of the authorization server: a call of its machine, or an answer that needs no state.
 use Rattle.std.specs.Prelude.{ℕ, List, [], ◌∷◌, Option, Some, None, Result, Ok, Err, codes}
 use Rattle.std.specs.Result.{result_ok}
-use Rattle.gnap_io.specs.declared.message.Message.{Message}
+use Rattle.bytes_and_lists.specs.declared.message.Message.{Message}
 use Rattle.serde_json.specs.Data.{Data}
 use Rattle.structured_fields.specs.Named.{value_at}
 use Rattle.message_signature.specs.Verified.{verified}

@@ -1,8 +1,8 @@
 -- The access token that a request presents (RFC 9635, section 7.2).
 use Rattle.std.specs.Prelude.{ℕ, List, [], ◌∷◌, map, filter, take, drop, if◌then◌else◌, codes}
 use Rattle.std.specs.Str.{bytes_eq, str_eq_ignore_ascii_case}
-use Rattle.gnap_io.specs.declared.message.Field.{Field}
-use Rattle.gnap_io.specs.declared.message.Message.{Message}
+use Rattle.bytes_and_lists.specs.declared.message.Field.{Field}
+use Rattle.bytes_and_lists.specs.declared.message.Message.{Message}
 
 -- the values of the `Authorization` fields
 abbrev pub authorizations : List Field → List (List ℕ)

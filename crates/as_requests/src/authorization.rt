@@ -2,7 +2,7 @@
 ghost use Rattle.std.specs.Prelude.{◌≡◌};
 ghost use Rattle.as_requests.specs.Presented.{authorizations, behind_scheme, presented_in, presented_value};
 
-use gnap_io::message::{Fields, Message};
+use bytes_and_lists::message::{Fields, Message};
 
 // The value behind the scheme.
 fn behind_scheme(value: &[u8]) -> &[u8]

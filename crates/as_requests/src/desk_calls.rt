@@ -6,9 +6,9 @@ ghost use Rattle.as_requests.specs.DeskCalls.{signer, signed_call, step_of, rout
 use crate::authorization::presented_value;
 use crate::edge::Edge;
 use crate::routes::{Purpose, Route, path_of};
-use gnap_io::bytes::Bytes;
-use gnap_io::memory::Mem;
-use gnap_io::message::Message;
+use bytes_and_lists::bytes::Bytes;
+use bytes_and_lists::memory::Mem;
+use bytes_and_lists::message::Message;
 use gnap_model::calls::Call;
 use gnap_objects::{BodyForm, CallKind, CallOrRefusal, ErrorCode, read_call, stranger};
 use json_objects::{BodyFault, read_body};

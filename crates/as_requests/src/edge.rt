@@ -4,8 +4,8 @@ ghost use Rattle.gnap_model.specs.declared.objects.Setup.{Setup};
 ghost use Rattle.gnap_objects.specs.Setups.{IsSetup};
 ghost use Rattle.as_requests.specs.Rings.{secrets_of};
 
-use gnap_io::bytes::Bytes;
-use gnap_io::memory::Mem;
+use bytes_and_lists::bytes::Bytes;
+use bytes_and_lists::memory::Mem;
 use gnap_model::objects::Setup;
 use hmac_key::Keyring;
 use std::alloc::Global;

@@ -7,9 +7,9 @@ ghost use Rattle.as_service.specs.Services.{IsService};
 
 use as_edge::AuthorizationServer;
 use as_requests::Edge;
-use gnap_io::bytes::Bytes;
+use bytes_and_lists::bytes::Bytes;
+use bytes_and_lists::memory::{Duplicate, Mem};
 use gnap_io::gear::{Counted, Door};
-use gnap_io::memory::{Duplicate, Mem};
 use gnap_io::world::{World, WorldFault};
 use gnap_model::objects::Setup;
 use grant_machine::laws::what_holds;

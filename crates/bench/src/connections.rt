@@ -1,9 +1,9 @@
 //! Requests of a connection, read and verified.
 
-use gnap_io::bytes::Bytes;
-use gnap_io::memory::Mem;
+use bytes_and_lists::bytes::Bytes;
+use bytes_and_lists::memory::Mem;
+use bytes_and_lists::message::Message;
 use gnap_io::memory_devices::MemSource;
-use gnap_io::message::Message;
 use hmac_key::Keyring;
 use http_edge::{Held, next_message};
 use message_signature::verify;

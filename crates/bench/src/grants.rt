@@ -4,8 +4,8 @@
 //! grants are put through, behind that the nanoseconds of one, the mean.
 
 use crate::timings::nanos_of_one;
+use bytes_and_lists::memory::Mem;
 use desk_load::{Tally, load_setup, put_load, put_load_alone};
-use gnap_io::memory::Mem;
 use std::alloc::Global;
 use std::io;
 use std::rt::Clock;

@@ -2,8 +2,8 @@
 
 use crate::connections::SECRET;
 use base64::engine::general_purpose::STANDARD;
-use gnap_io::bytes::Bytes;
-use gnap_io::memory::Mem;
+use bytes_and_lists::bytes::Bytes;
+use bytes_and_lists::memory::Mem;
 use hmac_key::hmac;
 use sha2::{Digest, Sha256};
 use std::alloc::Global;

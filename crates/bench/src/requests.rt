@@ -7,8 +7,8 @@
 use crate::connections::{Verifier, requests_read};
 use crate::hashes::Hashes;
 use crate::timings::nanos_of_one;
-use gnap_io::bytes::Bytes;
-use gnap_io::memory::Mem;
+use bytes_and_lists::bytes::Bytes;
+use bytes_and_lists::memory::Mem;
 use gnap_io::memory_devices::MemSource;
 use std::alloc::Global;
 use std::io;

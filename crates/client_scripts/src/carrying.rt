@@ -4,10 +4,10 @@ ghost use Rattle.client_scripts.specs.Deeds.{DeedFits, Called, word_of, state_te
 ghost use Rattle.client_scripts.specs.Carrying.{CarriesDeed};
 
 use crate::deeds::Deed;
+use bytes_and_lists::bytes::Bytes;
+use bytes_and_lists::memory::Mem;
 use gnap_client::{Client, ClientFault, State, Took};
-use gnap_io::bytes::Bytes;
 use gnap_io::link::Link;
-use gnap_io::memory::Mem;
 use itoa::Buffer;
 use std::alloc::Global;
 

@@ -1,5 +1,5 @@
 //! What a line has the client do.
-use gnap_io::bytes::Bytes;
+use bytes_and_lists::bytes::Bytes;
 use gnap_model::objects::GrantRequest;
 
 /// What a line has the client do. A token is named by its place, counted from 0.

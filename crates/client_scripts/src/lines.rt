@@ -14,8 +14,8 @@ ghost use Rattle.client_scripts.specs.Deeds.{CanBeShown, DeedFits};
 ghost use Rattle.client_scripts.specs.Lines.{line_member, line_text, line_number, line_moment, line_object, readable_request, line_request, passing, finish_in, use_in, deed_named, object_deed, line_deed};
 
 use crate::deeds::Deed;
-use gnap_io::bytes::Bytes;
-use gnap_io::memory::Mem;
+use bytes_and_lists::bytes::Bytes;
+use bytes_and_lists::memory::Mem;
 use gnap_model::objects::GrantRequest;
 use gnap_objects::{ObjectFault, read_grant};
 use json_objects::{has_fraction, member_within};

@@ -6,10 +6,10 @@ ghost use Rattle.client_scripts.specs.Turns.{HasScriptTurn};
 
 use crate::carrying::{carry_out, said_line};
 use crate::lines::{LineFault, read_line};
+use bytes_and_lists::bytes::Bytes;
+use bytes_and_lists::memory::Mem;
 use gnap_client::{Client, ClientFault, Took};
-use gnap_io::bytes::Bytes;
 use gnap_io::link::Link;
-use gnap_io::memory::Mem;
 use std::alloc::Global;
 
 /// What is printed for a line, and whether the line was ok.

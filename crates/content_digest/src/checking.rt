@@ -6,8 +6,8 @@ ghost use Rattle.content_digest.specs.Digest.{is_known, sequence_of, has_right_k
 ghost use Rattle.content_digest.specs.Judged.{other_than, difference, first_difference, answer_to, judged, checked, Gives, Says, AnswersWhatIsSo};
 
 use crate::fault::DigestFault;
-use gnap_io::bytes::Bytes;
-use gnap_io::memory::Duplicate;
+use bytes_and_lists::bytes::Bytes;
+use bytes_and_lists::memory::Duplicate;
 use sha2::{Digest, Sha256, Sha512};
 use std::alloc::Global;
 use structured_fields::{Bare, Dictionary, FieldFault, Item, Member, read_dictionary};

@@ -2,8 +2,8 @@
 ghost use Rattle.std.specs.Prelude.{◌≡◌};
 ghost use Rattle.content_digest.specs.declared.fault.DigestFault.TheVariants.{OutOfMemory};
 
-use gnap_io::bytes::Bytes;
-use gnap_io::memory::Mem;
+use bytes_and_lists::bytes::Bytes;
+use bytes_and_lists::memory::Mem;
 
 /// Why a Content-Digest field doesn't pass.
 #[derive(Drop)]

@@ -3,8 +3,8 @@ ghost use Rattle.std.specs.Prelude.{◌≡◌, IfOk};
 ghost use Rattle.content_digest.specs.Digest.{digest_text};
 
 use base64::engine::general_purpose::STANDARD;
-use gnap_io::bytes::Bytes;
-use gnap_io::memory::Mem;
+use bytes_and_lists::bytes::Bytes;
+use bytes_and_lists::memory::Mem;
 use sha2::{Digest, Sha256};
 use std::alloc::Global;
 

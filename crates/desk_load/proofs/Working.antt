@@ -1,7 +1,7 @@
 -- What a worker keeps while it does its share.
 use Rattle.std.proofs.Common.{◌≡◌, ℕ, ◌*◌, ◌<◌, ◌≤◌, ◌^◌, List, [], sym, arith}
 use Rattle.std.specs.Prelude.{Result, Ok, Err, IfOk}
-use Rattle.gnap_io.specs.declared.memory.Mem.{Mem}
+use Rattle.bytes_and_lists.specs.declared.memory.Mem.{Mem}
 use Rattle.histories.specs.History.{Legal}
 use Rattle.histories.specs.Histories.{legal-nil}
 use Rattle.shared_server.specs.Passes.{StationState}

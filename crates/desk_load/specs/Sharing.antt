@@ -2,7 +2,7 @@
 use Rattle.std.specs.Prelude.{◌≡◌, ℕ, ◌*◌, ◌<◌, ◌≤◌, List, [], length, map, Bool, false, Result, IfOk}
 use mathlib.Core.Option.{some}
 use lib.ListN.{get_elem?}
-use Rattle.gnap_io.specs.declared.memory.Mem.{Mem}
+use Rattle.bytes_and_lists.specs.declared.memory.Mem.{Mem}
 use Rattle.histories.specs.Whole.{own_of}
 use Rattle.shared_server.specs.Passes.{Sharing, PassState, StationState, IsPassOf}
 use Rattle.gnap_model.specs.declared.objects.Setup.{Setup}

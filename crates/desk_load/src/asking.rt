@@ -5,7 +5,7 @@ ghost use Rattle.desk_load.specs.Tallies.{counted_in};
 
 use crate::tally::Tally;
 use crate::words::Words;
-use gnap_io::memory::Mem;
+use bytes_and_lists::memory::Mem;
 use gnap_model::calls::{Call, Reply};
 use grant_machine::Gnap;
 use histories::machine::Desk;

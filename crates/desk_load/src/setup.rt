@@ -2,9 +2,9 @@
 ghost use Rattle.std.specs.Prelude.{◌≡◌, [], ◌∷◌, codes, IfOk};
 ghost use Rattle.desk_load.specs.LoadCalls.{reference_to, client_row, server_row, load_setup};
 
-use gnap_io::bytes::Bytes;
-use gnap_io::memory::Mem;
-use gnap_io::seq::Seq;
+use bytes_and_lists::bytes::Bytes;
+use bytes_and_lists::memory::Mem;
+use bytes_and_lists::seq::Seq;
 use gnap_model::objects::{KeyRow, Role, Setup};
 use gnap_model::rights::{Right, Rights};
 use std::alloc::Global;

@@ -7,7 +7,7 @@ use crate::asking::ask;
 use crate::grant_calls::{cancellation_of, opening_call, question_about, rotation_of};
 use crate::tally::Tally;
 use crate::words::Words;
-use gnap_io::memory::Mem;
+use bytes_and_lists::memory::Mem;
 use gnap_model::calls::Reply;
 use grant_machine::Gnap;
 use histories::machine::Desk;

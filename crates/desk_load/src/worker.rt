@@ -6,7 +6,7 @@ ghost use Rattle.desk_load.specs.Sharing.{IsSameWorker, HasCounted};
 use crate::share::do_share;
 use crate::tally::Tally;
 use crate::words::Words;
-use gnap_io::memory::Mem;
+use bytes_and_lists::memory::Mem;
 use grant_machine::Gnap;
 use histories::machine::Core;
 use shared_server::shared::{Pass, Shared};

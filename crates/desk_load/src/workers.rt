@@ -10,7 +10,7 @@ ghost use Rattle.desk_load.specs.Sharing.{IsSameWorker, AreWorkers, HaveDone};
 
 use crate::tally::Tally;
 use crate::worker::Worker;
-use gnap_io::memory::Mem;
+use bytes_and_lists::memory::Mem;
 use grant_machine::Gnap;
 use histories::machine::Core;
 use shared_server::shared::{Pass, Shared, close};

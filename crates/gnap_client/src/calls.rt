@@ -10,8 +10,8 @@ ghost use Rattle.gnap_client.specs.declared.client.ClientFault.TheVariants.{OutO
 ghost use Rattle.gnap_client.specs.Calls.{HasAsked, is_fresh, is_pending, is_approved, is_open, request_message, with_door, finish_asked, reference_fields, reference_body, begin_call, poll_call, patch_call, cancel_call, awaited_hash, checked_hash, awaits, finish_call, token_at, rotate_call, revoke_call, scheme_for, use_call};
 
 use crate::client::{Asked, Client, ClientFault, Received, State};
-use gnap_io::bytes::Bytes;
-use gnap_io::memory::{Duplicate, Mem};
+use bytes_and_lists::bytes::Bytes;
+use bytes_and_lists::memory::{Duplicate, Mem};
 use gnap_model::calls::TokenOut;
 use gnap_model::objects::{Finish, GrantRequest, Modes};
 use grant_values::grant_text;

@@ -3,9 +3,9 @@ ghost use Rattle.std.specs.Prelude.{◌≡◌, None, option_map};
 ghost use Rattle.gnap_client.specs.Received.{nothing_received};
 
 use crate::config::ClientConfig;
-use gnap_io::bytes::Bytes;
-use gnap_io::memory::Mem;
-use gnap_io::seq::Seq;
+use bytes_and_lists::bytes::Bytes;
+use bytes_and_lists::memory::Mem;
+use bytes_and_lists::seq::Seq;
 use gnap_model::calls::Tokens;
 use gnap_model::objects::{ErrorCode, Finish};
 use reply_readers::{GrantReply, Interaction};

@@ -9,7 +9,7 @@ ghost use Rattle.gnap_objects.specs.declared.setups.SetupFault.TheVariants.{OutO
 ghost use Rattle.gnap_client.specs.Configs.{client_id_of, parts_of, client_config_of};
 
 use crate::config::ClientConfig;
-use gnap_io::bytes::Bytes;
+use bytes_and_lists::bytes::Bytes;
 use gnap_objects::members::{id_of, required, without_others};
 use gnap_objects::setup_members::{base_of, object_of, secret_of};
 use gnap_objects::{ObjectFault, SetupFault};

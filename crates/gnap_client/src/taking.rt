@@ -5,9 +5,9 @@ ghost use Rattle.gnap_client.specs.Received.{finish_of, replaced, rotated, state
 ghost use Rattle.gnap_client.specs.Taking.{reply_kind, read_by, Says, SaysNext, took_of, HasTaken};
 
 use crate::client::{Asked, Client, ClientFault, ReadReply, Received, State, Took};
-use gnap_io::bytes::Bytes;
-use gnap_io::memory::Mem;
-use gnap_io::seq::Seq;
+use bytes_and_lists::bytes::Bytes;
+use bytes_and_lists::memory::Mem;
+use bytes_and_lists::seq::Seq;
 use gnap_model::calls::{TokenOut, Tokens};
 use gnap_model::objects::{ErrorCode, Finish};
 use http_edge::{ReplyFault, read_reply};

@@ -2,7 +2,7 @@
 use Rattle.std.proofs.Common.{◌≡◌, ◌∙◌, ◌≤◌, ℕ, true, false, List, sym, subst, ap, arith, refl, Option, Some, None}
 use Rattle.std.specs.Prelude.{Result, IfOk, if◌then◌else◌, is_some, is_none, nat_le, option_map}
 use Rattle.std.proofs.lemmas.Bool.Decides.{nat_tests}
-use Rattle.gnap_io.specs.declared.memory.Mem.{Mem}
+use Rattle.bytes_and_lists.specs.declared.memory.Mem.{Mem}
 use Rattle.gnap_model.specs.Common.{Text, first_of}
 use Rattle.gnap_model.specs.Actions.{Action, Supply, outcome_of, on_found, with_key}
 use Rattle.gnap_model.specs.Actions.Action.{Refuse, RefuseAndFinalize}

@@ -1,7 +1,7 @@
 -- What is done on a modification, by how its request is settled.
 use Rattle.std.proofs.Common.{◌≡◌, ◌∙◌, ℕ, Bool, true, false, List, [], ◌∷◌, ◌++◌, length, refl, ap, sym, subst, append_assoc, Option}
 use Rattle.std.specs.Prelude.{Result, IfOk}
-use Rattle.gnap_io.specs.declared.memory.Mem.{Mem}
+use Rattle.bytes_and_lists.specs.declared.memory.Mem.{Mem}
 use Rattle.gnap_model.specs.Common.{Text}
 use Rattle.gnap_model.specs.Actions.{Supply, grant_outcome}
 use Rattle.gnap_model.specs.Actions.Action.{Refuse, ModifyAtOnce}

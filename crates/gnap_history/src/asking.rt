@@ -8,9 +8,9 @@ ghost use Rattle.grant_rules.specs.UserCodes.{code_for};
 
 use crate::drawing::{Drawing, NotedReply};
 use crate::user_codes::user_code;
-use gnap_io::bytes::Bytes;
-use gnap_io::memory::{Duplicate, Mem};
-use gnap_io::seq::Seq;
+use bytes_and_lists::bytes::Bytes;
+use bytes_and_lists::memory::{Duplicate, Mem};
+use bytes_and_lists::seq::Seq;
 use gnap_model::notes::{Note, OpeningNote, RoundNote};
 use gnap_model::objects::Modes;
 use grant_rules::drawing::pending_reply;

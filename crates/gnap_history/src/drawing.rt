@@ -5,8 +5,8 @@ ghost use Rattle.gnap_model.specs.declared.notes.Note.TheVariants.{Door};
 ghost use Rattle.gnap_model.specs.declared.calls.Reply.TheVariants.{Error};
 
 use crate::note_list::NoteList;
-use gnap_io::memory::Mem;
-use gnap_io::seq::Seq;
+use bytes_and_lists::memory::Mem;
+use bytes_and_lists::seq::Seq;
 use gnap_model::calls::Reply;
 use gnap_model::notes::{Note, OpeningNote};
 use gnap_model::objects::ErrorCode;

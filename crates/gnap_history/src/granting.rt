@@ -5,9 +5,9 @@ ghost use Rattle.gnap_model.specs.declared.notes.Note.TheVariants.{Issued};
 ghost use Rattle.gnap_history.specs.Drawings.{supply, IsAnswer};
 
 use crate::drawing::{Drawing, NotedReply};
-use gnap_io::bytes::Bytes;
-use gnap_io::memory::{Duplicate, Mem};
-use gnap_io::seq::Seq;
+use bytes_and_lists::bytes::Bytes;
+use bytes_and_lists::memory::{Duplicate, Mem};
+use bytes_and_lists::seq::Seq;
 use gnap_model::calls::{Reply, Tokens};
 use gnap_model::notes::{Note, OpeningNote, TokenNote};
 use gnap_model::objects::Ask;

@@ -15,7 +15,7 @@ use crate::introspecting::introspect;
 use crate::managing::{revoke, rotate};
 use crate::note_list::NoteList;
 use crate::opening::begin;
-use gnap_io::memory::Mem;
+use bytes_and_lists::memory::Mem;
 use gnap_model::calls::{Call, Reply};
 use gnap_model::objects::Setup;
 use grant_machine::Gnap;

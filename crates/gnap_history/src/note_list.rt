@@ -6,8 +6,8 @@ ghost use Rattle.gnap_model.specs.Standing.{is_opening, next_grant, terms_of};
 ghost use Rattle.gnap_history.specs.Counts.{is_issue, value_count};
 ghost use Rattle.gnap_history.specs.Terms.{AskForFew};
 
-use gnap_io::memory::Mem;
-use gnap_io::seq::Seq;
+use bytes_and_lists::memory::Mem;
+use bytes_and_lists::seq::Seq;
 use gnap_model::notes::{Note, TermsNote};
 use std::alloc::Global;
 use std::marker::Model;

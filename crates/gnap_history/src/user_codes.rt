@@ -6,8 +6,8 @@ ghost use Rattle.grant_rules.specs.UserCodes.{code_for};
 
 use crate::drawing::Drawing;
 use crate::live_rounds::live_round;
-use gnap_io::memory::Mem;
-use gnap_io::seq::Seq;
+use bytes_and_lists::memory::Mem;
+use bytes_and_lists::seq::Seq;
 use gnap_model::notes::Note;
 use grant_rules::user_codes::free_code;
 use std::alloc::Global;

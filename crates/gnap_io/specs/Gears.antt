@@ -2,10 +2,6 @@
 use Rattle.std.specs.Prelude.{◌≡◌, ℕ, ◌+◌, ◌-◌, ◌<◌, ◌≤◌, List, [], ◌∷◌, ◌++◌, All, length, Result, Ok, Err, Option, Some, None}
 use Rattle.gnap_io.specs.Outside.{Served, Rose}
 
--- the last moment that a clock gives: the last second of the year 9999, in seconds since 1970
-abbrev pub last_moment : ℕ
-last_moment = 253402300799
-
 -- What a gear tells: the connections that it took back, the moments that its clock gave, and its draws, each in order.
 pub record Log : Type 0 where
   pub served : List Served

@@ -2,7 +2,7 @@
 ghost use Rattle.std.specs.Prelude.{◌≡◌, IfOk};
 ghost use Rattle.gnap_io.specs.FaultPlans.{new_plan, is_bad, called};
 
-use crate::memory::Mem;
+use bytes_and_lists::memory::Mem;
 use std::marker::Model;
 
 /// How many calls were made, and the numbers, counted from 1, of those that are to fail.

@@ -1,7 +1,8 @@
 //! A worker's part of the outside: a door that gives connections, a clock, and random words.
 ghost use Rattle.std.specs.Prelude.{◌≡◌, ℕ, ◌<◌, ◌≤◌, nat_lt, IfOk, IfSome};
 ghost use Rattle.gnap_io.specs.Outside.{IsUntouched, served_of};
-ghost use Rattle.gnap_io.specs.Gears.{GearState, Accepts, with_served, with_moment, with_draw, last_moment};
+ghost use Rattle.bytes_and_lists.specs.Moments.{last_moment};
+ghost use Rattle.gnap_io.specs.Gears.{GearState, Accepts, with_served, with_moment, with_draw};
 
 use crate::device::{Failed, Sink, Source};
 

@@ -1,7 +1,7 @@
 //! What requests are sent through.
 ghost use Rattle.gnap_io.specs.Links.{LinkState, Exchanges};
 
-use crate::bytes::Bytes;
+use bytes_and_lists::bytes::Bytes;
 
 /// Why no reply came.
 #[derive(Clone, Copy, Debug, PartialEq, Eq)]

@@ -3,10 +3,10 @@ ghost use Rattle.std.specs.Prelude.{◌≡◌, ◌<◌, ◌≤◌, length, IfOk}
 ghost use Rattle.gnap_io.specs.Outside.{HasRead, HasWritten, HasCause};
 ghost use Rattle.gnap_io.specs.MemoryForms.{ReadsByPlan, WritesByPlan, new_conn};
 
-use crate::bytes::Bytes;
 use crate::device::{Device, Failed, Sink, Source};
-use crate::memory::Mem;
 use crate::memory_devices::{MemSink, MemSource};
+use bytes_and_lists::bytes::Bytes;
+use bytes_and_lists::memory::Mem;
 use std::alloc::Global;
 use std::marker::Model;
 

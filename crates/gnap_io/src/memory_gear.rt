@@ -1,14 +1,15 @@
 //! Gears in memory, whose accepts of given numbers fail.
 ghost use Rattle.std.specs.Prelude.{◌≡◌, ℕ, ◌<◌, ◌≤◌, All, IfOk, IfSome};
 ghost use Rattle.gnap_io.specs.Outside.{IsUntouched, served_of};
-ghost use Rattle.gnap_io.specs.Gears.{Accepts, last_moment, with_served, with_moment, with_draw};
+ghost use Rattle.bytes_and_lists.specs.Moments.{last_moment};
+ghost use Rattle.gnap_io.specs.Gears.{Accepts, with_served, with_moment, with_draw};
 ghost use Rattle.gnap_io.specs.MemoryForms.{IsUnusedConn, AcceptsByPlan, unused_gear, next_moment, next_draw, gear_serving, gear_timed, gear_drawn};
 
 use crate::device::{Device, Failed};
 use crate::fault_plan::FaultPlan;
 use crate::gear::{Clock, Counted, Door, Draws, Gear};
-use crate::memory::Mem;
 use crate::memory_conn::MemConn;
+use bytes_and_lists::memory::Mem;
 use http_server::Log;
 use std::marker::Model;
 
@@ -32,7 +33,7 @@ pub struct MemGear {
 
 impl Model for MemGear {
     ghost use Rattle.std.specs.Prelude.{◌+◌, ◌≤◌, All, map, drop, vec_len, vec_capacity};
-    ghost use Rattle.gnap_io.specs.Gears.{last_moment};
+    ghost use Rattle.bytes_and_lists.specs.Moments.{last_moment};
     ghost use Rattle.gnap_io.specs.MemoryForms.{GearForm, IsUnusedConn};
 
     ghost Value = { GearForm };

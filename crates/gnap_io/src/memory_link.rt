@@ -3,10 +3,10 @@ ghost use Rattle.std.specs.Prelude.{◌≡◌};
 ghost use Rattle.gnap_io.specs.Links.{Exchanges};
 ghost use Rattle.gnap_io.specs.MemoryForms.{unasked_link, ExchangesByPlan};
 
-use crate::bytes::Bytes;
 use crate::fault_plan::FaultPlan;
 use crate::link::{Link, LinkFault};
-use crate::memory::Duplicate;
+use bytes_and_lists::bytes::Bytes;
+use bytes_and_lists::memory::Duplicate;
 use std::marker::Model;
 
 /// Replies that are given one after another, whatever is asked. A request that finds none left is a fault.

@@ -1,7 +1,8 @@
 //! The real gears, which share one listener. They tell by lists that take no memory which connections they took back and which moments and
 //! words they gave. What the network, the clock and the generator give is trusted.
 ghost use Rattle.std.specs.Prelude.{◌≡◌, ◌+◌, ◌<◌, ◌≤◌, ◌^◌, All, map};
-ghost use Rattle.gnap_io.specs.Gears.{new_gear, last_moment, with_moment};
+ghost use Rattle.bytes_and_lists.specs.Moments.{last_moment};
+ghost use Rattle.gnap_io.specs.Gears.{new_gear, with_moment};
 
 use crate::adapters::Stream;
 use crate::device::{Device, Failed};

@@ -6,11 +6,11 @@ ghost use Rattle.gnap_io.specs.Outside.{Takes, IsAtEnd};
 ghost use Rattle.gnap_io.specs.Links.{new_link, IsReply};
 
 use crate::adapters::Stream;
-use crate::bytes::Bytes;
 use crate::device::{Failed, Sink, Source, write_all};
 use crate::link::{Link, LinkFault};
 use crate::real_gear::set_limits;
 use crate::transcript::Transcript;
+use bytes_and_lists::bytes::Bytes;
 use http_server::Log;
 use std::alloc::Global;
 use std::net::{Net, TcpStream};

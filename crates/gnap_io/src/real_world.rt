@@ -5,14 +5,14 @@ ghost use Rattle.gnap_io.specs.Gears.{AreStarted};
 ghost use Rattle.gnap_io.specs.Worlds.{new_world, with_gears};
 
 use crate::adapters::Stream;
-use crate::bytes::Bytes;
 use crate::device::Device;
 use crate::gear::Counted;
 use crate::link::Link;
-use crate::memory::Duplicate;
 use crate::real_gear::RealGear;
 use crate::real_link::RealLink;
 use crate::world::{Opening, World, WorldFault};
+use bytes_and_lists::bytes::Bytes;
+use bytes_and_lists::memory::Duplicate;
 use http_server::Log;
 use std::alloc::Global;
 use std::fs;

@@ -5,10 +5,10 @@ ghost use Rattle.gnap_io.specs.Gears.{AreStarted};
 ghost use Rattle.gnap_io.specs.Links.{new_link};
 ghost use Rattle.gnap_io.specs.Worlds.{WorldState, HasWorldCause, with_opened, with_returned, with_opening, with_gears, with_link};
 
-use crate::bytes::Bytes;
 use crate::device::Source;
 use crate::gear::Gear;
 use crate::link::Link;
+use bytes_and_lists::bytes::Bytes;
 
 /// Why the world handed nothing out.
 #[derive(Clone, Copy, Debug, PartialEq, Eq)]

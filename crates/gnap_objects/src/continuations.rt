@@ -8,7 +8,7 @@ ghost use Rattle.gnap_objects.specs.Continuations.{body_member, continuation_of,
 
 use crate::fault::ObjectFault;
 use crate::members::{id_of, text_of};
-use gnap_io::bytes::Bytes;
+use bytes_and_lists::bytes::Bytes;
 use gnap_model::objects::ContinueRequest;
 use json_objects::member;
 use serde_json::Value;

@@ -10,7 +10,7 @@ ghost use Rattle.gnap_objects.specs.Decisions.{handle_of, verdict_in, verdict_of
 
 use crate::fault::ObjectFault;
 use crate::members::{is_too_long, required, required_text, rights_in, sized, text_of};
-use gnap_io::bytes::Bytes;
+use bytes_and_lists::bytes::Bytes;
 use gnap_model::objects::{DecideRequest, Verdict};
 use gnap_model::rights::Rights;
 use json_objects::member;

@@ -2,8 +2,8 @@
 ghost use Rattle.std.specs.Prelude.{◌≡◌, ◌⊎◌};
 ghost use Rattle.gnap_objects.specs.declared.fault.ObjectFault.TheVariants.{Missing, Wrong, TooMany, Flag, Unknown, OutOfMemory};
 
-use gnap_io::bytes::Bytes;
-use gnap_io::memory::Mem;
+use bytes_and_lists::bytes::Bytes;
+use bytes_and_lists::memory::Mem;
 use std::alloc::Global;
 
 /// The first fault that a reader meets, with the name of the member in which it stands.

@@ -20,7 +20,7 @@ use crate::members::{key_name_of, required};
 use crate::token_requests::token_requests_of;
 use crate::users::{subject_request_of, user_of};
 use access_rights::sizes::listed_size;
-use gnap_io::bytes::Bytes;
+use bytes_and_lists::bytes::Bytes;
 use gnap_model::objects::{Asks, GrantRequest};
 use json_objects::sizes::enclosed_size;
 use serde_json::Value;

@@ -8,7 +8,7 @@ ghost use Rattle.gnap_objects.specs.Interactions.{push_of, finish_uri_of, nonce_
 
 use crate::fault::ObjectFault;
 use crate::members::{checked_object, has_string, required, required_items, required_text, sized};
-use gnap_io::bytes::Bytes;
+use bytes_and_lists::bytes::Bytes;
 use gnap_model::objects::{Finish, Modes};
 use interaction::uri_fits;
 use json_objects::member;

@@ -13,7 +13,7 @@ use crate::fault::ObjectFault;
 use crate::forms::is_id;
 use access_rights::sizes::listed_size;
 use access_rights::{RightsFault, read_rights};
-use gnap_io::bytes::Bytes;
+use bytes_and_lists::bytes::Bytes;
 use gnap_model::rights::Rights;
 use json_objects::sizes::enclosed_size;
 use json_objects::{member, other_member};

@@ -13,7 +13,7 @@ use crate::members::{required, text_of};
 use crate::setups::SetupFault;
 use base64::DecodeAllocError;
 use base64::engine::general_purpose::STANDARD;
-use gnap_io::bytes::Bytes;
+use bytes_and_lists::bytes::Bytes;
 use json_objects::{BodyFault, read_body};
 use serde_json::Value;
 use std::alloc::Global;

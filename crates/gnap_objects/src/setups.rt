@@ -16,9 +16,9 @@ ghost use Rattle.gnap_objects.specs.Setups.{has_id, key_id_of, role_of, client_r
 use crate::fault::ObjectFault;
 use crate::members::{id_of, required, required_items, rights_under, text_of, without_others};
 use crate::setup_members::{base_of, object_of, secret_of};
-use gnap_io::bytes::Bytes;
-use gnap_io::memory::Mem;
-use gnap_io::seq::Seq;
+use bytes_and_lists::bytes::Bytes;
+use bytes_and_lists::memory::Mem;
+use bytes_and_lists::seq::Seq;
 use gnap_model::objects::{KeyRow, KeyRows, Role, Setup};
 use gnap_model::rights::{Names, Rights};
 use json_objects::TextSet;

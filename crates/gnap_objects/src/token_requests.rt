@@ -14,8 +14,8 @@ ghost use Rattle.gnap_objects.specs.TokenRequests.{access_of, has_label, label_o
 
 use crate::fault::ObjectFault;
 use crate::members::{counted_rights, rights_under, sized, text_of};
-use gnap_io::bytes::Bytes;
-use gnap_io::seq::Seq;
+use bytes_and_lists::bytes::Bytes;
+use bytes_and_lists::seq::Seq;
 use gnap_model::objects::{Ask, Asks};
 use gnap_model::rights::Rights;
 use json_objects::{TextSet, member};

@@ -8,7 +8,7 @@ ghost use Rattle.gnap_objects.specs.Users.{subject_request_of, is_opaque, first_
 
 use crate::fault::ObjectFault;
 use crate::members::{checked_object, has_string, required_items, required_text, sized};
-use gnap_io::bytes::Bytes;
+use bytes_and_lists::bytes::Bytes;
 use json_objects::member;
 use serde_json::Value;
 use std::alloc::Global;

@@ -6,8 +6,8 @@ ghost use Rattle.json_objects.specs.Objects.{texts_data};
 ghost use Rattle.gnap_replies.specs.Discovery.{client_discovery, server_discovery};
 
 use crate::endpoints::place_value;
-use gnap_io::bytes::Bytes;
-use gnap_io::memory::Mem;
+use bytes_and_lists::bytes::Bytes;
+use bytes_and_lists::memory::Mem;
 use json_objects::{compact_text, put};
 use serde_json::{Map, Value};
 use std::alloc::Global;

@@ -4,7 +4,7 @@ ghost use Rattle.serde_json.specs.Data.{string};
 ghost use Rattle.serde_json.specs.View.{view};
 ghost use Rattle.gnap_replies.specs.Endpoints.{interaction_page};
 
-use gnap_io::memory::Mem;
+use bytes_and_lists::memory::Mem;
 use serde_json::Value;
 use std::alloc::Global;
 

@@ -4,7 +4,7 @@ ghost use Rattle.serde_json.specs.View.{view};
 ghost use Rattle.json_objects.specs.Objects.{object_of};
 ghost use Rattle.gnap_replies.specs.Errors.{error_status, error_fields};
 
-use gnap_io::memory::Mem;
+use bytes_and_lists::memory::Mem;
 use gnap_model::objects::ErrorCode;
 use json_objects::put;
 use serde_json::{Map, Value};

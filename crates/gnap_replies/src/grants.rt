@@ -11,8 +11,8 @@ ghost use Rattle.gnap_replies.specs.Grants.{continue_data, sub_id_fields, subjec
 
 use crate::endpoints::{interaction_page_value, place_value};
 use crate::tokens::{bare_token_value, token_value, tokens_value};
-use gnap_io::bytes::Bytes;
-use gnap_io::memory::Mem;
+use bytes_and_lists::bytes::Bytes;
+use bytes_and_lists::memory::Mem;
 use gnap_model::calls::TokenOut;
 use gnap_model::objects::Modes;
 use json_objects::{optional_value, put, text_value};

@@ -13,8 +13,8 @@ ghost use Rattle.gnap_replies.specs.Interactions.{ask_data, shown_fields, handle
 use crate::endpoints::joined;
 use crate::tokens::flags_value;
 use access_rights::printing::rights_value;
-use gnap_io::bytes::Bytes;
-use gnap_io::memory::Mem;
+use bytes_and_lists::bytes::Bytes;
+use bytes_and_lists::memory::Mem;
 use gnap_model::calls::FinishOut;
 use gnap_model::objects::Ask;
 use interaction::{UriFault, finish_uri, interaction_hash, push_body};

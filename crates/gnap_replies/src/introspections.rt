@@ -9,7 +9,7 @@ ghost use Rattle.gnap_replies.specs.Introspections.{key_data, active_fields, ina
 use crate::endpoints::place_value;
 use crate::tokens::flags_value;
 use access_rights::printing::rights_value;
-use gnap_io::memory::Mem;
+use bytes_and_lists::memory::Mem;
 use gnap_model::rights::Rights;
 use json_objects::{put, text_value};
 use serde_json::{Map, Value};

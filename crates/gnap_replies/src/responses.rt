@@ -12,8 +12,8 @@ use crate::grants::{
 };
 use crate::interactions::{decided_value, handle_value, shown_value};
 use crate::introspections::{active_value, inactive_value};
-use gnap_io::bytes::Bytes;
-use gnap_io::memory::Mem;
+use bytes_and_lists::bytes::Bytes;
+use bytes_and_lists::memory::Mem;
 use gnap_model::calls::Reply;
 use gnap_model::objects::{ErrorCode, Setup};
 use json_objects::compact_text;

@@ -8,7 +8,7 @@ ghost use Rattle.gnap_replies.specs.Tokens.{flags_data, bare_token_fields, manag
 
 use crate::endpoints::place_value;
 use access_rights::printing::rights_value;
-use gnap_io::memory::Mem;
+use bytes_and_lists::memory::Mem;
 use gnap_model::calls::TokenOut;
 use json_objects::{optional_value, put, text_value};
 use serde_json::{Map, Value};

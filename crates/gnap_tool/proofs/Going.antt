@@ -3,7 +3,7 @@ use Rattle.std.proofs.Common.{◌≡◌, ◌∙◌, ℕ, ◌<◌, ◌≤◌, ◌
 use Rattle.gnap_io.specs.Outside.{Told}
 use Rattle.histories.specs.History.{places}
 use Rattle.histories.specs.Turns.{Each, entries_in}
-use Rattle.histories.proofs.LogLemmas.{entries_few}
+use Rattle.serving.proofs.LogLemmas.{entries_few}
 use Rattle.histories.proofs.OwnEntries.{places_own}
 use Rattle.histories.proofs.TurnLemmas.{entries_in-next, each-next}
 use Rattle.gnap_model.specs.declared.objects.Setup.{Setup}

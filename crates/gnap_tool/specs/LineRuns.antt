@@ -1,6 +1,7 @@
 -- The lines of a source, each of which has its turn, as far as that came.
 use Rattle.std.specs.Prelude.{◌≡◌, ◌⊎◌, ℕ, ◌+◌, ◌≤◌, Bool, true, false, List, [], ◌∷◌, ◌++◌, length}
-use Rattle.gnap_io.specs.Outside.{Told, IsRest, Writes, IsPrefix, Rose}
+use Rattle.bytes_and_lists.specs.Prefixes.{IsPrefix}
+use Rattle.gnap_io.specs.Outside.{Told, IsRest, Writes, Rose}
 use Rattle.histories.specs.Turns.{Turn, AllOn, OneMore, Cut, messages_in, bytes_in}
 use Rattle.gnap_tool.specs.declared.answering.After.{After}
 use Rattle.gnap_tool.specs.declared.answering.After.TheVariants as after

@@ -1,6 +1,7 @@
 -- The one answer to a file, printed.
 use Rattle.std.specs.Prelude.{◌≡◌, ◌⊎◌, ℕ, List, [], ◌∷◌, ◌++◌, Result, Ok, Err, codes}
-use Rattle.gnap_io.specs.Outside.{Told, Writes, IsPrefix}
+use Rattle.bytes_and_lists.specs.Prefixes.{IsPrefix}
+use Rattle.gnap_io.specs.Outside.{Told, Writes}
 use Rattle.signed_files.specs.declared.fault.FileFault.{FileFault}
 use Rattle.signed_files.specs.declared.fault.FileFault.TheVariants as file_faults
 use Rattle.gnap_tool.specs.declared.ended.Ended.{Ended}

@@ -13,10 +13,10 @@ ghost use Rattle.gnap_tool.specs.Setups.{GivesRead, GivesSetup, GivesText, ended
 
 use crate::ended::{Ended, WrongSetup};
 use crate::line_reader::{LineReader, Refill};
+use bytes_and_lists::bytes::Bytes;
+use bytes_and_lists::memory::Mem;
 use gnap_client::{ClientConfig, read_client_config};
-use gnap_io::bytes::Bytes;
 use gnap_io::device::Source;
-use gnap_io::memory::Mem;
 use gnap_model::objects::Setup;
 use gnap_objects::{SetupFault, read_setup};
 use resource_server::{RsSetup, read_rs_setup};

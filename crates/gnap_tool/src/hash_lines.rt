@@ -5,9 +5,9 @@ ghost use Rattle.gnap_tool.specs.HashLines.{hash_line, PrintsHash};
 
 use crate::ended::Ended;
 use crate::printed_text::print_text;
-use gnap_io::bytes::Bytes;
+use bytes_and_lists::bytes::Bytes;
+use bytes_and_lists::memory::Mem;
 use gnap_io::device::Sink;
-use gnap_io::memory::Mem;
 use interaction::interaction_hash;
 use std::alloc::Global;
 

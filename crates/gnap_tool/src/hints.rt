@@ -2,7 +2,7 @@
 use crate::command::Command;
 use crate::ended::{Ended, WrongSetup};
 use crate::usage::USAGE;
-use gnap_io::bytes::Bytes;
+use bytes_and_lists::bytes::Bytes;
 use gnap_io::device::{Sink, write_all};
 use gnap_objects::{ObjectFault, SetupFault};
 

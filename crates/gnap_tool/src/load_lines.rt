@@ -5,10 +5,10 @@ ghost use Rattle.gnap_tool.specs.LoadLines.{load_line, IsLoadLine, PrintsLoad};
 
 use crate::ended::Ended;
 use crate::printed_text::print_text;
+use bytes_and_lists::bytes::Bytes;
+use bytes_and_lists::memory::Mem;
 use desk_load::{Tally, load_setup, put_load};
-use gnap_io::bytes::Bytes;
 use gnap_io::device::Sink;
-use gnap_io::memory::Mem;
 use std::alloc::Global;
 use std::sync::Wait;
 use std::thread::Threads;

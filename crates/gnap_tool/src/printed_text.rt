@@ -4,7 +4,7 @@ ghost use Rattle.gnap_tool.specs.Ends.{CountsWrites};
 ghost use Rattle.gnap_tool.specs.Printing.{PrintsAnswer};
 
 use crate::ended::Ended;
-use gnap_io::bytes::Bytes;
+use bytes_and_lists::bytes::Bytes;
 use gnap_io::device::{Sink, write_all};
 
 /// Prints the text.

@@ -1,6 +1,6 @@
 //! What a file is opened for.
 use crate::fields::Kind;
-use gnap_io::bytes::Bytes;
+use bytes_and_lists::bytes::Bytes;
 use gnap_model::objects::Setup;
 
 /// What a file is opened for.

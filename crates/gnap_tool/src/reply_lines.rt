@@ -3,8 +3,8 @@ ghost use Rattle.std.specs.Prelude.{◌≡◌, IfOk, IsUtf8, option_map};
 ghost use Rattle.gnap_objects.specs.CallsFit.{ReplyFits};
 ghost use Rattle.gnap_tool.specs.ReplyLines.{line_of, reply_line, error_line};
 
-use gnap_io::bytes::Bytes;
-use gnap_io::memory::Mem;
+use bytes_and_lists::bytes::Bytes;
+use bytes_and_lists::memory::Mem;
 use gnap_model::calls::Reply;
 use gnap_model::objects::{ErrorCode, Setup};
 use gnap_replies::{print_error, print_reply};

@@ -9,9 +9,9 @@ ghost use Rattle.gnap_tool.specs.Printing.{PrintsFault, PrintsFor, refused_line}
 
 use crate::ended::Ended;
 use crate::printed_text::print_text;
-use gnap_io::bytes::Bytes;
+use bytes_and_lists::bytes::Bytes;
+use bytes_and_lists::memory::Mem;
 use gnap_io::device::{Sink, Source, write_all};
-use gnap_io::memory::Mem;
 use gnap_model::objects::Setup;
 use signed_files::{FileFault, sign_file, verify_file};
 use std::alloc::Global;

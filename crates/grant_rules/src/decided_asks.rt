@@ -4,8 +4,8 @@ ghost use Rattle.std.specs.List.{filter_map};
 ghost use Rattle.gnap_model.specs.Continue.{decided_part as part_decided, decided_ask as ask_decided};
 
 use access_rights::covers;
-use gnap_io::memory::{Duplicate, Mem};
-use gnap_io::seq::Seq;
+use bytes_and_lists::memory::{Duplicate, Mem};
+use bytes_and_lists::seq::Seq;
 use gnap_model::objects::{Ask, Asks};
 use gnap_model::rights::Rights;
 use std::alloc::Global;

@@ -4,8 +4,8 @@ ghost use Rattle.gnap_model.specs.Asked.{asked_rights as all_asked_rights};
 ghost use Rattle.gnap_model.specs.Front.{rights_or, may_decide as may_be_decided};
 
 use access_rights::covers;
-use gnap_io::memory::{Duplicate, Mem};
-use gnap_io::seq::Seq;
+use bytes_and_lists::memory::{Duplicate, Mem};
+use bytes_and_lists::seq::Seq;
 use gnap_model::objects::{Ask, DecideRequest, Verdict};
 use gnap_model::rights::Rights;
 use std::alloc::Global;

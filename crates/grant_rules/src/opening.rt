@@ -1,12 +1,12 @@
 //! What a request makes of a grant (RFC 9635, section 2).
 ghost use Rattle.std.specs.Prelude.{◌≡◌, ◌≤◌, IfOk};
-ghost use Rattle.gnap_io.specs.Gears.{last_moment};
+ghost use Rattle.bytes_and_lists.specs.Moments.{last_moment};
 ghost use Rattle.gnap_model.specs.Actions.{instance_of as instance_named};
 ghost use Rattle.gnap_model.specs.Begin.{is_past as has_passed, end_of};
 
 use crate::limits::GRANT_TIME;
-use gnap_io::bytes::Bytes;
-use gnap_io::memory::{Duplicate, Mem};
+use bytes_and_lists::bytes::Bytes;
+use bytes_and_lists::memory::{Duplicate, Mem};
 use gnap_model::notes::{OpeningNote, TermsNote};
 use gnap_model::objects::GrantRequest;
 

@@ -7,8 +7,8 @@ ghost use Rattle.grant_rules.specs.Courses.{settled};
 
 use crate::keys::rights_of_client;
 use access_rights::covers;
-use gnap_io::memory::{Duplicate, Mem};
-use gnap_io::seq::Seq;
+use bytes_and_lists::memory::{Duplicate, Mem};
+use bytes_and_lists::seq::Seq;
 use gnap_model::objects::{Ask, GrantRequest, Modes, Setup};
 use gnap_model::rights::Rights;
 use std::alloc::Global;

@@ -1,6 +1,6 @@
 //! What an entry draws on.
 ghost use Rattle.std.specs.Prelude.{◌≤◌, ◌<◌, ◌^◌};
-ghost use Rattle.gnap_io.specs.Gears.{last_moment};
+ghost use Rattle.bytes_and_lists.specs.Moments.{last_moment};
 
 /// What an entry draws on.
 #[derive(Clone, Copy)]

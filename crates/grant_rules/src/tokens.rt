@@ -2,7 +2,7 @@
 ghost use Rattle.std.specs.Prelude.{◌≡◌, IfOk};
 ghost use Rattle.gnap_model.specs.Actions.{token_out as token_shown};
 
-use gnap_io::memory::{Duplicate, Mem};
+use bytes_and_lists::memory::{Duplicate, Mem};
 use gnap_model::calls::TokenOut;
 use gnap_model::notes::TokenNote;
 

@@ -11,8 +11,8 @@ ghost use Rattle.grant_values.specs.Grants.{subject_request_data, client_data, g
 
 use crate::interactions::optional_modes;
 use crate::token_requests::token_requests_value;
-use gnap_io::bytes::Bytes;
-use gnap_io::memory::Mem;
+use bytes_and_lists::bytes::Bytes;
+use bytes_and_lists::memory::Mem;
 use gnap_model::objects::GrantRequest;
 use json_objects::{optional_value, put, text_value};
 use serde_json::{Map, Value};

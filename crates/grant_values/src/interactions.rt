@@ -6,7 +6,7 @@ ghost use Rattle.json_objects.specs.Objects.{texts_data};
 ghost use Rattle.gnap_objects.specs.CallsFit.{FinishFits, FinishFitsOr, ModesFit, ModesFitOr};
 ghost use Rattle.grant_values.specs.Interactions.{hash_method_data, finish_data, listed_if, starts_of, modes_data};
 
-use gnap_io::memory::Mem;
+use bytes_and_lists::memory::Mem;
 use gnap_model::objects::{Finish, Modes};
 use json_objects::{put, text_value};
 use serde_json::{Map, Value};

@@ -6,7 +6,7 @@ ghost use Rattle.gnap_objects.specs.Fits.{AskFits};
 ghost use Rattle.grant_values.specs.TokenRequests.{asked_flags, token_request_data, token_requests_data};
 
 use access_rights::rights_value;
-use gnap_io::memory::Mem;
+use bytes_and_lists::memory::Mem;
 use gnap_model::objects::Ask;
 use json_objects::{optional_value, put};
 use serde_json::{Map, Value};

@@ -4,8 +4,8 @@ ghost use Rattle.std.specs.Option.{option_map};
 ghost use Rattle.structured_fields.specs.Named.{value_at, IsDistinct};
 ghost use Rattle.hmac_key.specs.Keyring.{with_secret};
 
-use gnap_io::bytes::Bytes;
-use gnap_io::memory::{Duplicate, Mem};
+use bytes_and_lists::bytes::Bytes;
+use bytes_and_lists::memory::{Duplicate, Mem};
 use std::alloc::Global;
 use std::marker::Model;
 use structured_fields::Named;

@@ -13,7 +13,7 @@ use Rattle.httparse.specs.declared.spans.RequestSpans.{RequestSpans}
 use Rattle.httparse.specs.Spans.{RequestOverflows, RequestExceeds, IsRequestOf, name_and_value}
 use Rattle.httparse.specs.Grammar.{Field, print_field, IsField, LineEnd, lf, crlf, print_end, print_blank, print_request, IsToken, is_uri_byte, RequestHead, IsRequestHead, ReadsRequest, HasNoRequest, NeverHasRequest}
 use Rattle.httparse.proofs.GrammarLemmas.{ReadsRequest-append, print_request-append, cons-append}
-use Rattle.gnap_io.specs.declared.message.Message.{Message}
+use Rattle.bytes_and_lists.specs.declared.message.Message.{Message}
 use Rattle.http_edge.specs.declared.fault.EdgeFault.TheVariants as faults
 use Rattle.http_edge.specs.declared.framing.Framing.{Framing}
 use Rattle.http_edge.specs.declared.framing.Framing.TheVariants.{Body}

@@ -10,7 +10,7 @@ use Rattle.httparse.specs.Grammar.{Field, IsField, AllPass, is_token_byte, is_ur
 use Rattle.httparse.specs.Spans.{name_and_value}
 use Rattle.httparse.proofs.PieceLemmas.{token_is_no_newline}
 use Rattle.httparse.proofs.TrimLemmas.{AllPass-trim_ows}
-use Rattle.gnap_io.specs.declared.message.Message.{Message}
+use Rattle.bytes_and_lists.specs.declared.message.Message.{Message}
 use Rattle.http1.specs.Fields.{Header}
 use Rattle.http_edge.specs.Streams.{field_of, IsMessage}
 use Rattle.http_edge.specs.Lines.{is_line_byte, IsFieldLine, HasOneLineParts}

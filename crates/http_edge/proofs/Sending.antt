@@ -5,7 +5,8 @@ use Rattle.std.specs.Borrow.{Bor}
 use Rattle.std.proofs.Math.Seq.{drop-cons}
 use Rattle.std.proofs.lemmas.List.{take-append-drop}
 use Rattle.std.proofs.lemmas.Grind.{flat_map-append}
-use Rattle.gnap_io.specs.Outside.{Told, IsPrefix, Writes, HasSent}
+use Rattle.bytes_and_lists.specs.Prefixes.{IsPrefix}
+use Rattle.gnap_io.specs.Outside.{Told, Writes, HasSent}
 use Rattle.gnap_io.proofs.Devices.{writes_none, writes_then}
 use Rattle.http_edge.specs.Writes.{bytes_of_pieces, IsUnderWay}
 

@@ -4,8 +4,8 @@ use Rattle.std.specs.Char.{to_ascii_lowercase}
 use Rattle.httparse.specs.Grammar.{LineEnd, print_blank, print_request, IsToken, AllPass, RequestHead, ReadsRequest, HasNoRequest, NeverHasRequest}
 use Rattle.httparse.specs.Spans.{name_and_value}
 use Rattle.http1.specs.Fields.{Header}
-use Rattle.gnap_io.specs.declared.message.Field.{Field}
-use Rattle.gnap_io.specs.declared.message.Message.{Message}
+use Rattle.bytes_and_lists.specs.declared.message.Field.{Field}
+use Rattle.bytes_and_lists.specs.declared.message.Message.{Message}
 use Rattle.http_edge.specs.declared.fault.EdgeFault.{EdgeFault}
 use Rattle.http_edge.specs.declared.fault.EdgeFault.TheVariants.{BadHead, TooLarge}
 use Rattle.http_edge.specs.declared.framing.Framing.TheVariants.{Refused, Body}

@@ -1,7 +1,8 @@
 -- What is on its way to a sink.
 use Rattle.std.specs.Prelude.{◌≡◌, ℕ, List, ◌++◌, flat_map, Result, MatchResult}
 use Rattle.std.specs.Borrow.{Bor}
-use Rattle.gnap_io.specs.Outside.{Told, IsPrefix, Writes}
+use Rattle.bytes_and_lists.specs.Prefixes.{IsPrefix}
+use Rattle.gnap_io.specs.Outside.{Told, Writes}
 
 -- the bytes of the pieces, one behind another
 abbrev pub bytes_of_pieces : List (Bor (List ℕ)) → List ℕ

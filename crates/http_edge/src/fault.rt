@@ -1,5 +1,5 @@
 //! Why there is no next message.
-use gnap_io::memory::Mem;
+use bytes_and_lists::memory::Mem;
 
 /// Why a stream of bytes gives no message. After each of them the connection is over.
 #[derive(Clone, Copy, Debug, PartialEq, Eq)]

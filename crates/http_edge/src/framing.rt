@@ -10,9 +10,9 @@ ghost use Rattle.http_edge.specs.Streams.{field_of};
 ghost use Rattle.http_edge.specs.Steps.{HasLengths, IsBounded};
 
 use crate::fault::EdgeFault;
-use gnap_io::bytes::Bytes;
-use gnap_io::memory::Mem;
-use gnap_io::message::{Field, Fields};
+use bytes_and_lists::bytes::Bytes;
+use bytes_and_lists::memory::Mem;
+use bytes_and_lists::message::{Field, Fields};
 use http1::fields::KnownFields;
 use http1::text::eq_ignore_case;
 use httparse::spans::{HeaderSpan, Span};

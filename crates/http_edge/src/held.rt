@@ -4,8 +4,8 @@ ghost use Rattle.gnap_io.specs.Outside.{HasRead, HasCause};
 ghost use Rattle.http_edge.specs.Streams.{HasNoMessage};
 ghost use Rattle.http_edge.specs.Steps.{HasArrived};
 
+use bytes_and_lists::memory::Mem;
 use gnap_io::device::{Failed, Source};
-use gnap_io::memory::Mem;
 use std::alloc::Global;
 use std::marker::Model;
 

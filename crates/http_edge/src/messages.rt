@@ -7,9 +7,9 @@ ghost use Rattle.http_edge.specs.Steps.{IsBeginningOf};
 use crate::fault::EdgeFault;
 use crate::framing::{Framing, fields_of, is_last, request_framing};
 use crate::request_heads::{FIELD_LIMIT, HEAD_LIMIT, LeadingHead, leading_head};
-use gnap_io::bytes::Bytes;
-use gnap_io::memory::Mem;
-use gnap_io::message::Message;
+use bytes_and_lists::bytes::Bytes;
+use bytes_and_lists::memory::Mem;
+use bytes_and_lists::message::Message;
 use httparse::spans::{EMPTY_HEADER_SPAN, HeaderSpan, RequestSpans};
 use std::alloc::Global;
 

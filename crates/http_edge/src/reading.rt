@@ -9,8 +9,8 @@ use crate::fault::EdgeFault;
 use crate::held::{Arrival, Held};
 use crate::messages::{Beginning, Want, take_message};
 use crate::request_heads::{BEHIND_HEAD, HEAD_LIMIT, line_place};
+use bytes_and_lists::message::Message;
 use gnap_io::device::Source;
-use gnap_io::message::Message;
 use std::alloc::Global;
 
 // So many bytes of a head are asked of the source at once.

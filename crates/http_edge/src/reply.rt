@@ -4,7 +4,7 @@ ghost use Rattle.std.specs.List.{list_all};
 ghost use Rattle.http_edge.specs.Replies.{is_used, is_method_byte, plain_reply, busy_reply, fault_reply, MayWrite};
 
 use crate::fault::EdgeFault;
-use gnap_io::bytes::Bytes;
+use bytes_and_lists::bytes::Bytes;
 
 /// What a reply has beside its status and its body.
 #[derive(Drop)]

@@ -6,8 +6,8 @@ ghost use Rattle.http_edge.specs.ReadReplies.{says_length, fits_parts, HasNoRoom
 
 use crate::framing::{LengthField, any_coded, decimal_number, length_field};
 use crate::request_heads::{FIELD_LIMIT, HEAD_LIMIT};
-use gnap_io::bytes::Bytes;
-use gnap_io::memory::Mem;
+use bytes_and_lists::bytes::Bytes;
+use bytes_and_lists::memory::Mem;
 use httparse::Status;
 use httparse::spans::{EMPTY_HEADER_SPAN, HeaderSpan, ResponseSpans, parse_response};
 use std::alloc::Global;

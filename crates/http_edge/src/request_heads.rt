@@ -3,7 +3,7 @@ ghost use Rattle.std.specs.Prelude.{◌≡◌, ◌≤◌, ◌==◌, [], length, 
 ghost use Rattle.httparse.specs.Spans.{RequestOverflows, RequestExceeds};
 ghost use Rattle.http_edge.specs.Steps.{next_place, next_line_place, IsLeadingHead, IsNoShortHead};
 
-use gnap_io::memory::Mem;
+use bytes_and_lists::memory::Mem;
 use httparse::spans::{EMPTY_HEADER_SPAN, HeaderSpan, RequestSpans, parse_request};
 use httparse::{Error, Status, is_method_token};
 use std::alloc::Global;

@@ -5,7 +5,7 @@ ghost use Rattle.http_edge.specs.Replies.{is_used, status_line, type_line, extra
 ghost use Rattle.http_edge.specs.Writes.{bytes_of_pieces, HasPut};
 
 use crate::reply::{Extra, HttpReply};
-use gnap_io::bytes::Bytes;
+use bytes_and_lists::bytes::Bytes;
 use gnap_io::device::{Failed, Sink, write_all};
 use itoa::Buffer;
 use std::marker::Model;

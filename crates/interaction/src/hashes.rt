@@ -7,8 +7,8 @@ ghost use Rattle.base64.specs.GeneralPurpose.{encode_of};
 ghost use Rattle.interaction.specs.Hashes.{hash_text, digest_of, interaction_hash};
 
 use base64::engine::general_purpose::URL_SAFE_NO_PAD;
-use gnap_io::bytes::Bytes;
-use gnap_io::memory::Mem;
+use bytes_and_lists::bytes::Bytes;
+use bytes_and_lists::memory::Mem;
 use sha2::{Digest, Sha256, Sha512};
 use std::alloc::Global;
 

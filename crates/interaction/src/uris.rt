@@ -6,8 +6,8 @@ ghost use Rattle.interaction.specs.Uris as spec;
 ghost use Rattle.interaction.specs.Uris.{web_of, web_url, GivesUri};
 ghost use Rattle.interaction.specs.declared.uris.UriFault.TheVariants.{NotAUri};
 
-use gnap_io::bytes::Bytes;
-use gnap_io::memory::Mem;
+use bytes_and_lists::bytes::Bytes;
+use bytes_and_lists::memory::Mem;
 use std::alloc::Global;
 use url::{ParseError, Url};
 

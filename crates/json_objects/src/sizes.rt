@@ -6,8 +6,8 @@ ghost use Rattle.serde_json.specs.Written.{compact_text};
 ghost use Rattle.json_objects.specs.Objects.{texts_data};
 ghost use Rattle.json_objects.specs.Sizes.{capped, enclosed_size, field_size};
 
-use gnap_io::bytes::Bytes;
-use gnap_io::seq::Seq;
+use bytes_and_lists::bytes::Bytes;
+use bytes_and_lists::seq::Seq;
 
 #[tactic(auto, unfolding(json::specs::Print::escape_byte))]
 fn escape_size(byte: u8) -> usize

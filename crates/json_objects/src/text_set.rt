@@ -3,7 +3,7 @@ ghost use Rattle.std.specs.Prelude.{◌≡◌, ◌||◌, ℕ, List, not, false, 
 ghost use Rattle.std.specs.Str.{bytes_eq};
 ghost use Rattle.json_objects.specs.TextSets.{has_text};
 
-use gnap_io::memory::Mem;
+use bytes_and_lists::memory::Mem;
 use std::alloc::Global;
 use std::collections::BTreeSet;
 

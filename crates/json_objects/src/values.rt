@@ -7,9 +7,9 @@ ghost use Rattle.serde_json.specs.Written.{compact_text, has_float};
 ghost use Rattle.json_objects.specs.Objects.{with_member, texts_data};
 ghost use Rattle.json_objects.specs.Texts.{IsUtf8Or};
 
-use gnap_io::bytes::Bytes;
-use gnap_io::memory::Mem;
-use gnap_io::seq::Seq;
+use bytes_and_lists::bytes::Bytes;
+use bytes_and_lists::memory::Mem;
+use bytes_and_lists::seq::Seq;
 use serde_json::{Map, Value};
 use std::alloc::Global;
 

@@ -3,9 +3,9 @@ ghost use Rattle.std.specs.Prelude.{◌≡◌, ℕ, List, ◌++◌, IfOk, OnOk};
 ghost use Rattle.kept_rights.specs.Reading.{items_at};
 
 use crate::lengths::{byte_of, length_of, put_length};
-use gnap_io::bytes::Bytes;
-use gnap_io::memory::Mem;
-use gnap_io::seq::Seq;
+use bytes_and_lists::bytes::Bytes;
+use bytes_and_lists::memory::Mem;
+use bytes_and_lists::seq::Seq;
 use std::alloc::Global;
 
 /// A value that is written as bytes, and read from the front of bytes.

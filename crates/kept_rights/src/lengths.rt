@@ -3,8 +3,8 @@ ghost use Rattle.std.specs.Prelude.{◌≡◌, ◌≤◌, ◌++◌, length, OnOk
 ghost use Rattle.kept_rights.specs.Written.{written_length};
 ghost use Rattle.kept_rights.specs.Reading.{byte_at, length_at};
 
-use gnap_io::bytes::Bytes;
-use gnap_io::memory::Mem;
+use bytes_and_lists::bytes::Bytes;
+use bytes_and_lists::memory::Mem;
 
 /// Writes a length at the end.
 pub(crate) fn put_length(bytes: &mut Bytes, n: usize) -> Result<(), Mem>

@@ -1,8 +1,8 @@
 //! The written forms of rights and asks, member by member.
 use crate::form::Form;
 use crate::lengths::byte_of;
-use gnap_io::bytes::Bytes;
-use gnap_io::memory::Mem;
+use bytes_and_lists::bytes::Bytes;
+use bytes_and_lists::memory::Mem;
 use gnap_model::objects::Ask;
 use gnap_model::rights::{Right, RightObject, Rights, Texts};
 use std::alloc::Global;

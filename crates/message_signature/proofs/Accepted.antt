@@ -3,7 +3,7 @@ use Rattle.std.proofs.Common.{◌≡◌, ℕ, true, List, Some, Ok, refl, ap, �
 use Rattle.std.specs.Prelude.{codes}
 use Rattle.std.specs.Str.{bytes_eq}
 use Rattle.std.proofs.lemmas.Slice.Eq.{bytes_eq-Decides}
-use Rattle.gnap_io.specs.declared.message.Message.{Message}
+use Rattle.bytes_and_lists.specs.declared.message.Message.{Message}
 use Rattle.structured_fields.specs.declared.item.InnerList.{InnerList}
 use Rattle.structured_fields.specs.declared.item.Member.{Member}
 use Rattle.structured_fields.specs.Named.{value_at}

@@ -4,7 +4,7 @@ use Rattle.std.specs.Str.{bytes_eq}
 use Rattle.std.specs.List.{filter}
 use Rattle.std.proofs.lemmas.List.{append-nil, map-append, reverse-append, reverse-reverse}
 use Rattle.std.proofs.lemmas.List.Elements.{filter-append}
-use Rattle.gnap_io.specs.declared.message.Field.{Field}
+use Rattle.bytes_and_lists.specs.declared.message.Field.{Field}
 use Rattle.structured_fields.specs.Letters.{is_ows}
 use Rattle.structured_fields.specs.Reading.{behind, trimmed}
 use Rattle.structured_fields.proofs.Fronts.{stops, behind_again}

@@ -1,8 +1,8 @@
 -- Signature bases, computed: of a grant request, and of the example of RFC 9421, appendix B.2.5.
 use Rattle.std.proofs.Common.{◌≡◌, ℕ, List, [], ◌∷◌, Option, Some, None, codes, refl, pos, false}
 use Rattle.std.specs.Fmt.{digits}
-use Rattle.gnap_io.specs.declared.message.Field.{Field}
-use Rattle.gnap_io.specs.declared.message.Message.{Message}
+use Rattle.bytes_and_lists.specs.declared.message.Field.{Field}
+use Rattle.bytes_and_lists.specs.declared.message.Message.{Message}
 use Rattle.structured_fields.specs.declared.bare.Bare.TheVariants.{Integer, Str}
 use Rattle.structured_fields.specs.declared.item.InnerList.{InnerList}
 use Rattle.message_signature.specs.Components.{component, field_value}

@@ -5,7 +5,7 @@ use Rattle.std.specs.List.{list_any}
 use Rattle.std.specs.Str.{bytes_eq}
 use Rattle.std.proofs.lemmas.List.{map-append, append-nil}
 use Rattle.std.proofs.lemmas.List.Elements.{filter_more}
-use Rattle.gnap_io.specs.declared.message.Field.{Field}
+use Rattle.bytes_and_lists.specs.declared.message.Field.{Field}
 use Rattle.structured_fields.specs.Reading.{trimmed}
 use Rattle.structured_fields.specs.Canonical.{further_text}
 use Rattle.message_signature.specs.Components.{values_of, joined, field_value, with_next}

@@ -1,7 +1,7 @@
 -- What it says of a message that its signature is accepted (RFC 9421, section 3.2), in words.
 use Rattle.std.specs.Prelude.{◌≡◌, ℕ, ◌+◌, ◌≤◌, ◌⊎◌, true, List, [], ◌∷◌, ◌++◌, Some, None, Ok, IfSome, ℤ, pos, negsuc, codes}
 use Rattle.std.specs.List.{AllByRecursion}
-use Rattle.gnap_io.specs.declared.message.Message.{Message}
+use Rattle.bytes_and_lists.specs.declared.message.Message.{Message}
 use Rattle.structured_fields.specs.declared.bare.Bare.TheVariants.{Integer, Str}
 use Rattle.structured_fields.specs.declared.item.InnerList.{InnerList}
 use Rattle.structured_fields.specs.declared.item.Member.{Member}

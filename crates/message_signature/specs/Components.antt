@@ -3,8 +3,8 @@
 use Rattle.std.specs.Prelude.{ℕ, ◌+◌, ◌==◌, nat_le, Bool, false, not, ◌&&◌, ◌||◌, if◌then◌else◌, List, [], ◌∷◌, ◌++◌, map, filter, take, drop, Option, Some, None, codes}
 use Rattle.std.specs.List.{prefix_len, list_any}
 use Rattle.std.specs.Str.{bytes_eq}
-use Rattle.gnap_io.specs.declared.message.Field.{Field}
-use Rattle.gnap_io.specs.declared.message.Message.{Message}
+use Rattle.bytes_and_lists.specs.declared.message.Field.{Field}
+use Rattle.bytes_and_lists.specs.declared.message.Message.{Message}
 use Rattle.structured_fields.specs.Reading.{trimmed}
 use Rattle.structured_fields.specs.Canonical.{separated_text}
 use Rattle.message_signature.specs.declared.components.FieldValue.{FieldValue}

@@ -1,7 +1,7 @@
 -- What holds of a message that is signed, and of one that is verified.
 use Rattle.std.specs.Prelude.{◌≡◌, ℕ, ◌+◌, ◌<◌, ◌≤◌, ◌^◌, true, false, List, Some, Ok, IsSome, codes}
 use Rattle.std.specs.List.{list_all}
-use Rattle.gnap_io.specs.declared.message.Message.{Message}
+use Rattle.bytes_and_lists.specs.declared.message.Message.{Message}
 use Rattle.structured_fields.specs.Letters.{is_string_byte}
 use Rattle.structured_fields.specs.Named.{value_at}
 use Rattle.content_digest.specs.Judged.{Fits}

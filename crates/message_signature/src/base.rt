@@ -8,9 +8,9 @@ ghost use Rattle.message_signature.specs.Base.{is_string, is_named, name_of, lin
 
 use crate::components::{append_component, appended};
 use crate::fault::BaseFault;
-use gnap_io::bytes::Bytes;
-use gnap_io::memory::Mem;
-use gnap_io::message::Message;
+use bytes_and_lists::bytes::Bytes;
+use bytes_and_lists::memory::Mem;
+use bytes_and_lists::message::Message;
 use std::alloc::Global;
 use structured_fields::{Bare, InnerList, Item, Items, append_inner, append_item};
 

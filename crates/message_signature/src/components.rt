@@ -8,9 +8,9 @@ ghost use Rattle.message_signature.specs.Components.{field_value, with_next, tex
 ghost use Rattle.message_signature.specs.Verified.{has_body, has_field};
 
 use crate::fault::BaseFault;
-use gnap_io::bytes::Bytes;
-use gnap_io::memory::Mem;
-use gnap_io::message::{Fields, Message};
+use bytes_and_lists::bytes::Bytes;
+use bytes_and_lists::memory::Mem;
+use bytes_and_lists::message::{Fields, Message};
 use std::alloc::Global;
 use structured_fields::trimmed;
 

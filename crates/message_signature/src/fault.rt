@@ -3,7 +3,7 @@ ghost use Rattle.std.specs.Prelude.{◌≡◌};
 ghost use Rattle.message_signature.specs.declared.fault.BaseFault.TheVariants.{OutOfMemory as NoBaseMemory};
 ghost use Rattle.message_signature.specs.declared.fault.SigFault.TheVariants.{OutOfMemory};
 
-use gnap_io::memory::Mem;
+use bytes_and_lists::memory::Mem;
 
 /// Why there is no signature base.
 #[derive(Clone, Copy, Debug, PartialEq, Eq)]

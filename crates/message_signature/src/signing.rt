@@ -12,10 +12,10 @@ ghost use Rattle.message_signature.specs.Signed.{field, has_signature, with_dige
 use crate::base::base_of;
 use crate::components::{has_body, has_field};
 use crate::fault::{BaseFault, SignFault};
+use bytes_and_lists::bytes::Bytes;
+use bytes_and_lists::memory::{Duplicate, Mem};
+use bytes_and_lists::message::{Field, Fields, Message};
 use content_digest::digest_line;
-use gnap_io::bytes::Bytes;
-use gnap_io::memory::{Duplicate, Mem};
-use gnap_io::message::{Field, Fields, Message};
 use hmac_key::hmac;
 use std::alloc::Global;
 use std::mem;

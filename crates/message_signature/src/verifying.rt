@@ -16,10 +16,10 @@ ghost use Rattle.message_signature.specs.Verified.{is_text, tagged_list, with_ta
 use crate::base::{base_of, is_named, is_string};
 use crate::components::{FieldValue, field_value, has_body, has_field};
 use crate::fault::{BaseFault, SigFault};
+use bytes_and_lists::bytes::Bytes;
+use bytes_and_lists::memory::{Duplicate, Mem};
+use bytes_and_lists::message::Message;
 use content_digest::DigestFault;
-use gnap_io::bytes::Bytes;
-use gnap_io::memory::{Duplicate, Mem};
-use gnap_io::message::Message;
 use hmac_key::{Keyring, hmac, same};
 use std::alloc::Global;
 use structured_fields::{

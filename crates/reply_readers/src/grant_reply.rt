@@ -1,6 +1,6 @@
 //! What a client is told.
-use gnap_io::bytes::Bytes;
-use gnap_io::memory::{Duplicate, Mem};
+use bytes_and_lists::bytes::Bytes;
+use bytes_and_lists::memory::{Duplicate, Mem};
 use gnap_model::calls::{TokenOut, Tokens};
 use gnap_model::objects::ErrorCode;
 

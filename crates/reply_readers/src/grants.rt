@@ -12,7 +12,7 @@ ghost use Rattle.reply_readers.specs.Grants.{continue_of, only_item, subject_in,
 use crate::grant_reply::{GrantReply, Interaction, ReplyKind};
 use crate::members::{FormFault, checked_value, needed, needed_number, needed_text, optional_text};
 use crate::tokens::{token_of, tokens_of};
-use gnap_io::bytes::Bytes;
+use bytes_and_lists::bytes::Bytes;
 use json_objects::member;
 use serde_json::Value;
 use std::alloc::Global;

@@ -11,8 +11,8 @@ use crate::members::{
     FormFault, bearer_of, needed, needed_number, needed_rights, needed_text, optional_text,
 };
 use crate::reading::object_of;
-use gnap_io::bytes::Bytes;
-use gnap_io::memory::Mem;
+use bytes_and_lists::bytes::Bytes;
+use bytes_and_lists::memory::Mem;
 use serde_json::Value;
 use std::alloc::Global;
 

@@ -1,5 +1,5 @@
 //! What a resource server is told.
-use gnap_io::bytes::Bytes;
+use bytes_and_lists::bytes::Bytes;
 use gnap_model::rights::Rights;
 
 /// What an introspection says of a token (RFC 9767, section 3.3).

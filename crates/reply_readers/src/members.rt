@@ -9,8 +9,8 @@ ghost use Rattle.reply_readers.specs.Members.{text_of, tested, needed, needed_te
 
 use crate::values::{all_value_bytes, is_value};
 use access_rights::{RightsFault, read_rights};
-use gnap_io::bytes::Bytes;
-use gnap_io::memory::Mem;
+use bytes_and_lists::bytes::Bytes;
+use bytes_and_lists::memory::Mem;
 use gnap_model::rights::Rights;
 use json_objects::member;
 use serde_json::Value;

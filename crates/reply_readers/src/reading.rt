@@ -10,7 +10,7 @@ use crate::grant_reply::{GrantReply, ReplyKind};
 use crate::grants::given_of;
 use crate::members::FormFault;
 use crate::refusals::refused_of;
-use gnap_io::memory::Mem;
+use bytes_and_lists::memory::Mem;
 use json_objects::{BodyFault, read_body};
 use serde_json::Value;
 use std::alloc::Global;

@@ -9,7 +9,7 @@ use crate::members::{
     FormFault, bearer_of, checked_drawn, needed, needed_number, needed_rights, needed_text,
     optional_text,
 };
-use gnap_io::seq::Seq;
+use bytes_and_lists::seq::Seq;
 use gnap_model::calls::{TokenOut, Tokens};
 use json_objects::member;
 use serde_json::Value;

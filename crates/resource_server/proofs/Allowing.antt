@@ -3,7 +3,7 @@ use Rattle.std.proofs.Common.{◌≡◌, ◌∙◌, ◌⊎◌, inl, inr, ℕ, Bo
 use Rattle.std.specs.Prelude.{Option, Some, None, Result, Ok, Err, slice_get, not, if◌then◌else◌, codes}
 use Rattle.std.specs.Str.{bytes_eq}
 use Rattle.std.proofs.lemmas.Slice.Eq.{bytes_eq-Decides}
-use Rattle.gnap_io.specs.declared.message.Message.{Message}
+use Rattle.bytes_and_lists.specs.declared.message.Message.{Message}
 use Rattle.gnap_model.specs.declared.rights.Right.{Right}
 use Rattle.gnap_model.specs.Rights.{covers}
 use Rattle.message_signature.specs.declared.fault.SigFault.{SigFault}

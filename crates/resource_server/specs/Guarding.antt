@@ -5,7 +5,7 @@ use Rattle.gnap_io.specs.Outside.{Rose}
 use Rattle.gnap_io.specs.Links.{Exchange, LinkState}
 use Rattle.gnap_io.specs.declared.link.LinkFault.{LinkFault}
 use Rattle.gnap_io.specs.declared.link.LinkFault.TheVariants as link_faults
-use Rattle.gnap_io.specs.declared.message.Message.{Message}
+use Rattle.bytes_and_lists.specs.declared.message.Message.{Message}
 use Rattle.gnap_model.specs.declared.rights.Right.{Right}
 use Rattle.gnap_model.specs.Rights.{covers}
 use Rattle.http_edge.specs.ReadReplies.{IsHttpReply}

@@ -1,5 +1,5 @@
 //! What a resource server answers.
-use gnap_io::bytes::Bytes;
+use bytes_and_lists::bytes::Bytes;
 
 /// What a request comes to.
 #[derive(Drop)]

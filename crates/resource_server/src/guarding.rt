@@ -10,8 +10,8 @@ use crate::introspecting::{introspection_bytes, wanted_of};
 use crate::judging::judged;
 use crate::routing::{route_of, token_of};
 use crate::setup::RsSetup;
+use bytes_and_lists::message::Message;
 use gnap_io::link::{Link, LinkFault};
-use gnap_io::message::Message;
 use signed_requests::Scheme;
 use std::alloc::Global;
 

@@ -8,9 +8,9 @@ ghost use Rattle.resource_server.specs.Introspecting.{proof_of, introspection_da
 
 use crate::setup::{Route, RsSetup};
 use access_rights::printing::rights_value;
-use gnap_io::bytes::Bytes;
-use gnap_io::memory::{Duplicate, Mem};
-use gnap_io::seq::Seq;
+use bytes_and_lists::bytes::Bytes;
+use bytes_and_lists::memory::{Duplicate, Mem};
+use bytes_and_lists::seq::Seq;
 use gnap_model::rights::Rights;
 use json_objects::{compact_text, put, text_value};
 use serde_json::{Map, Value};

@@ -5,9 +5,9 @@ ghost use Rattle.resource_server.specs.Guarding.{has_signed, answer_of, Judged, 
 use crate::guarded::{Guarded, Why};
 use crate::setup::RsSetup;
 use access_rights::covers;
-use gnap_io::bytes::Bytes;
-use gnap_io::memory::Mem;
-use gnap_io::message::Message;
+use bytes_and_lists::bytes::Bytes;
+use bytes_and_lists::memory::Mem;
+use bytes_and_lists::message::Message;
 use gnap_model::rights::Rights;
 use http_edge::{ReplyFault, read_reply};
 use message_signature::{SigFault, verify};

@@ -8,7 +8,7 @@ ghost use Rattle.resource_server.specs.Routing.{has_path, is_route, route_of, is
 use crate::guarded::{Guarded, Why};
 use crate::setup::{Route, Routes};
 use as_requests::routes::path_of;
-use gnap_io::message::{Field, Fields, Message};
+use bytes_and_lists::message::{Field, Fields, Message};
 use reply_readers::values::is_value;
 use signed_requests::Scheme;
 

@@ -2,8 +2,8 @@
 ghost use Rattle.std.specs.Prelude.{◌≡◌};
 ghost use Rattle.resource_server.specs.Routing.{has_path};
 
-use gnap_io::bytes::Bytes;
-use gnap_io::seq::Seq;
+use bytes_and_lists::bytes::Bytes;
+use bytes_and_lists::seq::Seq;
 use gnap_model::rights::Right;
 use hmac_key::Keyring;
 

@@ -19,9 +19,9 @@ ghost use Rattle.resource_server.specs.RsSetups.{named_id_of, with_key, ring_fro
 use crate::routing::is_route;
 use crate::setup::{Route, Routes, RsSetup};
 use access_rights::{RightsFault, read_rights};
-use gnap_io::bytes::Bytes;
-use gnap_io::memory::Mem;
-use gnap_io::seq::Seq;
+use bytes_and_lists::bytes::Bytes;
+use bytes_and_lists::memory::Mem;
+use bytes_and_lists::seq::Seq;
 use gnap_model::rights::{Right, Rights};
 use gnap_objects::members::{id_of, required, required_items, required_text, without_others};
 use gnap_objects::setup_members::{base_of, object_of, secret_of};

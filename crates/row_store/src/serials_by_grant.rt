@@ -6,7 +6,7 @@ ghost use Rattle.ordered_search.specs.Order.{IsAscending};
 ghost use Rattle.row_store.specs.Tokens.{owned_serial};
 ghost use Rattle.row_store.specs.declared.serials_by_grant.OwnedSerial.{OwnedSerial};
 
-use gnap_io::memory::Mem;
+use bytes_and_lists::memory::Mem;
 use ordered_search::{Keyed, place_of};
 use std::alloc::Global;
 use std::marker::Model;

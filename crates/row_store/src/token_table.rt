@@ -13,7 +13,7 @@ ghost use Rattle.row_store.specs.declared.token_table.TokenPlace.{TokenPlace};
 use crate::grant_table::GrantTable;
 use crate::serials::serial_in_value;
 use crate::serials_by_grant::{OwnedSerial, SerialsByGrant};
-use gnap_io::memory::Mem;
+use bytes_and_lists::memory::Mem;
 use gnap_tables::rows::TokenRow;
 use ordered_search::{Keyed, Steps, place, place_of};
 use std::alloc::Global;

@@ -4,7 +4,7 @@ use Rattle.std.proofs.lemmas.List.{append-nil}
 use Rattle.gnap_io.specs.Gears.{GearState, IsUnused, with_served, empty_log}
 use Rattle.gnap_io.specs.Links.{Exchange, LinkState}
 use Rattle.gnap_io.specs.Outside.{Served}
-use Rattle.histories.specs.Logs.{joined}
+use Rattle.serving.specs.Logs.{joined}
 use Rattle.histories.specs.Turns.{moments_in, entries_in}
 use Rattle.histories.proofs.TurnLemmas.{moments_in-append, entries_in-append}
 use Rattle.http_edge.specs.declared.fault.EdgeFault.{EdgeFault}

@@ -3,10 +3,11 @@ use Rattle.std.proofs.Common.{◌≡◌, ◌≢◌, ◌∙◌, ℕ, suc, ◌+◌
 use Rattle.std.specs.Prelude.{Bool, true, false, ◌||◌, ◌==◌, Option, Some, None, Result, Ok, Err}
 use Rattle.std.proofs.lemmas.Bool.Decides.{nat_tests}
 use Rattle.std.proofs.lemmas.List.{append-nil}
-use Rattle.gnap_io.specs.Outside.{Told, Takes, Writes, IsPrefix, Rose, served_of, IsUntouched}
+use Rattle.bytes_and_lists.specs.Prefixes.{IsPrefix}
+use Rattle.gnap_io.specs.Outside.{Told, Takes, Writes, Rose, served_of, IsUntouched}
 use Rattle.gnap_io.specs.Gears.{GearState, with_moment, with_uses}
 use Rattle.gnap_io.specs.Links.{LinkState}
-use Rattle.gnap_io.specs.declared.message.Message.{Message}
+use Rattle.bytes_and_lists.specs.declared.message.Message.{Message}
 use Rattle.histories.specs.Turns.{OneMore, messages_in, moments_in, entries_in, bytes_in}
 use Rattle.histories.proofs.TurnLemmas.{messages_in-append, moments_in-append, entries_in-next, bytes_in-next, length-next}
 use Rattle.http_edge.specs.declared.fault.EdgeFault.{EdgeFault}

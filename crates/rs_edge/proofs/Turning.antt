@@ -4,7 +4,7 @@ use Rattle.std.specs.Prelude.{Bool}
 use Rattle.gnap_io.specs.Gears.{GearState, with_moment}
 use Rattle.gnap_io.specs.Links.{LinkState}
 use Rattle.gnap_io.specs.Outside.{Told}
-use Rattle.gnap_io.specs.declared.message.Message.{Message}
+use Rattle.bytes_and_lists.specs.declared.message.Message.{Message}
 use Rattle.http_edge.specs.declared.reply.HttpReply.{HttpReply}
 use Rattle.http_edge.specs.Replies.{reply_bytes, busy_reply}
 use Rattle.resource_server.specs.declared.setup.RsSetup.{RsSetup}

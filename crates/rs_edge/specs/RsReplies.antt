@@ -1,7 +1,7 @@
 -- The replies of a resource server (RFC 9635, section 7; RFC 9110, sections 10.2.1 and 11.6.1).
 -- Bytes stand by their numbers: 32 SP, 44 `,`.
 use Rattle.std.specs.Prelude.{ℕ, Bool, List, [], ◌∷◌, map, filter, Option, Some, None, codes, slice_get}
-use Rattle.gnap_io.specs.declared.message.Message.{Message}
+use Rattle.bytes_and_lists.specs.declared.message.Message.{Message}
 use Rattle.serde_json.specs.Data.{Data, string}
 use Rattle.serde_json.specs.Written.{compact_text}
 use Rattle.json_objects.specs.Objects.{object_of}

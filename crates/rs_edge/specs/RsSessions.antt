@@ -3,7 +3,7 @@ use Rattle.std.specs.Prelude.{◌≡◌, List, [], ◌∷◌}
 use Rattle.gnap_io.specs.Gears.{Log, GearState, with_uses}
 use Rattle.gnap_io.specs.Links.{Exchange, LinkState}
 use Rattle.gnap_io.specs.Outside.{Served}
-use Rattle.histories.specs.Logs.{joined}
+use Rattle.serving.specs.Logs.{joined}
 use Rattle.histories.specs.Turns.{moments_in, entries_in}
 use Rattle.http_edge.specs.declared.fault.EdgeFault.{EdgeFault}
 use Rattle.serving.specs.Connections.{Session}

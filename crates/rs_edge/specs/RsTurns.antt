@@ -3,7 +3,7 @@ use Rattle.std.specs.Prelude.{◌≡◌, ◌≢◌, ℕ, Bool, true, false, List
 use Rattle.gnap_io.specs.Gears.{GearState, with_moment}
 use Rattle.gnap_io.specs.Links.{Exchange, LinkState}
 use Rattle.gnap_io.specs.Outside.{Told}
-use Rattle.gnap_io.specs.declared.message.Message.{Message}
+use Rattle.bytes_and_lists.specs.declared.message.Message.{Message}
 use Rattle.histories.specs.Turns.{Turn}
 use Rattle.http_edge.specs.Replies.{reply_bytes, busy_reply}
 use Rattle.resource_server.specs.declared.setup.RsSetup.{RsSetup}

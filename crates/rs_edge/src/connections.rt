@@ -8,10 +8,10 @@ ghost use Rattle.resource_server.specs.Fits.{RsSetupFits};
 ghost use Rattle.rs_edge.specs.RsSessions.{ServesResources};
 
 use crate::turns::turn;
+use bytes_and_lists::message::Message;
 use gnap_io::device::{Sink, Source};
 use gnap_io::gear::Clock;
 use gnap_io::link::Link;
-use gnap_io::message::Message;
 use http_edge::{EdgeFault, Held, HttpReply, WriteFault, fault_reply, next_message, write_reply};
 use resource_server::RsSetup;
 use serving::ends::{AfterTurn, ConnectionEnd, NoMessage};

@@ -10,9 +10,9 @@ ghost use Rattle.resource_server.specs.Guarding.{status_of, IsAnswer};
 ghost use Rattle.rs_edge.specs.RsReplies.{shown_fields, shown_text, methods_at, allow_text, allow_reply, refusal_reply, rs_reply};
 
 use as_requests::routes::path_of;
-use gnap_io::bytes::Bytes;
-use gnap_io::memory::Mem;
-use gnap_io::message::Message;
+use bytes_and_lists::bytes::Bytes;
+use bytes_and_lists::memory::Mem;
+use bytes_and_lists::message::Message;
 use http_edge::HttpReply;
 use json_objects::{compact_text, put, text_value};
 use resource_server::{Guarded, Route, Routes, RsSetup, Why};

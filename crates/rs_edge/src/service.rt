@@ -6,7 +6,7 @@ ghost use Rattle.resource_server.specs.Fits.{RsSetupFits};
 ghost use Rattle.rs_edge.specs.RsServices.{IsRsService, ServesOneGear};
 
 use crate::doors::serve_door;
-use gnap_io::bytes::Bytes;
+use bytes_and_lists::bytes::Bytes;
 use gnap_io::gear::{Door, Gear};
 use gnap_io::link::Link;
 use gnap_io::world::{World, WorldFault};

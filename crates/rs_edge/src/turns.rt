@@ -8,11 +8,11 @@ ghost use Rattle.rs_edge.specs.RsReplies.{rs_reply};
 ghost use Rattle.rs_edge.specs.RsTurns.{TakesRsTurn};
 
 use crate::replies::answer_reply;
+use bytes_and_lists::memory::Mem;
+use bytes_and_lists::message::Message;
 use gnap_io::device::{Sink, Source};
 use gnap_io::gear::Clock;
 use gnap_io::link::Link;
-use gnap_io::memory::Mem;
-use gnap_io::message::Message;
 use http_edge::{HttpReply, WriteFault, write_reply};
 use resource_server::{Guarded, RsSetup, guard};
 use serving::ends::AfterTurn;

@@ -3,11 +3,12 @@ use Rattle.std.proofs.Common.{◌≡◌, ◌≢◌, ◌∙◌, ℕ, suc, ◌+◌
 use Rattle.std.specs.Prelude.{Bool, true, false, ◌||◌, ◌==◌, Option, Some, None, Result, Ok, Err}
 use Rattle.std.proofs.lemmas.Bool.Decides.{nat_tests}
 use Rattle.std.proofs.lemmas.List.{append-nil, map-append}
-use Rattle.gnap_io.specs.Outside.{Told, Takes, Writes, IsPrefix, Rose, served_of, IsUntouched}
+use Rattle.bytes_and_lists.specs.Prefixes.{IsPrefix}
+use Rattle.gnap_io.specs.Outside.{Told, Takes, Writes, Rose, served_of, IsUntouched}
 use Rattle.gnap_io.specs.Gears.{GearState, with_uses}
 use Rattle.histories.specs.declared.entry.Entry.{Entry}
 use Rattle.histories.specs.History.{places}
-use Rattle.histories.specs.Logs.{Serves}
+use Rattle.serving.specs.Logs.{Serves}
 use Rattle.histories.specs.Turns.{Turn, OneMore, messages_in, moments_in, entries_in, bytes_in, draw_of}
 use Rattle.histories.specs.Whole.{own_of}
 use Rattle.histories.proofs.OwnEntries.{places_own}

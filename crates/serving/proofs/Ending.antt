@@ -10,10 +10,10 @@ use Rattle.gnap_io.specs.Gears.{Log, GearState, IsUnused}
 use Rattle.histories.specs.declared.entry.Entry.{Entry}
 use Rattle.histories.specs.History.{Law, Legal}
 use Rattle.histories.specs.Histories.{legal-nil}
-use Rattle.histories.specs.Logs.{IsAccount}
+use Rattle.serving.specs.Logs.{IsAccount}
 use Rattle.histories.specs.Turns.{Turn}
 use Rattle.histories.specs.Whole.{OneHistory, AllKeep, AllMeet, Joined}
-use Rattle.histories.proofs.LogLemmas.{account-none}
+use Rattle.serving.proofs.LogLemmas.{account-none}
 use Rattle.histories.proofs.WholeLemmas.{one_history}
 use Rattle.shared_server.specs.Passes.{Sharing}
 use Rattle.serving.specs.Workers.{WorkerState, AreWorkers, HaveServedAll, Drained, accounts_of}

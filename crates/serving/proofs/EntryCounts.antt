@@ -6,7 +6,7 @@ use Rattle.histories.specs.declared.entry.Entry.{Entry}
 use Rattle.histories.specs.History.{Law}
 use Rattle.histories.specs.Turns.{Turn, Face, IsTurn, entries_in}
 use Rattle.histories.specs.Whole.{OneHistory, AllMeet, Below}
-use Rattle.histories.proofs.LogLemmas.{account_few, entries_few}
+use Rattle.serving.proofs.LogLemmas.{account_few, entries_few}
 use Rattle.histories.proofs.OwnEntries.{entries_from, all_counted}
 use Rattle.serving.specs.Connections.{Wire, AreTurns, Session, is_closing}
 use Rattle.serving.specs.Workers.{accounts_of}

@@ -1,3 +1,4 @@
+pub mod LogLemmas
 pub mod ConnectionLemmas
 pub mod MessageTurnLemmas
 pub mod WorkerLemmas

@@ -6,7 +6,7 @@ use lib.ListN.{get_elem?}
 use Rattle.gnap_io.specs.Outside.{Served}
 use Rattle.gnap_io.specs.Gears.{Log, GearState}
 use Rattle.histories.specs.declared.entry.Entry.{Entry}
-use Rattle.histories.specs.Logs.{IsAccount}
+use Rattle.serving.specs.Logs.{IsAccount}
 use Rattle.histories.specs.Turns.{Turn}
 use Rattle.histories.specs.Whole.{own_of, AllKeep}
 use Rattle.histories.proofs.WholeLemmas.{keep-append}

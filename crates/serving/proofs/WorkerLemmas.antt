@@ -7,10 +7,10 @@ use Rattle.gnap_io.specs.Gears.{Log, GearState, Accepts, IsUnused, with_served, 
 use Rattle.histories.specs.declared.entry.Entry.{Entry}
 use Rattle.histories.specs.History.{Law, Legal}
 use Rattle.histories.specs.Histories.{legal-nil}
-use Rattle.histories.specs.Logs.{Serves, IsAccount}
+use Rattle.serving.specs.Logs.{Serves, IsAccount}
 use Rattle.histories.specs.Turns.{Turn, moments_in, entries_in, draw_of}
 use Rattle.histories.specs.Whole.{own_of}
-use Rattle.histories.proofs.LogLemmas.{account-none, account-next}
+use Rattle.serving.proofs.LogLemmas.{account-none, account-next}
 use Rattle.shared_server.specs.Passes.{StationState}
 use Rattle.serving.specs.Workers.{WorkerState, IsSoundWorker, IsSameWorker, HasServedOne, HasServedAll}
 

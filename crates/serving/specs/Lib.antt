@@ -1,3 +1,4 @@
+pub mod Logs
 pub mod Connections
 pub mod Reading
 pub mod MessageSteps

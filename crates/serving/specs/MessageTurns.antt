@@ -1,6 +1,7 @@
 -- What one message's turn does.
 use Rattle.std.specs.Prelude.{◌≡◌, ℕ, ◌≤◌, Bool, true, false, List, [], ◌∷◌, ◌++◌, map, length}
-use Rattle.gnap_io.specs.Outside.{Told, Writes, IsPrefix, Rose}
+use Rattle.bytes_and_lists.specs.Prefixes.{IsPrefix}
+use Rattle.gnap_io.specs.Outside.{Told, Writes, Rose}
 use Rattle.gnap_io.specs.Gears.{GearState, with_uses}
 use Rattle.histories.specs.declared.entry.Entry.{Entry}
 use Rattle.histories.specs.Turns.{Turn, draw_of}

@@ -6,7 +6,7 @@ use Rattle.gnap_io.specs.Outside.{Served, Rose}
 use Rattle.gnap_io.specs.Gears.{GearState}
 use Rattle.histories.specs.declared.entry.Entry.{Entry}
 use Rattle.histories.specs.History.{Law, Legal}
-use Rattle.histories.specs.Logs.{IsAccount}
+use Rattle.serving.specs.Logs.{IsAccount}
 use Rattle.histories.specs.Turns.{Turn}
 use Rattle.histories.specs.Whole.{own_of}
 use Rattle.shared_server.specs.Passes.{Sharing, StationState}

@@ -2,7 +2,7 @@
 ghost use Rattle.std.specs.Prelude.{◌≡◌, ◌≢◌, ℕ, ◌+◌, ◌<◌, ◌≤◌, ◌^◌, List, [], Bool, length};
 ghost use Rattle.gnap_io.specs.Outside.{IsUntouched, served_of};
 ghost use Rattle.histories.specs.History.{places};
-ghost use Rattle.histories.specs.Logs.{Serves};
+ghost use Rattle.serving.specs.Logs.{Serves};
 ghost use Rattle.histories.specs.Turns.{IsTurn};
 ghost use Rattle.histories.specs.Whole.{own_of};
 ghost use Rattle.serving.specs.Connections.{Session, is_closing};
@@ -12,9 +12,9 @@ ghost use Rattle.serving.specs.MessageTurns.{HasWrittenText, TakesTurn};
 use crate::ends::{AfterTurn, ConnectionEnd, NoMessage};
 use crate::message_step::MessageStep;
 use crate::server::Server;
+use bytes_and_lists::memory::Mem;
 use gnap_io::device::{Failed, Sink, Source};
 use gnap_io::gear::{Clock, Draws};
-use gnap_io::memory::Mem;
 use histories::machine::{Desk, Machine};
 use std::alloc::Global;
 

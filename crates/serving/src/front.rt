@@ -2,7 +2,7 @@
 ghost use Rattle.std.specs.Prelude.{◌≡◌, ℕ, ◌+◌, ◌<◌, List, length};
 ghost use Rattle.gnap_io.specs.Outside.{Served, IsUntouched, served_of};
 ghost use Rattle.histories.specs.declared.entry.Entry.{Entry};
-ghost use Rattle.histories.specs.Logs.{Serves};
+ghost use Rattle.serving.specs.Logs.{Serves};
 ghost use Rattle.histories.specs.Turns.{Turn};
 ghost use Rattle.histories.specs.Whole.{own_of};
 

@@ -8,8 +8,8 @@ ghost use Rattle.serving.specs.MessageSteps.{IsStepOf, SaysAllReplies};
 
 use crate::ends::NoMessage;
 use crate::message_step::MessageStep;
+use bytes_and_lists::memory::Mem;
 use gnap_io::device::{Failed, Sink, Source};
-use gnap_io::memory::Mem;
 use histories::machine::Machine;
 use std::alloc::Global;
 

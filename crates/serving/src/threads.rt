@@ -8,8 +8,8 @@ ghost use Rattle.serving.specs.Workers.{AreWorkers, HaveServedAll, Drained, acco
 
 use crate::front::Front;
 use crate::worker::Worker;
+use bytes_and_lists::memory::Mem;
 use gnap_io::gear::Gear;
-use gnap_io::memory::Mem;
 use histories::machine::{Core, Machine};
 use shared_server::shared::{Pass, Shared, close};
 use std::alloc::Global;

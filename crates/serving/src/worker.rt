@@ -1,7 +1,7 @@
 //! A worker: a station at a shared core, and a gear.
 ghost use Rattle.std.specs.Prelude.{◌≡◌, ◌+◌, ◌*◌, ◌<◌, [], true, false};
 ghost use Rattle.gnap_io.specs.Gears.{IsUnused};
-ghost use Rattle.histories.specs.Logs.{IsAccount};
+ghost use Rattle.serving.specs.Logs.{IsAccount};
 ghost use Rattle.histories.specs.Whole.{own_of};
 ghost use Rattle.shared_server.specs.Passes.{IsPassOf};
 ghost use Rattle.serving.specs.Workers.{IsSameWorker, HasServedOne, HasServedAll, Drained};

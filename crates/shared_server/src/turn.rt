@@ -8,7 +8,7 @@ ghost use Rattle.shared_server.specs.Seats.{IsTable, IsSame, CanDraw, CanLook, C
 use crate::giving_way::give_way;
 use crate::rule::{Draw, EntryOf, Hand, Look, Mark, SeatOf, Told, Top};
 use crate::words::{SERVING, TICKET, word_of};
-use gnap_io::memory::Mem;
+use bytes_and_lists::memory::Mem;
 use histories::machine::{Core, Machine};
 use std::marker::Brand;
 use std::sync::Wait;

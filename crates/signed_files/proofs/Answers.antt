@@ -1,7 +1,7 @@
 -- The answer to a file, from that to its message.
 use Rattle.std.proofs.Common.{◌≡◌, ◌≢◌, ℕ, List, [], refl, sym, subst}
 use Rattle.std.specs.Prelude.{◌↔◌, Bool, true, false, Result, Ok, Err}
-use Rattle.gnap_io.specs.declared.message.Message.{Message}
+use Rattle.bytes_and_lists.specs.declared.message.Message.{Message}
 use Rattle.message_signature.specs.declared.fault.SignFault.{SignFault}
 use Rattle.message_signature.specs.declared.fault.SignFault.TheVariants.{HasSignature}
 use Rattle.signed_files.specs.declared.fault.FileFault.{FileFault}

@@ -5,7 +5,7 @@ use Rattle.std.specs.Borrow.{Bor}
 use Rattle.std.proofs.lemmas.List.{append-nil}
 use Rattle.gnap_io.specs.declared.device.Failed.{Failed}
 use Rattle.gnap_io.specs.Outside.{Told, IsAtEnd, IsRest}
-use Rattle.gnap_io.specs.declared.message.Message.{Message}
+use Rattle.bytes_and_lists.specs.declared.message.Message.{Message}
 use Rattle.http_edge.specs.declared.fault.EdgeFault.{EdgeFault}
 use Rattle.http_edge.specs.declared.fault.EdgeFault.TheVariants as edge
 use Rattle.http_edge.specs.Streams.{IsMessage, IsRefusedFor, IsOpen}

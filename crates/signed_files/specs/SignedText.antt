@@ -1,7 +1,7 @@
 -- A message with its signature, as bytes.
 use Rattle.std.specs.Prelude.{◌≡◌, ℕ, true, false, List, ◌++◌, flat_map, Option, Some, None, Result, Ok, Err, codes}
-use Rattle.gnap_io.specs.declared.message.Field.{Field}
-use Rattle.gnap_io.specs.declared.message.Message.{Message}
+use Rattle.bytes_and_lists.specs.declared.message.Field.{Field}
+use Rattle.bytes_and_lists.specs.declared.message.Message.{Message}
 use Rattle.message_signature.specs.Signed.{has_signature, signed}
 use Rattle.gnap_model.specs.declared.objects.KeyRow.{KeyRow}
 use Rattle.gnap_model.specs.declared.objects.Setup.{Setup}

@@ -4,7 +4,7 @@ ghost use Rattle.signed_files.specs.declared.fault.FileFault.TheVariants.{OutOfM
 ghost use Rattle.signed_files.specs.MessageFiles.{HasEdgeFault};
 ghost use Rattle.signed_files.specs.Verdicts.{HasSignatureFault};
 
-use gnap_io::memory::Mem;
+use bytes_and_lists::memory::Mem;
 use http_edge::EdgeFault;
 use message_signature::SigFault;
 

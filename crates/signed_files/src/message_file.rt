@@ -4,8 +4,8 @@ ghost use Rattle.gnap_io.specs.Outside.{HasCause, HasRead, IsAtEnd, IsRest, Leav
 ghost use Rattle.signed_files.specs.MessageFiles.{GivesMessage, CountsReadFault, HasMore};
 
 use crate::fault::{FileFault, edge_fault};
+use bytes_and_lists::message::Message;
 use gnap_io::device::{Failed, Source};
-use gnap_io::message::Message;
 use http_edge::laws::{message_stays, refusal_stays};
 use http_edge::{Held, next_message};
 use std::alloc::Global;

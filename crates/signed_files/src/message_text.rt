@@ -2,9 +2,9 @@
 ghost use Rattle.std.specs.Prelude.{◌≡◌, ◌++◌, IfOk, OnOk, flat_map};
 ghost use Rattle.signed_files.specs.SignedText.{request_line, field_line, message_text};
 
-use gnap_io::bytes::Bytes;
-use gnap_io::memory::Mem;
-use gnap_io::message::{Field, Fields, Message};
+use bytes_and_lists::bytes::Bytes;
+use bytes_and_lists::memory::Mem;
+use bytes_and_lists::message::{Field, Fields, Message};
 use std::alloc::Global;
 
 fn push_request_line(text: &mut Bytes, message: &Message) -> Result<(), Mem>

@@ -7,10 +7,10 @@ ghost use Rattle.signed_files.specs.Verdicts.{ring_of, key_line, VerifiesMessage
 use crate::fault::{FileFault, signature_fault};
 use crate::message_file::read_message;
 use crate::signing::GNAP_TAG;
-use gnap_io::bytes::Bytes;
+use bytes_and_lists::bytes::Bytes;
+use bytes_and_lists::memory::Mem;
+use bytes_and_lists::message::Message;
 use gnap_io::device::Source;
-use gnap_io::memory::Mem;
-use gnap_io::message::Message;
 use gnap_model::objects::Setup;
 use hmac_key::Keyring;
 use message_signature::verify;

@@ -4,9 +4,9 @@ ghost use Rattle.std.specs.List.{flat_map};
 ghost use Rattle.structured_fields.specs.Letters.{is_lower};
 ghost use Rattle.signed_requests.specs.Requests.{spelt, spelt_line, body_length_line, request_bytes};
 
-use gnap_io::bytes::Bytes;
-use gnap_io::memory::Mem;
-use gnap_io::message::{Field, Fields, Message};
+use bytes_and_lists::bytes::Bytes;
+use bytes_and_lists::memory::Mem;
+use bytes_and_lists::message::{Field, Fields, Message};
 use itoa::Buffer;
 use std::alloc::Global;
 

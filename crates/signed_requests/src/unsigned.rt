@@ -7,9 +7,9 @@ ghost use Rattle.message_signature.specs.Components.{until, authority_of};
 ghost use Rattle.signed_requests.specs.Requests.{scheme_text, authorization_fields, type_fields, unsigned_message, signed_request};
 
 use crate::request_bytes::request_bytes;
-use gnap_io::bytes::Bytes;
-use gnap_io::memory::Mem;
-use gnap_io::message::{Field, Fields, Message};
+use bytes_and_lists::bytes::Bytes;
+use bytes_and_lists::memory::Mem;
+use bytes_and_lists::message::{Field, Fields, Message};
 use message_signature::{SignFault, sign};
 use std::alloc::Global;
 

@@ -1,6 +1,6 @@
 //! Bare items.
-use gnap_io::bytes::Bytes;
-use gnap_io::memory::{Duplicate, Mem};
+use bytes_and_lists::bytes::Bytes;
+use bytes_and_lists::memory::{Duplicate, Mem};
 
 /// A bare item (RFC 8941, section 3.3).
 #[derive(Drop)]

@@ -12,7 +12,7 @@ use crate::letters::{
 };
 use base64::DecodeAllocError;
 use base64::engine::general_purpose::{STANDARD, STANDARD_NO_PAD};
-use gnap_io::bytes::Bytes;
+use bytes_and_lists::bytes::Bytes;
 use std::alloc::Global;
 
 #[tactic(auto, unfolding(crate::specs::Reading::key_at))]

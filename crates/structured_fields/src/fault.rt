@@ -2,7 +2,7 @@
 ghost use Rattle.std.specs.Prelude.{◌≡◌};
 ghost use Rattle.structured_fields.specs.declared.fault.FieldFault.TheVariants.{OutOfMemory};
 
-use gnap_io::memory::Mem;
+use bytes_and_lists::memory::Mem;
 
 #[derive(Clone, Copy, Debug, PartialEq, Eq)]
 pub enum FieldFault {

@@ -1,8 +1,8 @@
 //! Items, inner lists, members, and the collections of them.
 use crate::bare::Bare;
 use crate::named::Named;
-use gnap_io::memory::{Duplicate, Mem};
-use gnap_io::seq::Seq;
+use bytes_and_lists::memory::{Duplicate, Mem};
+use bytes_and_lists::seq::Seq;
 
 /// Parameters: bare items under distinct keys, in order (RFC 8941, section 3.1.2).
 pub type Params = Named<Bare>;

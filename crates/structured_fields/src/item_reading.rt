@@ -7,7 +7,7 @@ use crate::bare_reading::{bare_of, key_of};
 use crate::fault::FieldFault;
 use crate::item::{InnerList, Item, Items, Member, Params};
 use crate::letters::{begins, strip, without_spaces};
-use gnap_io::bytes::Bytes;
+use bytes_and_lists::bytes::Bytes;
 use std::alloc::Global;
 
 #[tactic(auto, unfolding(crate::specs::Reading::value_of))]

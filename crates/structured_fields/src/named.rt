@@ -4,8 +4,8 @@ ghost use Rattle.std.specs.Option.{option_copied, unwrap_or};
 ghost use Rattle.std.specs.Str.{bytes_eq};
 ghost use Rattle.structured_fields.specs.Named.{value_at, with_value, place_in, IsDistinct};
 
-use gnap_io::bytes::Bytes;
-use gnap_io::memory::{Duplicate, Mem};
+use bytes_and_lists::bytes::Bytes;
+use bytes_and_lists::memory::{Duplicate, Mem};
 use indexmap::IndexMap;
 use std::alloc::Global;
 use std::collections::BTreeMap;

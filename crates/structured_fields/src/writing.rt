@@ -9,8 +9,8 @@ use crate::bare::Bare;
 use crate::item::{Dictionary, InnerList, Item, Items, List, Member, Params};
 use crate::letters::unquoted_run;
 use base64::engine::general_purpose::STANDARD;
-use gnap_io::bytes::Bytes;
-use gnap_io::memory::Mem;
+use bytes_and_lists::bytes::Bytes;
+use bytes_and_lists::memory::Mem;
 use std::alloc::Global;
 
 fn put_number(out: &mut Bytes, n: u64) -> Result<(), Mem>

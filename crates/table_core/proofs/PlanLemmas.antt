@@ -4,7 +4,7 @@ use Rattle.std.specs.Prelude.{Result, Ok, Err, IfOk, OnOk, is_some, option_map, 
 use Rattle.std.specs.Global.{Box}
 use Rattle.std.specs.List.{flat_map}
 use Rattle.std.specs.Option.{option_to_list}
-use Rattle.gnap_io.specs.declared.memory.Mem.{Mem}
+use Rattle.bytes_and_lists.specs.declared.memory.Mem.{Mem}
 use Rattle.gnap_model.specs.Common.{Text, some_if}
 use Rattle.gnap_model.specs.Limits.{wait}
 use Rattle.gnap_model.specs.Values.{value_text, drawn}

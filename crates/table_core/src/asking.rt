@@ -11,8 +11,8 @@ ghost use Rattle.table_core.specs.Askings.{begun_round, asking_reply, asking_val
 
 use crate::entering::Entering;
 use crate::stored::stored_round;
-use gnap_io::bytes::Bytes;
-use gnap_io::memory::Mem;
+use bytes_and_lists::bytes::Bytes;
+use bytes_and_lists::memory::Mem;
 use gnap_model::calls::Reply;
 use gnap_model::objects::Modes;
 use gnap_tables::rows::KeptRound;

@@ -9,7 +9,7 @@ ghost use Rattle.table_core.specs.CallEffects.{ActsBy, tables_in};
 ghost use Rattle.table_core.specs.Choices.{named_number};
 
 use crate::answered::{Answered, undrawn};
-use gnap_io::bytes::Bytes;
+use bytes_and_lists::bytes::Bytes;
 use gnap_model::calls::Reply;
 use gnap_model::objects::ErrorCode;
 use row_store::{GrantTable, TokenTable};

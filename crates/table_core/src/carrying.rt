@@ -9,7 +9,7 @@ ghost use Rattle.table_core.specs.Plans.{rows_in, RiseFrom, retermed, approved, 
 use crate::answered::Answered;
 use crate::entering::{NewTokens, Plan, Renewal, TableChange};
 use crate::kept_terms::KeptTerms;
-use gnap_io::memory::Mem;
+use bytes_and_lists::memory::Mem;
 use gnap_tables::rows::KeptRound;
 use kept_rights::KeptRights;
 use row_store::{Change, GrantTable, TokenTable};

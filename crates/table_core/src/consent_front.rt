@@ -7,8 +7,8 @@ ghost use Rattle.table_core.specs.Plans.{Plans};
 ghost use Rattle.table_core.specs.Fronts.{interaction_of, show_round, show_handle};
 
 use crate::entering::{Entering, Plan, refused, told};
-use gnap_io::bytes::Bytes;
-use gnap_io::memory::{Duplicate, Mem};
+use bytes_and_lists::bytes::Bytes;
+use bytes_and_lists::memory::{Duplicate, Mem};
 use gnap_model::calls::Reply;
 use gnap_model::objects::ErrorCode;
 use gnap_tables::rows::{GrantRow, Round};

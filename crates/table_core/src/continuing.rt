@@ -14,9 +14,9 @@ ghost use Rattle.table_core.specs.Continued.{wrong_rows};
 
 use crate::entering::{Entering, Plan, Renewal, TableChange, refused};
 use crate::issuing::grant;
-use gnap_io::bytes::Bytes;
-use gnap_io::memory::{Duplicate, Mem};
-use gnap_io::seq::Seq;
+use bytes_and_lists::bytes::Bytes;
+use bytes_and_lists::memory::{Duplicate, Mem};
+use bytes_and_lists::seq::Seq;
 use gnap_model::calls::Reply;
 use gnap_model::objects::{ErrorCode, Verdict};
 use gnap_tables::rows::{Decision, GrantRow, Round};

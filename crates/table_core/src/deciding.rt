@@ -9,7 +9,7 @@ ghost use Rattle.table_core.specs.Plans.{Plans};
 ghost use Rattle.table_core.specs.Fronts.{interaction_of, take_decision};
 
 use crate::entering::{Entering, Plan, TableChange, refused};
-use gnap_io::memory::{Duplicate, Mem};
+use bytes_and_lists::memory::{Duplicate, Mem};
 use gnap_model::calls::{FinishOut, Reply};
 use gnap_model::objects::{DecideRequest, ErrorCode};
 use gnap_model::rights::Rights;

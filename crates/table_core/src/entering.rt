@@ -4,7 +4,7 @@ ghost use Rattle.gnap_model.specs.Actions.Action.{Refuse};
 ghost use Rattle.table_core.specs.Plans.{Plans, nothing_with};
 
 use crate::kept_terms::KeptTerms;
-use gnap_io::seq::Seq;
+use bytes_and_lists::seq::Seq;
 use gnap_model::calls::Reply;
 use gnap_model::objects::ErrorCode;
 use gnap_tables::rows::{GrantRow, KeptRound, TokenRow};

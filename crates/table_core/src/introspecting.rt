@@ -10,9 +10,9 @@ ghost use Rattle.table_core.specs.Choices.{judged_reply, approved_of};
 
 use crate::answered::{Answered, undrawn};
 use access_rights::served::served_part;
-use gnap_io::bytes::Bytes;
-use gnap_io::memory::{Duplicate, Mem};
-use gnap_io::seq::Seq;
+use bytes_and_lists::bytes::Bytes;
+use bytes_and_lists::memory::{Duplicate, Mem};
+use bytes_and_lists::seq::Seq;
 use gnap_model::calls::Reply;
 use gnap_model::objects::{Binding, ErrorCode, Setup};
 use gnap_model::rights::{Names, Rights};

@@ -9,9 +9,9 @@ ghost use Rattle.table_core.specs.Plans.{rows_in};
 
 use crate::entering::{Entering, NewTokens};
 use crate::stored::stored_token;
-use gnap_io::bytes::Bytes;
-use gnap_io::memory::{Duplicate, Mem};
-use gnap_io::seq::Seq;
+use bytes_and_lists::bytes::Bytes;
+use bytes_and_lists::memory::{Duplicate, Mem};
+use bytes_and_lists::seq::Seq;
 use gnap_model::calls::{Reply, Tokens};
 use gnap_model::notes::TokenNote;
 use gnap_model::objects::Ask;

@@ -15,7 +15,7 @@ use crate::continuing::continue_grant;
 use crate::deciding::decide;
 use crate::entering::{Entering, Plan};
 use crate::modifying::modify;
-use gnap_io::memory::Mem;
+use bytes_and_lists::memory::Mem;
 use gnap_model::calls::Call;
 use gnap_model::objects::Setup;
 use std::alloc::Global;

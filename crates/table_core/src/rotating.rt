@@ -10,8 +10,8 @@ ghost use Rattle.table_core.specs.Choices.{rotated_to, rotation_for, rotation_of
 
 use crate::answered::{Answered, undrawn};
 use crate::stored::stored_token;
-use gnap_io::bytes::Bytes;
-use gnap_io::memory::{Duplicate, Mem};
+use bytes_and_lists::bytes::Bytes;
+use bytes_and_lists::memory::{Duplicate, Mem};
 use gnap_model::calls::{Reply, TokenOut};
 use gnap_model::objects::ErrorCode;
 use gnap_tables::rows::{GrantRow, TokenRow};

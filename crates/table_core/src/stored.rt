@@ -5,7 +5,7 @@ ghost use Rattle.gnap_tables.specs.Rows.{round_row};
 ghost use Rattle.gnap_tables.specs.Tables.{new_token};
 
 use crate::kept_terms::KeptTerms;
-use gnap_io::memory::Mem;
+use bytes_and_lists::memory::Mem;
 use gnap_model::notes::{RoundNote, TermsNote, TokenNote};
 use gnap_tables::rows::{KeptRound, Round, TokenRow};
 use kept_rights::{KeptAsks, KeptRights};

@@ -17,7 +17,7 @@ use crate::introspecting::introspect;
 use crate::planning::plan_call;
 use crate::revoking::revoke;
 use crate::rotating::rotate;
-use gnap_io::memory::Mem;
+use bytes_and_lists::memory::Mem;
 use gnap_model::calls::{Call, Reply};
 use gnap_model::objects::Setup;
 use grant_machine::Gnap;

@@ -6,7 +6,7 @@ ghost use Rattle.histories.specs.History.{notes_of, last_moment};
 ghost use Rattle.histories.specs.Steps.{Answers, Lapses};
 
 use crate::adding::{Adding, Call, Reply};
-use gnap_io::memory::Mem;
+use bytes_and_lists::memory::Mem;
 use histories::machine::Core;
 use std::alloc::Global;
 

@@ -4,10 +4,10 @@ ghost use Rattle.test_adding.specs.Bytewise.{Fills, HasFillCause};
 
 use crate::adding::{Adding, Call, Reply};
 use crate::fault::NoAmount;
-use gnap_io::bytes::Bytes;
+use bytes_and_lists::bytes::Bytes;
+use bytes_and_lists::memory::Mem;
 use gnap_io::device::{Failed, Sink, Source, write_all};
 use gnap_io::gear::{Clock, Draws};
-use gnap_io::memory::Mem;
 use histories::machine::Desk;
 use serving::connection::serve_connection;
 use serving::ends::NoMessage;

@@ -6,7 +6,7 @@ ghost use Rattle.test_adding.specs.Adding.{adding};
 ghost use Rattle.test_adding.specs.Amounts.{sum_or, GrewBy};
 
 use crate::adding::{Adding, Call, Reply};
-use gnap_io::memory::Mem;
+use bytes_and_lists::memory::Mem;
 use histories::machine::Desk;
 
 /// What calls came to: how many were answered, at how many memory ran out, and the last sum that was answered, 0 where none was.

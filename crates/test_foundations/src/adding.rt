@@ -1,4 +1,4 @@
-use gnap_io::memory::Mem;
+use bytes_and_lists::memory::Mem;
 use histories::laws::{by_order, one_alone, one_history};
 use histories::lone::Lone;
 use histories::machine::{Core, Desk};

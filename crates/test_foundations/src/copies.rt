@@ -1,7 +1,7 @@
 //! With ample memory each copy succeeds; a key is found by its id, and codes have their texts.
-use gnap_io::bytes::Bytes;
-use gnap_io::memory::{Duplicate, Mem};
-use gnap_io::seq::Seq;
+use bytes_and_lists::bytes::Bytes;
+use bytes_and_lists::memory::{Duplicate, Mem};
+use bytes_and_lists::seq::Seq;
 use gnap_model::calls::{Call, FinishOut, Reply, TokenOut};
 use gnap_model::notes::{DecisionNote, Note, OpeningNote, RoundNote, TermsNote, TokenNote};
 use gnap_model::objects::{

@@ -2,9 +2,9 @@ use access_rights::{
     Names, Right, RightObject, Rights, RightsFault, covers, read_rights, rights_value, served_part,
     serves,
 };
-use gnap_io::bytes::Bytes;
-use gnap_io::memory::Mem;
-use gnap_io::seq::Seq;
+use bytes_and_lists::bytes::Bytes;
+use bytes_and_lists::memory::Mem;
+use bytes_and_lists::seq::Seq;
 use json_objects::has_fraction;
 use serde_json::Value;
 use std::alloc::Global;

@@ -1,5 +1,5 @@
+use bytes_and_lists::bytes::Bytes;
 use content_digest::{DigestFault, check, digest_line};
-use gnap_io::bytes::Bytes;
 use std::alloc::Global;
 use std::test::*;
 

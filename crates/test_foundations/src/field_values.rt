@@ -1,5 +1,5 @@
-use gnap_io::bytes::Bytes;
-use gnap_io::memory::Duplicate;
+use bytes_and_lists::bytes::Bytes;
+use bytes_and_lists::memory::Duplicate;
 use std::alloc::Global;
 use std::test::*;
 use structured_fields::{

@@ -3,11 +3,11 @@ ghost use Rattle.std.specs.Prelude.{◌≡◌, ◌≤◌, true};
 ghost use Rattle.std.specs.List.{list_all};
 ghost use Rattle.http_edge.specs.Replies.{MayWrite, is_method_byte};
 
-use gnap_io::bytes::Bytes;
+use bytes_and_lists::bytes::Bytes;
+use bytes_and_lists::memory::Mem;
+use bytes_and_lists::message::Message;
 use gnap_io::device::{Device, Failed, Source};
-use gnap_io::memory::Mem;
 use gnap_io::memory_devices::{MemSink, MemSource};
-use gnap_io::message::Message;
 use http_edge::{
     EdgeFault, Held, HttpReply, ReplyFault, WriteFault, fault_reply, next_message, read_reply,
     write_reply,

@@ -1,5 +1,5 @@
-use gnap_io::bytes::Bytes;
-use gnap_io::memory::Mem;
+use bytes_and_lists::bytes::Bytes;
+use bytes_and_lists::memory::Mem;
 use hmac_key::{Keyring, hmac, same};
 use std::alloc::Global;
 use std::test::*;

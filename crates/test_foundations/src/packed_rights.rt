@@ -1,8 +1,8 @@
 //! With ample memory rights and asks are kept, and are the same again when they are read.
 use access_rights::{covers, read_rights};
-use gnap_io::bytes::Bytes;
-use gnap_io::memory::{Duplicate, Mem};
-use gnap_io::seq::Seq;
+use bytes_and_lists::bytes::Bytes;
+use bytes_and_lists::memory::{Duplicate, Mem};
+use bytes_and_lists::seq::Seq;
 use gnap_model::objects::{Ask, Asks};
 use gnap_model::rights::Right;
 use json_objects::has_fraction;

@@ -3,10 +3,10 @@ ghost use Rattle.std.specs.Prelude.{◌≡◌, IfOk};
 ghost use Rattle.gnap_io.specs.Gears.{new_gear, AreStarted};
 
 use crate::served_messages::{BEGIN, bytes_of, put_texts, server};
-use gnap_io::bytes::Bytes;
+use bytes_and_lists::bytes::Bytes;
+use bytes_and_lists::memory::{Duplicate, Mem};
 use gnap_io::device::{Device, Failed, Sink, Source};
 use gnap_io::gear::{Clock, Counted, Door, Draws, Gear};
-use gnap_io::memory::{Duplicate, Mem};
 use gnap_io::memory_conn::MemConn;
 use gnap_io::memory_gear::MemGear;
 use serving::threads::serve_gears;

@@ -1,5 +1,5 @@
 //! Printed requests.
-use gnap_io::bytes::Bytes;
+use bytes_and_lists::bytes::Bytes;
 use gnap_objects::read_grant;
 use grant_values::grant_text;
 use json_objects::read_body;

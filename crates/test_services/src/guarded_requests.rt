@@ -1,9 +1,9 @@
 //! A setup, and a request that is let through.
-use gnap_io::bytes::Bytes;
-use gnap_io::memory::Mem;
+use bytes_and_lists::bytes::Bytes;
+use bytes_and_lists::memory::Mem;
+use bytes_and_lists::message::{Field, Message};
+use bytes_and_lists::seq::Seq;
 use gnap_io::memory_link::MemLink;
-use gnap_io::message::{Field, Message};
-use gnap_io::seq::Seq;
 use resource_server::{Guarded, guard, read_rs_setup};
 use std::alloc::Global;
 use std::test::Fail;

@@ -1,6 +1,6 @@
 //! Loads whose counts can be told by hand.
+use bytes_and_lists::memory::Mem;
 use desk_load::{Tally, load_setup, put_load};
-use gnap_io::memory::Mem;
 use std::alloc::Global;
 use std::sync::Wait;
 use std::thread::Threads;

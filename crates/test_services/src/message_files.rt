@@ -2,9 +2,9 @@
 ghost use Rattle.std.specs.Prelude.{◌≡◌, [], IfOk};
 ghost use Rattle.gnap_objects.specs.Setups.{IsSetup};
 
-use gnap_io::bytes::Bytes;
+use bytes_and_lists::bytes::Bytes;
+use bytes_and_lists::memory::Mem;
 use gnap_io::device::Device;
-use gnap_io::memory::Mem;
 use gnap_io::memory_devices::MemSource;
 use gnap_objects::{Setup, read_setup};
 use signed_files::{FileFault, sign_file, verify_file};

@@ -1,5 +1,5 @@
 //! Replies that are read.
-use gnap_io::memory::Mem;
+use bytes_and_lists::memory::Mem;
 use gnap_model::objects::ErrorCode;
 use reply_readers::{GrantReply, Judgement, ReplyKind, read_grant_reply, read_judgement};
 

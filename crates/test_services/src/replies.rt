@@ -1,9 +1,9 @@
 //! Printed texts.
 ghost use Rattle.std.specs.Prelude.{IfOk, IsUtf8};
 
-use gnap_io::bytes::Bytes;
-use gnap_io::memory::Mem;
-use gnap_io::seq::Seq;
+use bytes_and_lists::bytes::Bytes;
+use bytes_and_lists::memory::Mem;
+use bytes_and_lists::seq::Seq;
 use gnap_model::calls::Reply;
 use gnap_model::objects::{ErrorCode, Setup};
 use gnap_replies::{print_client_discovery, print_error, print_reply, print_server_discovery};

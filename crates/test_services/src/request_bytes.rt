@@ -1,5 +1,5 @@
 //! A request as bytes. The digest and the signature were computed by another implementation.
-use gnap_io::bytes::Bytes;
+use bytes_and_lists::bytes::Bytes;
 use signed_requests::{Scheme, UnsignedRequest, is_method, is_target, signed_request};
 use std::test::Fail;
 

@@ -1,7 +1,7 @@
 //! A script's lines over a link in memory.
+use bytes_and_lists::bytes::Bytes;
 use client_scripts::turns::script_line;
 use gnap_client::{Client, read_client_config};
-use gnap_io::bytes::Bytes;
 use gnap_io::memory_link::MemLink;
 use std::test::Fail;
 

@@ -5,9 +5,9 @@ ghost use Rattle.gnap_io.specs.MemoryForms.{IsUnusedConn};
 
 use as_edge::AuthorizationServer;
 use as_requests::Edge;
-use gnap_io::bytes::Bytes;
+use bytes_and_lists::bytes::Bytes;
+use bytes_and_lists::memory::{Duplicate, Mem};
 use gnap_io::gear::Counted;
-use gnap_io::memory::{Duplicate, Mem};
 use gnap_io::memory_conn::MemConn;
 use gnap_io::memory_gear::MemGear;
 use gnap_objects::read_setup;

@@ -4,9 +4,9 @@ ghost use Rattle.gnap_io.specs.Gears.{IsUnused};
 ghost use Rattle.gnap_io.specs.MemoryForms.{IsUnusedConn};
 
 use as_service::serve_at;
-use gnap_io::bytes::Bytes;
+use bytes_and_lists::bytes::Bytes;
+use bytes_and_lists::memory::Mem;
 use gnap_io::gear::Counted;
-use gnap_io::memory::Mem;
 use gnap_io::memory_conn::MemConn;
 use gnap_io::memory_gear::MemGear;
 use gnap_io::memory_world::MemWorld;

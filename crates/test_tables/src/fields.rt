@@ -1,8 +1,8 @@
 //! The table of structured fields. A line is the kind of a field (`item`, `list` or `dictionary`) and, behind one space, its text. Told is the canonical
 //! text, or `not in the grammar`. What is expected was worked out from RFC 8941, section 4, beside this repository.
 
-use gnap_io::bytes::Bytes;
-use gnap_io::memory::Mem;
+use bytes_and_lists::bytes::Bytes;
+use bytes_and_lists::memory::Mem;
 use std::alloc::Global;
 use structured_fields::{
     FieldFault, read_dictionary, read_item, read_list, write_dictionary, write_item, write_list,

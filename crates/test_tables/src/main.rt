@@ -15,7 +15,7 @@ mod repeated;
 mod shown;
 mod signatures;
 
-use gnap_io::memory::Mem;
+use bytes_and_lists::memory::Mem;
 use std::alloc::Global;
 use std::io;
 

@@ -1,7 +1,7 @@
 //! How that which was read of a JSON text is told. Texts stand between quotes, and what is absent is `none`.
 
 use crate::objects::Refusal;
-use gnap_io::bytes::Bytes;
+use bytes_and_lists::bytes::Bytes;
 use gnap_model::objects::{
     Ask, Binding, DecideRequest, GrantRequest, IntrospectRequest, Modes, Setup, Verdict,
 };

@@ -8,9 +8,9 @@
 //! language, apart from this code.
 
 use base64::engine::general_purpose::STANDARD;
-use gnap_io::bytes::Bytes;
-use gnap_io::memory::Mem;
-use gnap_io::message::{Field, Fields, Message};
+use bytes_and_lists::bytes::Bytes;
+use bytes_and_lists::memory::Mem;
+use bytes_and_lists::message::{Field, Fields, Message};
 use hmac_key::{Keyring, hmac};
 use message_signature::{BaseFault, SigFault, SignFault, base_of, sign, verify};
 use std::alloc::Global;

@@ -3,9 +3,9 @@
 ghost use Rattle.std.specs.Prelude.{◌≡◌, []};
 ghost use Rattle.gnap_objects.specs.Setups.{IsSetup};
 
+use bytes_and_lists::bytes::Bytes;
+use bytes_and_lists::memory::{Duplicate, Mem};
 use gnap_history::{Gnap, list_desk};
-use gnap_io::bytes::Bytes;
-use gnap_io::memory::{Duplicate, Mem};
 use gnap_io::memory_devices::{MemSink, MemSource};
 use gnap_objects::{Setup, read_setup};
 use gnap_tool::{LineReader, replay_lines};

@@ -1,5 +1,5 @@
 //! Why nothing came of a line.
-use gnap_io::memory::Mem;
+use bytes_and_lists::memory::Mem;
 use std::alloc::{AllocError, AllocFailed};
 
 #[derive(Clone, Copy, Debug, PartialEq, Eq)]

@@ -1,7 +1,7 @@
 //! Bytes as texts with a character for each.
 use crate::case::Case;
 use crate::fault::Fault;
-use gnap_io::bytes::Bytes;
+use bytes_and_lists::bytes::Bytes;
 use sha2::{Digest, Sha256};
 use std::alloc::Global;
 

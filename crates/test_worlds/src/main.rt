@@ -18,7 +18,7 @@ use crate::both_cores::History;
 use crate::case::Case;
 use crate::fault::Fault;
 use crate::outcome::outcome_line;
-use gnap_io::memory::Mem;
+use bytes_and_lists::memory::Mem;
 use std::alloc::Global;
 use std::io::{BufRead, BufReader};
 use std::sync::Wait;

@@ -1,13 +1,14 @@
 //! The worlds of the table.
 ghost use Rattle.std.specs.Prelude.{◌≡◌, ◌≤◌, IfOk, All};
-ghost use Rattle.gnap_io.specs.Gears.{IsUnused, last_moment};
+ghost use Rattle.bytes_and_lists.specs.Moments.{last_moment};
+ghost use Rattle.gnap_io.specs.Gears.{IsUnused};
 ghost use Rattle.gnap_io.specs.Links.{new_link};
 ghost use Rattle.gnap_io.specs.MemoryForms.{IsUnusedConn, link_state};
 
 use crate::case::{Case, GearCase};
 use crate::fault::Fault;
 use crate::latin::bytes_of;
-use gnap_io::bytes::Bytes;
+use bytes_and_lists::bytes::Bytes;
 use gnap_io::gear::Counted;
 use gnap_io::memory_conn::MemConn;
 use gnap_io::memory_devices::MemSource;

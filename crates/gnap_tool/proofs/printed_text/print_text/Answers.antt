@@ -1,5 +1,5 @@
 use Rattle.std.proofs.Common.{ℕ, List, refl, subst, inl}
-use Rattle.gnap_io.specs.Outside.{IsPrefix}
+use Rattle.bytes_and_lists.specs.Prefixes.{IsPrefix}
 use Rattle.gnap_tool.proofs.printed_text.print_text.Goals as goal
 
 pub returns-in-Err-clause-prints : goal.returns-in-Err-clause-prints

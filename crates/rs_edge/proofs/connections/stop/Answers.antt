@@ -1,5 +1,6 @@
 use Rattle.std.proofs.Common.{refl, sym, subst}
-use Rattle.gnap_io.specs.Outside.{Writes, IsPrefix}
+use Rattle.bytes_and_lists.specs.Prefixes.{IsPrefix}
+use Rattle.gnap_io.specs.Outside.{Writes}
 use Rattle.http_edge.specs.declared.reply.HttpReply.{HttpReply}
 use Rattle.http_edge.specs.Replies.{reply_bytes}
 use Rattle.serving.specs.declared.ends.ConnectionEnd.TheVariants as closed

@@ -1,5 +1,5 @@
 use Rattle.std.specs.Prelude.{◌≤◌, All}
-use Rattle.gnap_io.specs.Gears.{last_moment}
+use Rattle.bytes_and_lists.specs.Moments.{last_moment}
 use Rattle.test_worlds.proofs.world.moments.Given as goal
 
 abbrev pub invariant-loop-moment : goal.invariant-loop-moment

@@ -1,5 +1,5 @@
 use Rattle.histories.specs.Turns.{IsTurn}
-use Rattle.histories.proofs.LogLemmas.{serves-so}
+use Rattle.serving.proofs.LogLemmas.{serves-so}
 use Rattle.grant_machine.specs.Gnap.{gnap}
 use Rattle.serving.specs.Connections.{Session}
 use Rattle.as_edge.specs.EdgeFace.{edge_face}

@@ -1,5 +1,5 @@
 use Rattle.histories.specs.Turns.{IsTurn}
-use Rattle.histories.proofs.LogLemmas.{serves-so}
+use Rattle.serving.proofs.LogLemmas.{serves-so}
 use Rattle.test_adding.specs.Adding.{adding}
 use Rattle.serving.specs.Connections.{Session}
 use Rattle.test_adding.specs.Bytewise.{byte_wire, byte_face, IsByteSession}

@@ -6,7 +6,7 @@ use Rattle.gnap_io.specs.Outside.{Served}
 use Rattle.gnap_io.specs.Gears.{Log, GearState, empty_log, log_served, log_uses}
 use Rattle.histories.specs.History.{Entry, Law}
 use Rattle.histories.specs.Turns.{Turn, Face, IsTurn, direct, called, starved, lapsed, unsaid, moments_in, entries_in, draw_of}
-use Rattle.histories.specs.Logs.{joined, Sessions, IsAccount, Serves}
+use Rattle.serving.specs.Logs.{joined, Sessions, IsAccount, Serves}
 use Rattle.histories.proofs.TurnLemmas.{moments_in-append, entries_in-append}
 
 joined-next : {X : Type 0} (xss : List (List X)) (ys : List X) → joined (xss ++ ys ∷ []) ≡ joined xss ++ ys
