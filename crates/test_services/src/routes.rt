@@ -1,58 +1,19 @@
 //! The routes and their methods.
-use as_requests::{Purpose, Route};
-use gnap_objects::CallKind;
+use as_requests::Purpose::{self, Calls, RsDiscovery};
+use as_requests::Route;
+use gnap_objects::CallKind::{Begin, Decide, FindCode, Introspect, Look, Modify, Revoke};
 use std::test::Fail;
 
 // A path, its methods, one of them, and what that one is for.
 const ROUTES: [(&str, &str, &str, Purpose); 8] = [
-    (
-        "/gnap",
-        "POST, OPTIONS",
-        "POST",
-        Purpose::Calls(CallKind::Begin),
-    ),
-    (
-        "/continue",
-        "POST, PATCH, DELETE",
-        "PATCH",
-        Purpose::Calls(CallKind::Modify),
-    ),
-    (
-        "/token",
-        "POST, DELETE",
-        "DELETE",
-        Purpose::Calls(CallKind::Revoke),
-    ),
-    (
-        "/introspect",
-        "POST",
-        "POST",
-        Purpose::Calls(CallKind::Introspect),
-    ),
-    (
-        "/front/look",
-        "POST",
-        "POST",
-        Purpose::Calls(CallKind::Look),
-    ),
-    (
-        "/front/code",
-        "POST",
-        "POST",
-        Purpose::Calls(CallKind::FindCode),
-    ),
-    (
-        "/front/decide",
-        "POST",
-        "POST",
-        Purpose::Calls(CallKind::Decide),
-    ),
-    (
-        "/.well-known/gnap-as-rs",
-        "GET",
-        "GET",
-        Purpose::RsDiscovery,
-    ),
+    ("/gnap", "POST, OPTIONS", "POST", Calls(Begin)),
+    ("/continue", "POST, PATCH, DELETE", "PATCH", Calls(Modify)),
+    ("/token", "POST, DELETE", "DELETE", Calls(Revoke)),
+    ("/introspect", "POST", "POST", Calls(Introspect)),
+    ("/front/look", "POST", "POST", Calls(Look)),
+    ("/front/code", "POST", "POST", Calls(FindCode)),
+    ("/front/decide", "POST", "POST", Calls(Decide)),
+    ("/.well-known/gnap-as-rs", "GET", "GET", RsDiscovery),
 ];
 
 #[test]
