@@ -1,0 +1,2 @@
+pub mod AfterDashes
+pub mod Refusals
