@@ -1,8 +1,8 @@
 -- A source in memory moves the first bytes that it has left.
-use Rattle.std.proofs.Common.{◌≡◌, ◌∙◌, ℕ, ◌+◌, ◌-◌, ◌<◌, min, List, [], ◌++◌, length, drop, take, refl, sym, ap, arith, length-drop}
+use Rattle.std.proofs.Common.{◌≡◌, ◌∙◌, ℕ, zero, suc, ◌+◌, ◌-◌, ◌<◌, ◌≤◌, min, List, [], ◌++◌, length, drop, take, replicate, refl, sym, ap, arith, length-drop}
 use Rattle.std.specs.Prelude.{Some}
-use Rattle.std.proofs.lemmas.List.{take-append-drop, take_all, drop-drop}
-use Rattle.std.proofs.Math.Seq.{take-add}
+use Rattle.std.proofs.lemmas.List.{take-append-drop, take_all, drop-drop, drop-append-le, drop-replicate}
+use Rattle.std.proofs.Math.Seq.{take-add, drop-append-add, drop-length}
 use Rattle.std.proofs.Math.ListN.{drop_of_length-le}
 use Rattle.gnap_io.specs.Outside.{Reads}
 use Rattle.gnap_io.specs.FaultPlans.{Plan}
@@ -36,3 +36,24 @@ reads_moved left taken filled room n count some same = record {
   };
   at_end = λ none. ap (λ x. Some x) (drop_of_length-le left (omega (arith, count, none, some)));
 }
+
+-- what is left of bytes and then so many times one byte
+pub rest_filled : (bytes : List ℕ) (byte at count given : ℕ) → at ≤ length bytes → (0 < given → at ≡ length bytes)
+    → drop at bytes ++ replicate (count - given) byte ≡ drop (at + given) (bytes ++ replicate count byte)
+rest_filled bytes byte at count zero within full =
+    let same : at + 0 ≡ at = omega arith in
+    let all : count - 0 ≡ count = omega arith in
+    rw same (rw all (sym (drop-append-le at bytes (replicate count byte) within)))
+rest_filled bytes byte at count (suc given) within full =
+    let end : at ≡ length bytes = full (omega arith) in
+    ap (λ n. drop n bytes ++ replicate (count - suc given) byte) end
+    ∙ ap (λ xs. xs ++ replicate (count - suc given) byte) (drop-length bytes)
+    ∙ sym (drop-replicate (suc given) count byte)
+    ∙ sym (drop-append-add bytes (replicate count byte) (suc given))
+    ∙ ap (λ n. drop (n + suc given) (bytes ++ replicate count byte)) (sym end)
+
+-- what is copied from there
+pub from_start : (bytes shown : List ℕ) (byte at count given : ℕ) → shown ≡ bytes → at ≤ length bytes → (0 < given → at ≡ length bytes)
+    → take (length shown - at) (drop at shown) ++ replicate (count - given) byte ≡ drop (at + given) (bytes ++ replicate count byte)
+from_start bytes shown byte at count given same within full =
+    ap (λ xs. xs ++ replicate (count - given) byte) (from_rest bytes shown at same) ∙ rest_filled bytes byte at count given within full

@@ -66,3 +66,7 @@ pub record AreStarted {Gear : Type 0} (state : Gear → GearState) (n quota : �
   pub many : length gears ≡ n
   pub unused : All (λ gear. IsUnused (state gear)) gears
   pub within : All (λ gear. (state gear).left ≤ quota) gears
+
+-- each may give just so many connections
+abbrev pub AreFull : {Gear : Type 0} → (Gear → GearState) → ℕ → List Gear → Type 0
+AreFull state quota gears = All (λ gear. (state gear).left ≡ quota) gears

@@ -13,6 +13,11 @@ pub record LinkState : Type 0 where
   pub faults : ℕ
   pub asked : List Exchange
 
+-- An exchange, by its connection where a reply came: what was written to it, and what was read from it. Else the request that was to be sent.
+abbrev pub exchange_of : {Conn : Type 0} → (Conn → Told) → List ℕ → Option Conn → Exchange
+exchange_of told request None = (request, None)
+exchange_of told request (Some conn) = ((told conn).written, Some (told conn).taken)
+
 -- The request was written to a connection, and the reply is what was then read from it, to its end.
 pub record IsReply (request reply : List ℕ) (before after : Told) : Type 0 where
   pub written : after.written ≡ before.written ++ request

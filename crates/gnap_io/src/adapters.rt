@@ -1,11 +1,16 @@
 //! The real files and standard streams. They tell what the system's calls gave and took so far, by transcripts that take no memory, and that nothing
 //! is left once a read gave nothing; before, they don't tell what is left. That the system did what its calls say is trusted; a fault of theirs is counted.
 ghost use Rattle.std.specs.Prelude.{◌≡◌, None};
+ghost use Rattle.std.specs.Io.{ReadsAtMost, WritesAtMost};
 ghost use Rattle.gnap_io.specs.Outside.{untouched};
 
 use crate::device::{Device, Failed, Sink, Source};
 use crate::transcript::Transcript;
-use std::io::{Read, Write};
+use std::io;
+use std::io::{ErrorKind, Read, Write};
+
+/// How often a call that a signal cuts short is made again.
+const RETRIES: u32 = 1000;
 
 /// A reader or a writer of std, with a count of its faults, and transcripts of what its calls gave and took. Once a read gave nothing, nothing is
 /// left: it is asked no more.
@@ -42,12 +47,38 @@ impl<T: Drop> Device for Stream<T> {
     ghost told = { λ stream. record { taken = stream.taken.bytes; left = if stream.ended then Some [] else None; written = stream.written.bytes } };
 }
 
+// A read that no signal cut short.
+fn uninterrupted_read<R: Read>(reader: &mut R, buf: &mut [u8]) -> io::Result<usize>
+    ensures { ReadsAtMost result buf.new }
+{
+    for _ in 0..RETRIES {
+        match reader.read(buf) {
+            Err(error) if error.kind() == ErrorKind::Interrupted => {}
+            ended => return ended,
+        }
+    }
+    reader.read(buf)
+}
+
+// A write that no signal cut short before it took anything.
+fn uninterrupted_write<W: Write>(writer: &mut W, piece: &[u8]) -> io::Result<usize>
+    ensures { WritesAtMost result piece.now }
+{
+    for _ in 0..RETRIES {
+        match writer.write(piece) {
+            Err(error) if error.kind() == ErrorKind::Interrupted => {}
+            ended => return ended,
+        }
+    }
+    writer.write(piece)
+}
+
 impl<R: Read + Drop> Source for Stream<R> {
     fn read(&mut self, buf: &mut [u8]) -> Result<usize, Failed> {
         if self.ended {
             return Ok(0);
         }
-        match self.inner.read(buf) {
+        match uninterrupted_read(&mut self.inner, buf) {
             Ok(count) => {
                 self.taken.note(&buf[..count]);
                 self.ended = count == 0;
@@ -63,7 +94,7 @@ impl<R: Read + Drop> Source for Stream<R> {
 
 impl<W: Write + Drop> Sink for Stream<W> {
     fn write(&mut self, piece: &[u8]) -> Result<usize, Failed> {
-        match self.inner.write(piece) {
+        match uninterrupted_write(&mut self.inner, piece) {
             Ok(count) if count > 0 => {
                 self.written.note(&piece[..count]);
                 Ok(count)

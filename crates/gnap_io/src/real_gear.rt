@@ -7,21 +7,16 @@ ghost use Rattle.gnap_io.specs.Gears.{new_gear, with_moment};
 use crate::adapters::Stream;
 use crate::device::{Device, Failed};
 use crate::gear::{Clock, Counted, Door, Draws, Gear};
+use crate::shared_listener::SharedListener;
+use crate::timed_socket::TimedSocket;
 use http_server::Log;
 use rand_chacha::ChaCha20Rng;
 use rand_core::SeedableRng;
 use rand_core::utils::NextWord;
 use std::alloc::Global;
-use std::net::{TcpListener, TcpStream};
 use std::rt;
 use std::sync::Arc;
-use std::time::{Duration, SystemTime};
-
-/// How long a connection may be silent, in seconds. A read or a write that waits longer fails.
-pub(crate) const IDLE_LIMIT: u64 = 60;
-
-/// How often a door asks for a connection before that is a fault. An attempt also fails where the peer is gone before it is accepted.
-const TRIES: u32 = 1000;
+use std::time::SystemTime;
 
 /// The last second of the year 9999, in seconds since 1970.
 const LAST_MOMENT: u64 = 253_402_300_799;
@@ -30,11 +25,12 @@ const LAST_MOMENT: u64 = 253_402_300_799;
 #[derive(Drop)]
 pub struct RealGear<'a, R: rt::Clock> {
     rt: &'a R,
-    listener: Arc<TcpListener, Global>,
+    listener: Arc<SharedListener, Global>,
+    number: u64,
     left: u32,
     out: u32,
     faults: u64,
-    served: Log<Stream<TcpStream>, ()>,
+    served: Log<Stream<TimedSocket<'a, R>>, ()>,
     moment: u64,
     moments: Log<u64, ()>,
     words: ChaCha20Rng,
@@ -45,21 +41,22 @@ pub struct RealGear<'a, R: rt::Clock> {
 }
 
 impl<'a, R: rt::Clock> RealGear<'a, R> {
-    /// A gear for so many connections, with the words of this stream under the seed.
+    /// The gear of this number, for so many connections, with the words of the stream of its number under the seed.
     pub fn new(
         rt: &'a R,
-        listener: Arc<TcpListener, Global>,
+        listener: Arc<SharedListener, Global>,
         seed: [u8; 32],
-        stream: u64,
+        number: u64,
         quota: u32,
     ) -> RealGear<'a, R>
         ensures { ⟦<RealGear<'a, R> as Counted>⟧.state result ≡ new_gear quota }
     {
         let mut words = ChaCha20Rng::from_seed(seed);
-        words.set_stream(stream);
+        words.set_stream(number);
         RealGear {
             rt,
             listener,
+            number,
             left: quota,
             out: 0,
             faults: 0,
@@ -81,53 +78,43 @@ impl<'a, R: rt::Clock> Counted for RealGear<'a, R> {
       left = gear.left;
       faults = gear.faults;
       log = record {
-        served = map (λ pair. served_of (⟦<Stream<TcpStream> as Device>⟧.told pair.0) (⟦<Stream<TcpStream> as Device>⟧.faults pair.0)) gear.served.items;
+        served = map (λ pair. served_of (⟦<Stream<TimedSocket<'a, R>> as Device>⟧.told pair.0) (⟦<Stream<TimedSocket<'a, R>> as Device>⟧.faults pair.0)) gear.served.items;
         moments = map (λ pair. pair.0) gear.moments.items;
         draws = map (λ pair. pair.0) gear.draws.items;
       };
     } };
 }
 
-// Sets the limits on a stream's silence, and has what is written sent at once.
-pub(crate) fn set_limits(stream: &TcpStream) {
-    let limit = Some(Duration::from_secs(IDLE_LIMIT));
-    let _ = stream.set_read_timeout(limit);
-    let _ = stream.set_write_timeout(limit);
-    let _ = stream.set_nodelay(true);
-}
+impl<'a, R: rt::Clock + Eprint + Sync> Door for RealGear<'a, R> {
+    type Conn = Stream<TimedSocket<'a, R>>;
 
-// The next connection, where one comes.
-fn accepted(listener: &TcpListener) -> Option<TcpStream> {
-    for _ in 0..TRIES {
-        if let Ok((stream, _)) = listener.accept() {
-            set_limits(&stream);
-            return Some(stream);
-        }
-    }
-    None
-}
-
-impl<'a, R: rt::Clock> Door for RealGear<'a, R> {
-    type Conn = Stream<TcpStream>;
-
-    fn accept(&mut self) -> Result<Option<Stream<TcpStream>>, Failed> {
+    fn accept(&mut self) -> Result<Option<Stream<TimedSocket<'a, R>>>, Failed> {
         if self.left == 0 {
+            let _ = eprintln!(self.rt;
+                "gnap: worker {} ends: it has served QUOTA connections",
+                self.number
+            );
             return Ok(None);
         }
-        match accepted(&self.listener) {
-            Some(stream) => {
+        match self.listener.accept(self.rt) {
+            Ok(stream) => {
                 self.left -= 1;
                 self.out += 1;
-                Ok(Some(Stream::new(stream)))
+                let listener = Arc::try_clone(&self.listener).ok();
+                Ok(Some(Stream::new(TimedSocket::new(self.rt, stream, listener))))
             }
-            None => {
+            Err(error) => {
+                let _ = eprintln!(self.rt;
+                    "gnap: worker {} ends: it got no connection: {error}",
+                    self.number
+                );
                 self.faults = self.faults.saturating_add(1);
                 Err(Failed)
             }
         }
     }
 
-    fn leave(&mut self, conn: Stream<TcpStream>) {
+    fn leave(&mut self, conn: Stream<TimedSocket<'a, R>>) {
         self.served = self.served.and(&conn, &());
         self.out -= 1;
     }
@@ -188,4 +175,4 @@ impl<'a, R: rt::Clock> Draws for RealGear<'a, R> {
     }
 }
 
-impl<'a, R: rt::Clock> Gear for RealGear<'a, R> {}
+impl<'a, R: rt::Clock + Eprint + Sync> Gear for RealGear<'a, R> {}

@@ -1,35 +1,37 @@
-//! The real link. It tells by a list that takes no memory what was asked and replied. What its peer answers is trusted as far as anything
-//! rests on it.
-ghost use Rattle.std.specs.Prelude.{◌≡◌, ◌≤◌, [], length, IfOk};
+//! The real link. It tells by a list that takes no memory what was asked and replied: of an exchange with a reply, what its connection took and
+//! gave. What its peer answers is trusted as far as anything rests on it.
+ghost use Rattle.std.specs.Prelude.{◌≡◌, ◌≤◌, [], length, IfOk, None};
 ghost use Rattle.gnap_io.specs.declared.real_link.TheConstants.{REPLY_LIMIT};
-ghost use Rattle.gnap_io.specs.Outside.{Takes, IsAtEnd};
+ghost use Rattle.gnap_io.specs.Outside.{Takes, IsAtEnd, untouched};
 ghost use Rattle.gnap_io.specs.Links.{new_link, IsReply};
 
 use crate::adapters::Stream;
-use crate::device::{Failed, Sink, Source, write_all};
+use crate::device::{Device, Failed, Sink, Source, write_all};
 use crate::link::{Link, LinkFault};
-use crate::real_gear::set_limits;
+use crate::standard_error::{tell_address, tell_no_text};
+use crate::timed_socket::TimedSocket;
 use crate::transcript::Transcript;
 use bytes_and_lists::bytes::Bytes;
 use http_server::Log;
 use std::alloc::Global;
 use std::net::{Net, TcpStream};
+use std::rt::Clock;
 
 /// The most bytes of a reply. A longer one is a fault.
 const REPLY_LIMIT: usize = 1_048_576;
 
-/// A link that makes a connection for each exchange: it writes the request, and reads the reply to the end of input. A peer that is silent for
-/// more than 60 seconds is a fault.
+/// A link that makes a connection for each exchange: it writes the request, and reads the reply to the end of input. A peer whose reply doesn't
+/// begin within 60 seconds, or isn't whole 60 seconds later, is a fault. The first fault is told on standard error.
 #[derive(Drop)]
-pub struct RealLink<'a, R: Net<Stream = TcpStream>> {
+pub struct RealLink<'a, R: Net<Stream = TcpStream> + Clock + Eprint> {
     rt: &'a R,
     alloc: Global,
     address: Bytes,
     faults: u64,
-    asked: Log<Transcript, Option<Transcript>>,
+    asked: Log<Transcript, Option<Stream<TimedSocket<'a, R>>>>,
 }
 
-impl<'a, R: Net<Stream = TcpStream>> RealLink<'a, R> {
+impl<'a, R: Net<Stream = TcpStream> + Clock + Eprint> RealLink<'a, R> {
     /// A link to this address.
     pub fn new(rt: &'a R, alloc: Global, address: Bytes) -> RealLink<'a, R>
         ensures { ⟦<RealLink<'a, R> as Link>⟧.link result ≡ new_link }
@@ -76,23 +78,44 @@ pub(crate) fn ask<C: Source + Sink>(
     read_reply(conn, room)
 }
 
-// Sends the request over a connection of its own, and reads the reply into the room that there is.
-fn reply_of<R: Net<Stream = TcpStream>>(
-    rt: &R,
+// A connection to the address.
+fn connected<'a, R: Net<Stream = TcpStream> + Clock + Eprint>(
+    rt: &'a R,
     address: &Bytes,
-    request: &[u8],
-    room: Vec<u8>,
-) -> Result<Bytes, Failed>
-    requires { room.items ≡ [] }
+    is_told: bool,
+) -> Result<Stream<TimedSocket<'a, R>>, Failed>
+    ensures { IfOk result (λ conn. ⟦<Stream<TimedSocket<'a, R>> as Device>⟧.told conn ≡ untouched None) }
 {
     let Ok(address) = str::from_utf8(address.as_slice()) else {
+        if is_told {
+            tell_no_text(rt);
+        }
         return Err(Failed);
     };
-    let Ok(stream) = TcpStream::connect(rt, address) else {
-        return Err(Failed);
-    };
-    set_limits(&stream);
-    ask(&mut Stream::new(stream), request, room)
+    match TcpStream::connect(rt, address) {
+        Ok(stream) => Ok(Stream::new(TimedSocket::new(rt, stream, None))),
+        Err(error) => {
+            if is_told {
+                tell_address(rt, address, &error);
+            }
+            Err(Failed)
+        }
+    }
+}
+
+// Sends the request over a connection of its own, and reads the reply into the room that there is. Gives the reply and the connection.
+fn reply_of<'a, R: Net<Stream = TcpStream> + Clock + Eprint>(
+    link: &RealLink<'a, R>,
+    request: &[u8],
+    room: Vec<u8>,
+) -> Result<(Bytes, Stream<TimedSocket<'a, R>>), Failed>
+    requires { room.items ≡ [] }
+    ensures { IfOk result (λ both. IsReply request.now both.0 (untouched None) (⟦<Stream<TimedSocket<'a, R>> as Device>⟧.told both.1)
+        × (length both.0 ≤ REPLY_LIMIT)) }
+{
+    let mut conn = connected(link.rt, &link.address, link.faults == 0)?;
+    let reply = ask(&mut conn, request, room)?;
+    Ok((reply, conn))
 }
 
 // The bytes, for clauses alone.
@@ -104,24 +127,22 @@ fn noted(bytes: &[u8]) -> Transcript
     transcript
 }
 
-impl<'a, R: Net<Stream = TcpStream>> Link for RealLink<'a, R> {
+impl<'a, R: Net<Stream = TcpStream> + Clock + Eprint> Link for RealLink<'a, R> {
     ghost use Rattle.std.specs.Prelude.{map};
-    ghost use Rattle.std.specs.Option.{option_map};
+    ghost use Rattle.gnap_io.specs.Links.{exchange_of};
 
     ghost link = { λ link. record {
       faults = link.faults;
-      asked = map (λ pair. (pair.0.bytes, option_map (λ reply. reply.bytes) pair.1)) link.asked.items;
+      asked = map (λ pair. exchange_of ⟦<Stream<TimedSocket<'a, R>> as Device>⟧.told pair.0.bytes pair.1) link.asked.items;
     } };
 
     fn exchange(&mut self, request: &[u8]) -> Result<Bytes, LinkFault> {
         let Ok(room) = Vec::with_capacity(self.alloc, REPLY_LIMIT) else {
             return Err(LinkFault::OutOfMemory);
         };
-        match reply_of(self.rt, &self.address, request, room) {
-            Ok(reply) => {
-                self.asked = self
-                    .asked
-                    .and(&noted(request), &Some(noted(reply.as_slice())));
+        match reply_of(self, request, room) {
+            Ok((reply, conn)) => {
+                self.asked = self.asked.and(&noted(request), &Some(conn));
                 Ok(reply)
             }
             Err(Failed) => {

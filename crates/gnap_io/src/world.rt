@@ -1,7 +1,7 @@
 //! The world, which hands files, gears and links out and takes them back.
-ghost use Rattle.std.specs.Prelude.{◌≡◌, ℕ, ◌<◌, List, Option, MatchResult, map};
+ghost use Rattle.std.specs.Prelude.{◌≡◌, ℕ, ◌<◌, List, Option, Bool, true, MatchResult, IfOk, map};
 ghost use Rattle.gnap_io.specs.Outside.{untouched, served_of};
-ghost use Rattle.gnap_io.specs.Gears.{AreStarted};
+ghost use Rattle.gnap_io.specs.Gears.{AreStarted, AreFull};
 ghost use Rattle.gnap_io.specs.Links.{new_link};
 ghost use Rattle.gnap_io.specs.Worlds.{WorldState, HasWorldCause, with_opened, with_returned, with_opening, with_gears, with_link};
 
@@ -44,6 +44,9 @@ pub trait World {
     /// The bytes of a named file, where they are known. No call changes them.
     ghost text: { Self → List ℕ → Option (List ℕ) };
 
+    /// Whether each gear that it starts may give as many connections as were asked for. Else it may give fewer.
+    ghost gives_quota: { Bool };
+
     /// Opens the file of this name. An `Err` changes the count of faults alone.
     fn open_file(&mut self, name: &Bytes) -> Result<Self::File, WorldFault>
         ensures text { text self.new ≡ text self.old }
@@ -73,7 +76,8 @@ pub trait World {
             (λ _. state self.new ≡ record (state self.old) { faults = (state self.new).faults }) }
         ensures gears { MatchResult result
             (λ gears. AreStarted Self.Gear.state n quota gears.items)
-            (λ fault. HasWorldCause (state self.old).faults (state self.new).faults fault) };
+            (λ fault. HasWorldCause (state self.old).faults (state self.new).faults fault) }
+        ensures quota { gives_quota ≡ true → IfOk result (λ gears. AreFull Self.Gear.state quota gears.items) };
 
     /// Takes gears back. This takes no memory.
     fn stop_gears(&mut self, gears: Vec<Self::Gear>)

@@ -19,11 +19,12 @@ use gnap_io::memory_world::MemWorld;
 use gnap_io::real_gear::RealGear;
 use gnap_io::real_link::RealLink;
 use gnap_io::real_world::RealWorld;
+use gnap_io::shared_listener::SharedListener;
 use gnap_io::transcript::Transcript;
 use gnap_io::world::{World, WorldFault};
 use std::alloc::Global;
 use std::io::{Read, Write};
-use std::net::{Net, Shutdown, TcpListener, TcpStream};
+use std::net::{Net, Shutdown, SocketAddr, TcpListener, TcpStream};
 use std::random::RandomSource;
 use std::rt::{Files, HostRuntime};
 use std::sync::Arc;
@@ -77,6 +78,32 @@ fn told(alloc: Global) -> Result<bool, Mem> {
             && reads(alloc, &mut world, b"a")?.as_slice() == [1].as_slice()
             && reads(alloc, &mut world, b"a")?.as_slice() == [401, 1000, 205, 0, 0].as_slice(),
     )
+}
+
+// A source of two bytes and five times a third, whose second read fails, and one of more bytes than any memory has.
+fn filled(alloc: Global) -> Result<bool, Mem> {
+    let front = Bytes::from_slice(alloc, b"ab")?;
+    let mut source = MemSource::filled(front, b'x', 5, Vec::from_slice(alloc, &[2])?);
+    let rows: [(Result<usize, Failed>, &[u8]); 4] = [
+        (Ok(4), b"abxx"),
+        (Err(Failed), b"...."),
+        (Ok(3), b"xxx."),
+        (Ok(0), b"...."),
+    ];
+    for (answer, bytes) in rows {
+        let mut buf = *b"....";
+        if source.read(&mut buf) != answer || buf != *bytes {
+            return Ok(false);
+        }
+    }
+    let mut vast = MemSource::filled(Bytes::new(alloc), 7, u64::MAX, Vec::new(alloc));
+    let mut buf = [0; 3];
+    Ok(vast.read(&mut buf) == Ok(3) && buf == [7; 3])
+}
+
+#[test]
+fn a_source_is_filled_with_one_byte(rt: HostRuntime) {
+    assert!(rt; filled(rt.alloc()) == Ok(true));
 }
 
 fn written(alloc: Global) -> Result<bool, Mem> {
@@ -241,7 +268,12 @@ fn a_world_in_memory_gives_gears_and_links_once(rt: HostRuntime) {
 
 // A file of the system that has bytes, one that is always empty, and one that is never there.
 fn of_the_system<
-    R: Files + Net<Listener = TcpListener, Stream = TcpStream> + rt::Clock + RandomSource + Sync,
+    R: Files
+        + Net<Listener = TcpListener, Stream = TcpStream>
+        + rt::Clock
+        + RandomSource
+        + Eprint
+        + Sync,
 >(rt: &R, alloc: Global) -> Result<bool, Mem> {
     let mut world = RealWorld::new(rt, alloc);
     let missing = world
@@ -267,11 +299,7 @@ fn the_system_gives_files(rt: HostRuntime) {
 }
 
 // Whether a read behind each piece that the peer sends gives just that piece.
-fn gives_pieces(
-    conn: &mut Stream<TcpStream>,
-    peer: &mut TcpStream,
-    pieces: &[&[u8]],
-) -> Option<bool> {
+fn gives_pieces<S: Source>(conn: &mut S, peer: &mut TcpStream, pieces: &[&[u8]]) -> Option<bool> {
     let mut buf = [0; 64];
     for piece in pieces {
         peer.write_all(piece).ok()?;
@@ -292,7 +320,7 @@ fn gets(peer: &mut TcpStream, reply: &[u8]) -> Option<bool> {
 }
 
 // Whether a connection gives what its peer sends in these pieces, and then the end. The peer leaves then, or waits for a reply and gets it.
-fn is_served<R: rt::Clock>(
+fn is_served<R: rt::Clock + Eprint + Sync>(
     gear: &mut RealGear<'_, R>,
     mut peer: TcpStream,
     pieces: &[&[u8]],
@@ -315,13 +343,14 @@ fn is_served<R: rt::Clock>(
 }
 
 // A request in three pieces, two requests in one piece, and a peer that leaves in the middle of a head, over a socket.
-fn over_a_socket<R: Net<Listener = TcpListener, Stream = TcpStream> + rt::Clock>(
+fn over_a_socket<R: Net<Listener = TcpListener, Stream = TcpStream> + rt::Clock + Eprint + Sync>(
     rt: &R,
     alloc: Global,
 ) -> Option<bool> {
     let listener = TcpListener::bind(rt, "127.0.0.1:0").ok()?;
     let port = listener.local_addr().ok()?;
-    let mut gear = RealGear::new(rt, Arc::new(alloc, listener).ok()?, [7; 32], 0, 3);
+    let shared = Arc::new(alloc, SharedListener::new(listener)).ok()?;
+    let mut gear = RealGear::new(rt, shared, [7; 32], 0, 3);
     let rows: [(&[&[u8]], bool); 3] = [
         (&[b"GET /a HT", b"TP/1.1\r\n", b"\r\n"], false),
         (&[b"GET /a HTTP/1.1\r\n\r\nGET /b HTTP/1.1\r\n\r\n"], false),
@@ -342,6 +371,54 @@ fn a_real_gear_serves_a_socket(rt: HostRuntime) {
     assert!(rt; over_a_socket(&rt, rt.alloc()) == Some(true));
 }
 
+// Whether a gear gives so many connections, and then none.
+fn gives_just<R: Net<Stream = TcpStream> + rt::Clock + Eprint + Sync>(
+    rt: &R,
+    gear: &mut RealGear<'_, R>,
+    address: SocketAddr,
+    quota: u32,
+) -> Option<bool> {
+    for _ in 0..quota {
+        let peer = TcpStream::connect(rt, address).ok()?;
+        let conn = gear.accept().ok()??;
+        drop(peer);
+        gear.leave(conn);
+    }
+    Some(matches!(gear.accept(), Ok(None)))
+}
+
+// Whether two gears of the system each give their quota, and no more.
+fn gears_give_their_quota<
+    R: Files
+        + Net<Listener = TcpListener, Stream = TcpStream>
+        + rt::Clock
+        + RandomSource
+        + Eprint
+        + Sync,
+>(rt: &R, alloc: Global) -> Option<bool> {
+    // A port that was free a moment ago.
+    let address = TcpListener::bind(rt, "127.0.0.1:0")
+        .ok()?
+        .local_addr()
+        .ok()?;
+    let name = format!(in alloc; "{address}").ok()?;
+    let name = Bytes::from_slice(alloc, name.as_bytes()).ok()?;
+    let mut world = RealWorld::new(rt, alloc);
+    let mut gears = world.start_gears(&name, 2, 3).ok()?;
+    for gear in &mut gears {
+        if !gives_just(rt, gear, address, 3)? {
+            return Some(false);
+        }
+    }
+    world.stop_gears(gears);
+    Some(true)
+}
+
+#[test]
+fn each_gear_of_the_system_gives_its_quota(rt: HostRuntime) {
+    assert!(rt; gears_give_their_quota(&rt, rt.alloc()) == Some(true));
+}
+
 // Whether the first connection that comes brings this request, and gets this reply.
 fn answers(listener: TcpListener, request: &[u8], reply: &[u8]) -> bool {
     let Ok((mut conn, _)) = listener.accept() else {
@@ -355,7 +432,7 @@ fn answers(listener: TcpListener, request: &[u8], reply: &[u8]) -> bool {
 }
 
 // Whether a link gets its peer's reply, and fails once nobody listens.
-fn asks_its_peer<R: Net<Listener = TcpListener, Stream = TcpStream> + Threads>(
+fn asks_its_peer<R: Net<Listener = TcpListener, Stream = TcpStream> + rt::Clock + Eprint + Threads>(
     rt: &R,
     alloc: Global,
 ) -> Option<bool> {
