@@ -25,8 +25,8 @@ use Rattle.gnap_tables.specs.Tables.{after_notes, change_grant, drop_tokens_of, 
 use Rattle.gnap_tables.specs.RowSearches.{opening_of, token_of}
 use Rattle.gnap_tables.specs.ActionsByRows.{rows_of_grant}
 use Rattle.gnap_tables.proofs.NotesAsOneChange.{HaveOneSerial, all_issued, grant_dropped}
-use Rattle.row_store.specs.Tokens.{AreTokenRows}
-use Rattle.row_store.proofs.Placed.{one_key}
+use Rattle.token_manager.specs.Tokens.{AreTokenRows}
+use Rattle.grant_states.proofs.Placed.{one_key}
 use Rattle.table_core.specs.CallEffects.{tables_in}
 use Rattle.table_core.specs.Entries.{supply, tables}
 use Rattle.table_core.specs.Plans.{Plans, rows_in, RiseFrom}

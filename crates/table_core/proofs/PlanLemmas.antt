@@ -33,8 +33,8 @@ use Rattle.gnap_tables.specs.Tables.{Tables, change_grant, drop_grant, drop_toke
 use Rattle.gnap_tables.specs.RowSearches.{opening_of, round_of, terms_of_row}
 use Rattle.gnap_tables.proofs.NotesAsOneChange.{all_issued}
 use Rattle.grant_rules.specs.Drawn.{finish_told}
-use Rattle.row_store.specs.Tokens.{IsTokenRow}
-use Rattle.row_store.specs.declared.changes.Change.TheVariants.{Decide}
+use Rattle.token_manager.specs.Tokens.{IsTokenRow}
+use Rattle.grant_states.specs.declared.changes.Change.TheVariants.{Decide}
 use Rattle.table_core.specs.CallEffects.{ActsBy, tables_in}
 use Rattle.table_core.specs.Entries.{supply, tables}
 use Rattle.table_core.specs.Plans.{Plans, rows_in, carried, opened_by, IsDrawn, RiseFrom}

@@ -6,7 +6,7 @@ use Rattle.std.specs.List.{All}
 use Rattle.std.proofs.lemmas.List.{map-append}
 use Rattle.std.proofs.lemmas.List.Elements.{All-filter, All-push}
 use Rattle.gnap_tables.specs.declared.rows.TokenRow.{TokenRow}
-use Rattle.row_store.specs.Tokens.{IsTokenRow}
+use Rattle.token_manager.specs.Tokens.{IsTokenRow}
 use Rattle.table_core.specs.Plans.{rows_in, RiseFrom, unretired}
 
 -- the number from which on serials are free after these rows

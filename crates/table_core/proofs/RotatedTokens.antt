@@ -19,7 +19,7 @@ use Rattle.gnap_tables.specs.RowSearches.{opening_of, token_of, row_by_number, r
 use Rattle.gnap_tables.specs.ActionsByRows.{on_row, row_action, row_supply}
 use Rattle.grant_rules.specs.declared.supply.Supply.{Supply as EntrySupply}
 use Rattle.grant_rules.specs.Drawn.{supply_with}
-use Rattle.row_store.specs.Tokens.{IsTokenRow}
+use Rattle.token_manager.specs.Tokens.{IsTokenRow}
 use Rattle.table_core.specs.CallEffects.{ActsBy, tables_in}
 use Rattle.table_core.specs.Choices.{rotated_to, rotation_for, rotation_of}
 use Rattle.table_core.specs.declared.answered.Answered.{Answered}

@@ -15,8 +15,8 @@ use Rattle.gnap_tables.specs.StandsFor.{Kept, kept_of, machine_of, StandsByRows,
 use Rattle.gnap_tables.proofs.TablesThroughCalls.{swept_is, FitFew, answers-by_rows, lapses-by_rows, unswept}
 use Rattle.grant_machine.specs.Gnap.{GnapFits}
 use Rattle.grant_machine.proofs.Weaker.{grant_legal}
-use Rattle.row_store.specs.Grants.{StoredGrants}
-use Rattle.row_store.specs.Tokens.{StoredTokens}
+use Rattle.grant_states.specs.Grants.{StoredGrants}
+use Rattle.token_manager.specs.Tokens.{StoredTokens}
 use Rattle.table_core.specs.CallEffects.{ActsBy, HasRoom, tables_in, kept_in, moved}
 use Rattle.table_core.specs.StandsInTables.{StandsInTables}
 use Rattle.table_core.specs.declared.answered.Answered.{Answered}

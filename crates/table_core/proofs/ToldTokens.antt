@@ -24,8 +24,8 @@ use Rattle.gnap_tables.specs.ActionsByRows.{row_action}
 use Rattle.introspection.specs.Judgement.{judged, judged_row}
 use Rattle.introspection.specs.declared.judgement.Judged.{Judged}
 use Rattle.introspection.specs.declared.judgement.Judged.TheVariants.{NotServed, Active, Inactive}
-use Rattle.row_store.specs.Tokens.{AreTokenRows, row_by_value}
-use Rattle.row_store.proofs.LiveRows.{live_by_value}
+use Rattle.token_manager.specs.Tokens.{AreTokenRows, row_by_value}
+use Rattle.token_manager.proofs.LiveRows.{live_by_value}
 use Rattle.table_core.specs.CallEffects.{ActsBy, tables_in}
 use Rattle.table_core.specs.Choices.{judged_reply, approved_of}
 use Rattle.table_core.proofs.Undrawn.{undrawn_of, no_notes}

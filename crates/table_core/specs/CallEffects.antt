@@ -14,8 +14,8 @@ use Rattle.gnap_tables.specs.ActionsByRows.{row_action, row_supply}
 use Rattle.gnap_tables.specs.StandsFor.{Kept}
 use Rattle.gnap_tables.specs.Laws.{HasFewWrongs}
 use Rattle.grant_rules.specs.declared.supply.Supply.{Supply as EntrySupply}
-use Rattle.row_store.specs.Grants.{StoredGrants}
-use Rattle.row_store.specs.Tokens.{StoredTokens}
+use Rattle.grant_states.specs.Grants.{StoredGrants}
+use Rattle.token_manager.specs.Tokens.{StoredTokens}
 use Rattle.table_core.specs.declared.answered.Answered.{Answered}
 
 abbrev pub tables_in : List GrantRow → List TokenRow → Tables

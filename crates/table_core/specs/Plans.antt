@@ -15,8 +15,8 @@ use Rattle.gnap_tables.specs.declared.rows.GrantRow.{GrantRow}
 use Rattle.gnap_tables.specs.declared.rows.Round.{Round}
 use Rattle.gnap_tables.specs.declared.rows.TokenRow.{TokenRow}
 use Rattle.gnap_tables.specs.Tables.{Tables, after_notes, change_grant, drop_grant, drop_tokens_of, with_approval, with_door, with_terms}
-use Rattle.row_store.specs.Grants.{BeginsWith, changed_by}
-use Rattle.row_store.specs.Tokens.{IsTokenRow}
+use Rattle.grant_states.specs.Grants.{BeginsWith, changed_by}
+use Rattle.token_manager.specs.Tokens.{IsTokenRow}
 use Rattle.table_core.specs.CallEffects.{tables_in}
 use Rattle.table_core.specs.Entries.{supply, tables}
 use Rattle.table_core.specs.declared.entering.Entering.{Entering}

@@ -5,8 +5,8 @@ use Rattle.gnap_model.specs.declared.objects.Setup.{Setup}
 use Rattle.gnap_model.specs.Notes.{Event}
 use Rattle.gnap_tables.proofs.TablesThroughCalls.{rows-renumbered}
 use Rattle.grant_machine.specs.Gnap.{GnapFits}
-use Rattle.row_store.specs.Grants.{StoredGrants}
-use Rattle.row_store.specs.Tokens.{StoredTokens}
+use Rattle.grant_states.specs.Grants.{StoredGrants}
+use Rattle.token_manager.specs.Tokens.{StoredTokens}
 use Rattle.table_core.specs.CallEffects.{kept_in}
 use Rattle.table_core.specs.StandsInTables.{StandsInTables}
 

@@ -4,8 +4,8 @@ use Rattle.gnap_model.specs.declared.objects.Setup.{Setup}
 use Rattle.gnap_model.specs.Notes.{Event}
 use Rattle.gnap_tables.specs.StandsFor.{StandsByRows}
 use Rattle.grant_machine.specs.Gnap.{GnapFits}
-use Rattle.row_store.specs.Grants.{StoredGrants}
-use Rattle.row_store.specs.Tokens.{StoredTokens}
+use Rattle.grant_states.specs.Grants.{StoredGrants}
+use Rattle.token_manager.specs.Tokens.{StoredTokens}
 use Rattle.table_core.specs.CallEffects.{kept_in}
 
 -- the rows are those of the history, and the next value has a greater serial than each continuation value that the table of grants was given

@@ -12,7 +12,8 @@ use crate::answered::{Answered, undrawn};
 use bytes_and_lists::bytes::Bytes;
 use gnap_model::calls::Reply;
 use gnap_model::objects::ErrorCode;
-use row_store::{GrantTable, TokenTable};
+use grant_states::GrantTable;
+use token_manager::TokenTable;
 
 // The number of the grant that the value names, where the key is the grant's.
 fn named(grants: &GrantTable, key: &[u8], value: &[u8]) -> Result<u64, ErrorCode>

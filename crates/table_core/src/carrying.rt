@@ -2,7 +2,7 @@
 ghost use Rattle.std.specs.Prelude.{◌≡◌, ◌≤◌, ◌<◌, ◌+◌, ◌-◌, ◌^◌, ◌++◌, length, IfOk, OnOk, OnErr};
 ghost use Rattle.std.specs.List.{All};
 ghost use Rattle.gnap_tables.specs.declared.rows.TokenRow.{TokenRow};
-ghost use Rattle.row_store.specs.Grants.{BeginsWith};
+ghost use Rattle.grant_states.specs.Grants.{BeginsWith};
 ghost use Rattle.table_core.specs.CallEffects.{HasRoom, tables_in};
 ghost use Rattle.table_core.specs.Plans.{rows_in, RiseFrom, retermed, approved, unretired, carried, opened_by, renewed, pended, CanCarry};
 
@@ -11,8 +11,9 @@ use crate::entering::{NewTokens, Plan, Renewal, TableChange};
 use crate::kept_terms::KeptTerms;
 use bytes_and_lists::memory::Mem;
 use gnap_tables::rows::KeptRound;
+use grant_states::{Change, GrantTable};
 use kept_rights::KeptRights;
-use row_store::{Change, GrantTable, TokenTable};
+use token_manager::TokenTable;
 
 // Appends rows of tokens, whose serials rise from `first` on.
 fn issue_all(tokens: &mut TokenTable, rows: NewTokens, first: u64)

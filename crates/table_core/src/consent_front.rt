@@ -12,7 +12,7 @@ use bytes_and_lists::memory::{Duplicate, Mem};
 use gnap_model::calls::Reply;
 use gnap_model::objects::ErrorCode;
 use gnap_tables::rows::{GrantRow, Round};
-use row_store::InteractionName;
+use grant_states::InteractionName;
 use std::alloc::Global;
 
 /// What the user is asked in the round of a row, and how long the answer is waited for.

@@ -22,8 +22,8 @@ use gnap_model::objects::{ErrorCode, Verdict};
 use gnap_tables::rows::{Decision, GrantRow, Round};
 use grant_rules::decided_asks::decided_asks;
 use grant_rules::limits::{WAIT, WRONG_LIMIT};
+use grant_states::Change;
 use kept_rights::KeptRights;
-use row_store::Change;
 use std::alloc::Global;
 
 // An error reply that ends the grant.

@@ -15,7 +15,7 @@ use gnap_model::objects::{DecideRequest, ErrorCode};
 use gnap_model::rights::Rights;
 use gnap_tables::rows::{Decision, GrantRow, Round};
 use grant_rules::deciding::{may_decide, rights_of_decision};
-use row_store::{Change, InteractionName};
+use grant_states::{Change, InteractionName};
 use std::alloc::Global;
 
 // The interaction reference that the front is told, and that the decision has.

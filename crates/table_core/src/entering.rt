@@ -9,8 +9,9 @@ use gnap_model::calls::Reply;
 use gnap_model::objects::ErrorCode;
 use gnap_tables::rows::{GrantRow, KeptRound, TokenRow};
 use grant_rules::drawing::Supply;
+use grant_states::{Change, GrantTable};
 use kept_rights::KeptRights;
-use row_store::{Change, GrantTable, TokenTable};
+use token_manager::TokenTable;
 
 /// What the entry of a call has: both tables, the number of the next grant, and what it draws on.
 #[derive(Clone, Copy)]

@@ -18,9 +18,10 @@ use gnap_model::objects::{Binding, ErrorCode, Setup};
 use gnap_model::rights::{Names, Rights};
 use gnap_tables::rows::TokenRow;
 use grant_rules::keys::server_names;
+use grant_states::GrantTable;
 use introspection::{Judged, judge};
-use row_store::{GrantTable, TokenTable};
 use std::alloc::Global;
+use token_manager::TokenTable;
 
 // The rights of the token of a row.
 fn rights_of(alloc: Global, row: Option<&TokenRow>) -> Result<Rights, Mem>

@@ -12,7 +12,8 @@ use crate::answered::{Answered, undrawn};
 use bytes_and_lists::bytes::Bytes;
 use gnap_model::calls::Reply;
 use gnap_model::objects::ErrorCode;
-use row_store::{GrantTable, TokenTable};
+use grant_states::GrantTable;
+use token_manager::TokenTable;
 
 /// What a revocation comes to.
 #[derive(Clone, Copy, Debug, PartialEq, Eq)]

@@ -17,8 +17,9 @@ use gnap_model::objects::ErrorCode;
 use gnap_tables::rows::{GrantRow, TokenRow};
 use grant_rules::drawing::Supply;
 use grant_rules::tokens::token_out;
-use row_store::{GrantTable, TokenTable};
+use grant_states::GrantTable;
 use std::alloc::Global;
+use token_manager::TokenTable;
 
 /// What a rotation comes to.
 #[derive(Drop)]

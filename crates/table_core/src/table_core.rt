@@ -22,10 +22,11 @@ use gnap_model::calls::{Call, Reply};
 use gnap_model::objects::Setup;
 use grant_machine::Gnap;
 use grant_rules::drawing::Supply;
+use grant_states::GrantTable;
 use histories::lone::Lone;
 use histories::machine::{Core, Desk};
-use row_store::{GrantTable, TokenTable};
 use std::alloc::Global;
+use token_manager::TokenTable;
 
 /// Keeps the rows that stand for a history, with the numbers of the next grant and value, and its greatest moment.
 #[derive(Drop)]

@@ -2,7 +2,7 @@ use Rattle.std.proofs.Common.{◌≡◌, Some, rules}
 use Rattle.gnap_model.specs.Common.{same_text}
 use Rattle.gnap_tables.specs.declared.rows.GrantRow.{GrantRow}
 use Rattle.gnap_tables.specs.RowSearches.{row_by_door}
-use Rattle.row_store.proofs.Items.{item_all, found_in}
+use Rattle.grant_states.proofs.Items.{item_all, found_in}
 use Rattle.table_core.specs.CallEffects.{HasFewAsked}
 use Rattle.table_core.specs.Entries.{tables}
 use Rattle.table_core.proofs.continuing.continue_grant.Goals as goal

@@ -1,0 +1,7 @@
+pub mod Decoding
+pub mod Items
+pub mod Placed
+pub mod Changed
+pub mod GrantLemmas
+pub mod InteractionLemmas
+pub mod OpenCodes

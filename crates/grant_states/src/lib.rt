@@ -1,0 +1,16 @@
+//! The rows of the grants that go on, as they are stored and searched.
+//!
+//! Contracts see the table as the list of its rows (`gnap_tables`), and each call is exact on the whole list. A drawn value begins with its serial, so rows are
+//! found by halves. A row lies in memory of its own: taking one out moves some words for each row after it, and no row.
+#![tactic(auto)]
+
+pub mod changes;
+pub mod grant_table;
+pub mod interactions;
+pub mod serials;
+
+pub use changes::Change;
+pub use gnap_tables::rows::{Decision, GrantRow, Round};
+pub use grant_table::GrantTable;
+pub use interactions::InteractionName;
+pub use serials::serial_in_value;

@@ -1,7 +1,0 @@
-use Rattle.std.proofs.Common.{map, ◌∙◌, ap}
-use Rattle.row_store.specs.Grants.{StoredGrants, grant_in}
-use Rattle.row_store.proofs.InteractionLemmas.{interaction_found}
-use Rattle.row_store.proofs.grant_table.GrantTable.by_interaction.Goals as goal
-
-pub returns : goal.returns
-returns c = c.last_named.ensures ∙ interaction_found c.as_slice.result.now c.args.self.now.rows c.args.name c.args.now (ap (map grant_in) c.as_slice.ensures.value ∙ (ap (λ (s : StoredGrants). s.rows) c.self.view_is))

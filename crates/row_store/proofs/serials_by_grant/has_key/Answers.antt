@@ -1,9 +1,0 @@
-use Rattle.std.proofs.Common.{Some, None}
-use Rattle.row_store.proofs.SerialLemmas.{key_found}
-use Rattle.row_store.proofs.serials_by_grant.has_key.Goals as goal
-
-pub returns-in-Some : goal.returns-in-Some
-returns-in-Some g c = key_found g.T.Keyed.key_of c.args.items.now c.place_of.result c.args.key c.requires c.place_of.ensures (Some c.in-Some.found) c.in-Some.ensures
-
-pub returns-in-None : goal.returns-in-None
-returns-in-None g c = key_found g.T.Keyed.key_of c.args.items.now c.place_of.result c.args.key c.requires c.place_of.ensures None c.in-None.ensures

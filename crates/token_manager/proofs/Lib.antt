@@ -1,0 +1,3 @@
+pub mod SerialLemmas
+pub mod TokenLemmas
+pub mod LiveRows

@@ -1,0 +1,453 @@
+-- Rows of tokens, as they are stored.
+use Rattle.std.proofs.Common.{ℕ, ◌≡◌, ◌⊎◌, ◌<◌, ◌≤◌, ◌+◌, ◌-◌, ◌^◌, Bool, true, false, cond, List, [], ◌∷◌, ◌++◌, length, get_or, map, refl, sym, ◌∙◌, ap, subst, inl, inr, arith, Option, Some, None}
+use Rattle.std.specs.Prelude.{slice_get, nat_lt, not, ◌&&◌, ◌||◌, filter, ◌==◌, if◌then◌else◌, option_map}
+use Rattle.std.specs.Option.{option_and_then}
+use Rattle.std.specs.List.{All, AllPairs, remove, count_by, list_any}
+use Rattle.std.proofs.Math.ListN.{set}
+use Rattle.std.proofs.lemmas.List.{length-map, get_or-map, map-set, map-append}
+use Rattle.std.proofs.lemmas.List.Elements.{All-filter, All-push, All-set}
+use Rattle.std.proofs.lemmas.List.Folds.{list_any-append}
+use Rattle.std.proofs.lemmas.List.Kept.{AllPairs-filter}
+use Rattle.std.proofs.lemmas.List.Quantifiers.{all_pairs_push}
+use Rattle.std.proofs.lemmas.List.Sums.{length-filter, count_by-le-length}
+use Rattle.std.proofs.lemmas.Option.{slice_get-map}
+use Rattle.std.proofs.lemmas.Bool.{cases_lt, eqb-true}
+use Rattle.std.proofs.lemmas.Bool.Decides.{nat_tests}
+use Rattle.std.proofs.lemmas.Slice.Eq.{bytes_eq-Decides}
+use Rattle.gnap_model.specs.Common.{Text, same_text, some_if}
+use Rattle.gnap_model.specs.Values.{value_text}
+use Rattle.gnap_tables.specs.declared.rows.GrantRow.{GrantRow}
+use Rattle.gnap_tables.specs.declared.rows.TokenRow.{TokenRow}
+use Rattle.gnap_tables.specs.Tables.{change_token, drop_token, with_retirement}
+use Rattle.gnap_tables.specs.RowSearches.{newest, row_by_manage, is_live_row, live_rows}
+use Rattle.gnap_tables.specs.ActionsByRows.{rows_of_others}
+use Rattle.gnap_tables.proofs.Lists.{HasItem, filter_is, filter_map_same, all_kept}
+use Rattle.ordered_search.specs.Order.{IsAscending, IsPlaceOf}
+use Rattle.token_manager.specs.declared.serials_by_grant.OwnedSerial.{OwnedSerial}
+use Rattle.token_manager.specs.declared.token_table.TokenPlace.{TokenPlace}
+use Rattle.token_manager.specs.Tokens.{IsTokenRow, AreTokenRows, row_by_value, token_in, IsTokenPlace, AreTokenPlaces, AreListed, owned_serial, is_among, Marks, is_live_place, is_live_elsewhere}
+use Rattle.grant_states.proofs.Decoding.{Tells, no_number}
+use Rattle.grant_states.proofs.Items.{item_all, item_in, item_of_map, get_at, get_past, newest_none}
+use Rattle.grant_states.proofs.Placed.{ascending_keys, at_place, one_key, placed, eqb-self}
+use Rattle.grant_states.proofs.Changed.{changed_at, changed_past, removed_at, all_left, map-filter}
+
+abbrev pub place_serials : List TokenPlace → List ℕ
+place_serials places = map (λ (place : TokenPlace). place.serial) places
+
+serials_same : (places : List TokenPlace) → ((p : TokenPlace) → HasItem places p → p.serial ≡ p.row.value.serial) → place_serials places ≡ map (λ (row : TokenRow). row.serial) (map token_in places)
+serials_same [] h = refl
+serials_same (p ∷ ps) h = ap (λ n. n ∷ place_serials ps) (h p (inl refl)) ∙ ap (λ (ns : List ℕ). p.row.value.serial ∷ ns) (serials_same ps (λ q m. h q (inr m)))
+
+serials_are : (places : List TokenPlace) → AreTokenPlaces places → place_serials places ≡ map (λ (row : TokenRow). row.serial) (map token_in places)
+serials_are places are = serials_same places (λ p h. (item_all IsTokenPlace places p are.each h).serial)
+
+pub ascending_places : (places : List TokenPlace) → AreTokenPlaces places → IsAscending (place_serials places)
+ascending_places places are = subst IsAscending (sym (serials_are places are)) (ascending_keys (λ (row : TokenRow). row.serial) (map token_in places) are.rows.ascending)
+
+pub ascending_slice : (slice places : List TokenPlace) → slice ≡ places → AreTokenPlaces places → IsAscending (place_serials slice)
+ascending_slice slice places same are = subst (λ (ps : List TokenPlace). IsAscending (place_serials ps)) (sym same) (ascending_places places are)
+
+pub row_of : (rows : List TokenRow) (z : TokenRow) → AreTokenRows rows → HasItem rows z → IsTokenRow z
+row_of rows z are h = item_all (λ (row : TokenRow). IsTokenRow row) rows z are.each h
+
+-- ---- look-ups
+
+value_serial : (rows : List TokenRow) (value : Text) (serial : ℕ) → AreTokenRows rows → Tells value (Some serial) → (z : TokenRow) → HasItem rows z → same_text z.value value ≡ true → z.serial ≡ serial
+value_serial rows value serial are told z h same =
+    let is : z.value ≡ value = (bytes_eq-Decides z.value value).0 same in
+    let row = row_of rows z are h in
+    let low : z.serial < 2 ^ 64 - 1 = row.small in
+    let e : Some serial ≡ Some z.serial = told z.serial row.value.0 row.value.1 (omega arith) (sym is ∙ row.value.2) in
+    let k : serial ≡ z.serial = cc e in sym k
+
+manage_serial : (rows : List TokenRow) (value : Text) (serial : ℕ) → AreTokenRows rows → Tells value (Some serial) → (z : TokenRow) → HasItem rows z → same_text z.manage value ≡ true → z.serial ≡ serial - 1
+manage_serial rows value serial are told z h same =
+    let is : z.manage ≡ value = (bytes_eq-Decides z.manage value).0 same in
+    let row = row_of rows z are h in
+    let low : z.serial < 2 ^ 64 - 1 = row.small in
+    let k : Some serial ≡ Some (z.serial + 1) = told (z.serial + 1) row.manage.0 row.manage.1 (omega arith) (sym is ∙ row.manage.2) in
+    let e : serial ≡ z.serial + 1 = cc k in omega arith
+
+none_passes : (test : TokenRow → Bool) (rows : List TokenRow) → ((z : TokenRow) → HasItem rows z → test z ≡ true → ⊥) → None ≡ newest (λ (row : TokenRow). some_if (test row) row) rows
+none_passes test rows never = sym (newest_none (λ (row : TokenRow). some_if (test row) row) rows (λ z h. nothing z h (test z) refl))
+  where
+    nothing : (z : TokenRow) → HasItem rows z → (b : Bool) → test z ≡ b → some_if b z ≡ None
+    nothing z h true e = absurd (never z h e)
+    nothing z h false e = refl
+
+found_at : (test : TokenRow → Bool) (slice places : List TokenPlace) (rows : List TokenRow) (at serial : ℕ) → slice ≡ places → map token_in places ≡ rows → AreTokenPlaces places
+    → IsPlaceOf serial (place_serials slice) at → ((z : TokenRow) → HasItem rows z → test z ≡ true → z.serial ≡ serial)
+    → option_and_then (λ (row : TokenRow). some_if (test row) row) (option_map token_in (slice_get slice at)) ≡ newest (λ (row : TokenRow). some_if (test row) row) rows
+found_at test slice places rows at serial same view are place passes =
+    let keys : place_serials slice ≡ map (λ (row : TokenRow). row.serial) rows = ap place_serials same ∙ serials_are places are ∙ ap (map (λ (row : TokenRow). row.serial)) view in
+    let ascending : IsAscending (map (λ (row : TokenRow). row.serial) rows) = subst (λ (rs : List TokenRow). IsAscending (map (λ (row : TokenRow). row.serial) rs)) view (ascending_keys (λ (row : TokenRow). row.serial) (map token_in places) are.rows.ascending) in
+    let there : IsPlaceOf serial (map (λ (row : TokenRow). row.serial) rows) at = subst (λ (ks : List ℕ). IsPlaceOf serial ks at) keys place in
+    ap (option_and_then (λ (row : TokenRow). some_if (test row) row)) (ap (λ (ps : List TokenPlace). option_map token_in (slice_get ps at)) same ∙ sym (slice_get-map token_in places at) ∙ ap (λ (rs : List TokenRow). slice_get rs at) view)
+    ∙ placed (λ (row : TokenRow). row.serial) test rows at serial ascending there passes
+
+rows_are : (places : List TokenPlace) (rows : List TokenRow) → map token_in places ≡ rows → AreTokenPlaces places → AreTokenRows rows
+rows_are places rows view are = subst AreTokenRows view are.rows
+
+pub value_found : (slice places : List TokenPlace) (rows : List TokenRow) (value : Text) (at serial : ℕ) → slice ≡ places → map token_in places ≡ rows → AreTokenPlaces places → Tells value (Some serial)
+    → IsPlaceOf serial (place_serials slice) at
+    → option_and_then (λ (row : TokenRow). some_if (same_text row.value value) row) (option_map token_in (slice_get slice at)) ≡ row_by_value value rows
+value_found slice places rows value at serial same view are told place =
+    found_at (λ (row : TokenRow). same_text row.value value) slice places rows at serial same view are place (value_serial rows value serial (rows_are places rows view are) told)
+
+pub manage_found : (slice places : List TokenPlace) (rows : List TokenRow) (value : Text) (at serial before : ℕ) → slice ≡ places → map token_in places ≡ rows → AreTokenPlaces places → Tells value (Some serial)
+    → before ≡ serial - 1 → IsPlaceOf before (place_serials slice) at
+    → option_and_then (λ (row : TokenRow). some_if (same_text row.manage value) row) (option_map token_in (slice_get slice at)) ≡ row_by_manage value rows
+manage_found slice places rows value at serial before same view are told less place =
+    found_at (λ (row : TokenRow). same_text row.manage value) slice places rows at before same view are place (λ z h e. manage_serial rows value serial (rows_are places rows view are) told z h e ∙ sym less)
+
+pub value_missing : (places : List TokenPlace) (rows : List TokenRow) (value : Text) → map token_in places ≡ rows → AreTokenPlaces places → Tells value no_number → None ≡ row_by_value value rows
+value_missing places rows value view are told = none_passes (λ (row : TokenRow). same_text row.value value) rows (λ z h same.
+    let is : z.value ≡ value = (bytes_eq-Decides z.value value).0 same in
+    let row = row_of rows z (rows_are places rows view are) h in
+    let low : z.serial < 2 ^ 64 - 1 = row.small in
+    let k = told z.serial row.value.0 row.value.1 (omega arith) (sym is ∙ row.value.2) in cc k)
+
+pub manage_missing : (places : List TokenPlace) (rows : List TokenRow) (value : Text) → map token_in places ≡ rows → AreTokenPlaces places → Tells value no_number → None ≡ row_by_manage value rows
+manage_missing places rows value view are told = none_passes (λ (row : TokenRow). same_text row.manage value) rows (λ z h same.
+    let is : z.manage ≡ value = (bytes_eq-Decides z.manage value).0 same in
+    let row = row_of rows z (rows_are places rows view are) h in
+    let low : z.serial < 2 ^ 64 - 1 = row.small in
+    let k = told (z.serial + 1) row.manage.0 row.manage.1 (omega arith) (sym is ∙ row.manage.2) in cc k)
+
+pub count_same : (slice places : List TokenPlace) (rows : List TokenRow) → slice ≡ places → map token_in places ≡ rows → length slice ≡ length rows
+count_same slice places rows same view = ap (length {A = TokenPlace}) same ∙ sym (length-map places token_in) ∙ ap (length {A = TokenRow}) view
+
+-- ---- a mark
+
+kept_row : (s : ℕ) (x : TokenRow) (b : Bool) → ((if b then with_retirement x else x).serial ≡ x.serial)
+kept_row s x true = refl
+kept_row s x false = refl
+
+kept_grant : (x : TokenRow) (b : Bool) → ((if b then with_retirement x else x).grant ≡ x.grant)
+kept_grant x true = refl
+kept_grant x false = refl
+
+still_row : (x : TokenRow) (b : Bool) → IsTokenRow x → IsTokenRow (if b then with_retirement x else x)
+still_row x true h = record { small = h.small; value = h.value; manage = h.manage }
+still_row x false h = h
+
+marked_are : (rows : List TokenRow) (s : ℕ) → AreTokenRows rows → AreTokenRows (change_token s with_retirement rows)
+marked_are rows s are = record {
+  ascending = λ i j d lt jn.
+      let many : length (change_token s with_retirement rows) ≡ length rows = length-map rows f in
+      let a : get_or (change_token s with_retirement rows) i d ≡ f (get_or rows i d) = get_or-map f rows i d d (omega arith) in
+      let b : get_or (change_token s with_retirement rows) j d ≡ f (get_or rows j d) = get_or-map f rows j d d (omega arith) in
+      let pair = are.ascending i j d lt (omega arith) in
+      let p : (get_or (change_token s with_retirement rows) i d).serial ≡ (get_or rows i d).serial = ap (λ (x : TokenRow). x.serial) a ∙ kept_row s (get_or rows i d) (s == (get_or rows i d).serial) in
+      let q : (get_or (change_token s with_retirement rows) j d).serial ≡ (get_or rows j d).serial = ap (λ (x : TokenRow). x.serial) b ∙ kept_row s (get_or rows j d) (s == (get_or rows j d).serial) in
+      omega arith;
+  each = λ k d kn.
+      let many : length (change_token s with_retirement rows) ≡ length rows = length-map rows f in
+      let a : get_or (change_token s with_retirement rows) k d ≡ f (get_or rows k d) = get_or-map f rows k d d (omega arith) in
+      subst IsTokenRow (sym a) (still_row (get_or rows k d) (s == (get_or rows k d).serial) (are.each k d (omega arith)));
+}
+  where
+    f : TokenRow → TokenRow
+    f row = if s == row.serial then with_retirement row else row
+
+pub place_marked : (slice places : List TokenPlace) (rows : List TokenRow) (at serial : ℕ) (old new : TokenPlace) → slice ≡ places → map token_in places ≡ rows → AreTokenPlaces places
+    → IsPlaceOf serial (place_serials slice) at → at < length places → old ≡ get_or places at old → Marks serial old new
+    → map token_in (set places at new) ≡ change_token serial with_retirement rows
+place_marked slice places rows at serial old new same view are place inside is marks =
+    let stands = are.each at old inside in
+    let mine : old.serial ≡ old.row.value.serial = ap (λ (p : TokenPlace). p.serial) is ∙ stands.serial ∙ ap (λ (p : TokenPlace). p.row.value.serial) (sym is) in
+    let there : get_or (map token_in places) at old.row.value ≡ old.row.value = get_or-map token_in places at old old.row.value inside ∙ ap token_in (sym is) in
+    let new_row : new.row.value ≡ (if serial == (get_or (map token_in places) at old.row.value).serial then with_retirement (get_or (map token_in places) at old.row.value) else get_or (map token_in places) at old.row.value) =
+    marks.row ∙ ap (λ n. if serial == n then with_retirement old.row.value else old.row.value) mine ∙ ap (λ (r : TokenRow). if serial == r.serial then with_retirement r else r) (sym there) in
+    let keys : place_serials slice ≡ map (λ (row : TokenRow). row.serial) (map token_in places) = ap place_serials same ∙ serials_are places are in
+    let at_rows : IsPlaceOf serial (map (λ (row : TokenRow). row.serial) (map token_in places)) at = subst (λ (ks : List ℕ). IsPlaceOf serial ks at) keys place in
+    map-set token_in places at new ∙ ap (set (map token_in places) at) new_row
+    ∙ changed_at (λ (row : TokenRow). row.serial) with_retirement (map token_in places) at serial old.row.value are.rows.ascending (ascending_keys (λ (row : TokenRow). row.serial) (map token_in places) are.rows.ascending) at_rows
+    (rw (length-map places token_in) inside)
+    ∙ ap (change_token serial with_retirement) view
+
+pub marked_places : (slice places : List TokenPlace) (at serial : ℕ) (old new : TokenPlace) → slice ≡ places → AreTokenPlaces places
+    → IsPlaceOf serial (place_serials slice) at → at < length places → old ≡ get_or places at old → Marks serial old new → AreTokenPlaces (set places at new)
+marked_places slice places at serial old new same are place inside is marks =
+    let stands = subst IsTokenPlace (sym is) (are.each at old inside) in record {
+      rows = subst AreTokenRows (sym (place_marked slice places (map token_in places) at serial old new same refl are place inside is marks)) (marked_are (map token_in places) serial are.rows);
+      each = All-set IsTokenPlace places at new (record {
+        serial = marks.serial_kept ∙ stands.serial ∙ sym (ap (λ (r : TokenRow). r.serial) marks.row ∙ kept_row serial old.row.value (serial == old.serial));
+        grant = marks.grant_kept ∙ stands.grant ∙ sym (ap (λ (r : TokenRow). r.grant) marks.row ∙ kept_grant old.row.value (serial == old.serial));
+      }) are.each;
+    }
+
+pub place_past : (slice places : List TokenPlace) (rows : List TokenRow) (at serial : ℕ) → slice ≡ places → map token_in places ≡ rows → AreTokenPlaces places
+    → IsPlaceOf serial (place_serials slice) at → length places ≤ at → rows ≡ change_token serial with_retirement rows
+place_past slice places rows at serial same view are place past =
+    let keys : place_serials slice ≡ map (λ (row : TokenRow). row.serial) (map token_in places) = ap place_serials same ∙ serials_are places are in
+    let at_rows : IsPlaceOf serial (map (λ (row : TokenRow). row.serial) (map token_in places)) at = subst (λ (ks : List ℕ). IsPlaceOf serial ks at) keys place in
+    sym view ∙ changed_past (λ (row : TokenRow). row.serial) with_retirement (map token_in places) at serial (ascending_keys (λ (row : TokenRow). row.serial) (map token_in places) are.rows.ascending) at_rows
+    (rw (length-map places token_in) past) ∙ ap (change_token serial with_retirement) view
+
+-- ---- rows that are taken out
+
+dropped_are : (test : TokenRow → Bool) (rows : List TokenRow) → AreTokenRows rows → AreTokenRows (filter test rows)
+dropped_are test rows are = record {
+  ascending = AllPairs-filter (λ (a b : TokenRow). a.serial < b.serial) test rows are.ascending;
+  each = All-filter test (λ (row : TokenRow). IsTokenRow row) rows are.each;
+}
+
+-- the serials of the places ascend
+pub place_pairs : (places : List TokenPlace) → AreTokenPlaces places → AllPairs (λ (a b : TokenPlace). a.serial < b.serial) places
+place_pairs places are i j d lt jn =
+    let many = length-map places token_in in
+    let pair = are.rows.ascending i j d.row.value lt (omega (arith, many, jn)) in
+    let a = ap (λ (r : TokenRow). r.serial) (get_or-map token_in places i d d.row.value (omega (arith, lt, jn))) in
+    let b = ap (λ (r : TokenRow). r.serial) (get_or-map token_in places j d d.row.value jn) in
+    let x = (are.each i d (omega (arith, lt, jn))).serial in
+    let y = (are.each j d jn).serial in omega (arith, pair, a, b, x, y)
+
+-- places whose rows are these
+abbrev pub HoldRows : List TokenPlace → List TokenRow → Type 0
+HoldRows places rows = (map token_in places ≡ rows) × AreTokenPlaces places
+
+pub kept_places : (test : TokenPlace → Bool) (row_test : TokenRow → Bool) (places : List TokenPlace) → AreTokenPlaces places → ((p : TokenPlace) → IsTokenPlace p → test p ≡ row_test p.row.value)
+    → HoldRows (filter test places) (filter row_test (map token_in places))
+kept_places test row_test places are same =
+    let rows = map-filter token_in test row_test places (λ p h. same p (item_all IsTokenPlace places p are.each h)) in (
+      rows,
+      record {
+        rows = subst AreTokenRows (sym rows) (dropped_are row_test (map token_in places) are.rows);
+        each = All-filter test IsTokenPlace places are.each;
+      },
+    )
+
+pub place_removed : (slice places : List TokenPlace) (at serial : ℕ) (old : TokenPlace) → slice ≡ places → AreTokenPlaces places → at < length places → old ≡ get_or places at old → old.serial ≡ serial
+    → HoldRows (remove places at) (drop_token serial (map token_in places))
+place_removed slice places at serial old same are inside is mine =
+    let gone : remove places at ≡ filter (λ (p : TokenPlace). not (serial == p.serial)) places =
+    removed_at (λ (p : TokenPlace). p.serial) places at serial old (place_pairs places are) inside (ap (λ (p : TokenPlace). p.serial) (sym is) ∙ mine) in
+    subst (λ (ps : List TokenPlace). HoldRows ps (drop_token serial (map token_in places))) (sym gone)
+    (kept_places (λ (p : TokenPlace). not (serial == p.serial)) (λ (row : TokenRow). not (serial == row.serial)) places are (λ p t. ap (λ n. not (serial == n)) t.serial))
+
+pub none_removed : (slice places : List TokenPlace) (rows : List TokenRow) (at serial : ℕ) → slice ≡ places → map token_in places ≡ rows → AreTokenPlaces places
+    → IsPlaceOf serial (place_serials slice) at → ((old : TokenPlace) → at < length places → old ≡ get_or places at old → old.serial ≡ serial → ⊥) → rows ≡ drop_token serial rows
+none_removed slice places rows at serial same view are place other = all_left (λ (row : TokenRow). row.serial) rows serial (λ z h e.
+    let p = item_of_map token_in places z (subst (λ (rs : List TokenRow). HasItem rs z) (sym view) h) in
+    let mine : p.0.serial ≡ serial = (item_all IsTokenPlace places p.0 are.each p.1).serial ∙ ap (λ (r : TokenRow). r.serial) p.2 ∙ e in
+    let there : slice_get places at ≡ Some p.0 = ap (λ (ps : List TokenPlace). slice_get ps at) (sym same)
+    ∙ at_place (λ (q : TokenPlace). q.serial) slice at serial p.0 (ascending_slice slice places same are) place (subst (λ (ps : List TokenPlace). HasItem ps p.0) (sym same) p.1) mine in
+    inside p.0 mine there (cases_lt at (length places)))
+  where
+    inside : (q : TokenPlace) → q.serial ≡ serial → slice_get places at ≡ Some q → (at < length places) ⊎ (length places ≤ at) → ⊥
+    inside q mine there (inl lt) = let k : Some (get_or places at q) ≡ Some q = sym (get_at places at q lt) ∙ there in other q lt (sym (cc k)) mine
+    inside q mine there (inr le) = let k : None ≡ Some q = sym (get_past places at le) ∙ there in cc k
+
+-- ---- the rows of a grant that are taken out
+
+-- the serials of places ascend
+abbrev pub AreInOrder : List TokenPlace → Type 0
+AreInOrder places = AllPairs (λ (a b : TokenPlace). a.serial < b.serial) places
+
+-- the place is the grant's and has this serial
+abbrev pub is_this : ℕ → ℕ → TokenPlace → Bool
+is_this grant serial place = (grant == place.grant) && (serial == place.serial)
+
+filter-filter : {A : Type 0} (p q : A → Bool) (xs : List A) → filter p (filter q xs) ≡ filter (λ x. p x && q x) xs
+filter-filter p q [] = refl
+filter-filter {A} p q (x ∷ xs) = at (q x) (p x) refl (filter-filter p q xs)
+  where
+    at : (b c : Bool) → p x ≡ c → filter p (filter q xs) ≡ filter (λ x. p x && q x) xs
+        → filter p (cond b (x ∷ filter q xs) (filter q xs)) ≡ cond (c && b) (x ∷ filter (λ x. p x && q x) xs) (filter (λ x. p x && q x) xs)
+    at true true e rest = rw e (ap (λ (ys : List A). x ∷ ys) rest)
+    at true false e rest = rw e rest
+    at false true e rest = rest
+    at false false e rest = rest
+
+filter_agrees : (t u : TokenPlace → Bool) (places : List TokenPlace) → ((p : TokenPlace) → HasItem places p → t p ≡ u p) → filter t places ≡ filter u places
+filter_agrees t u places same = filter_is t places ∙ filter_map_same _ _ places (λ p h. ap (λ b. some_if b p) (same p h)) ∙ sym (filter_is u places)
+
+-- where none passes, none is taken out
+pub all_stay : (t : TokenPlace → Bool) (places : List TokenPlace) → ((p : TokenPlace) → HasItem places p → t p ≡ true → ⊥) → places ≡ filter (λ (p : TokenPlace). not (t p)) places
+all_stay t places never = sym (filter_is (λ (p : TokenPlace). not (t p)) places ∙ filter_map_same _ (λ (p : TokenPlace). Some p) places (λ p h. stays p h (t p) refl) ∙ all_kept places)
+  where
+    stays : (p : TokenPlace) → HasItem places p → (b : Bool) → t p ≡ b → some_if (not b) p ≡ Some p
+    stays p h true e = absurd (never p h e)
+    stays p h false e = refl
+
+both_true : (a b : Bool) → (a && b) ≡ true → (a ≡ true) × (b ≡ true)
+both_true true b e = (refl, e)
+both_true false b e = cc e
+
+pub taken_out : (places : List TokenPlace) (at grant serial : ℕ) (old : TokenPlace) → AreInOrder places → at < length places → old ≡ get_or places at old → old.serial ≡ serial → old.grant ≡ grant
+    → remove places at ≡ filter (λ (p : TokenPlace). not (is_this grant serial p)) places
+taken_out places at grant serial old order inside is mine its =
+    removed_at (λ (p : TokenPlace). p.serial) places at serial old order inside (ap (λ (p : TokenPlace). p.serial) (sym is) ∙ mine)
+    ∙ filter_agrees (λ (p : TokenPlace). not (serial == p.serial)) (λ (p : TokenPlace). not (is_this grant serial p)) places (λ p h. ap not (same p h (serial == p.serial) refl))
+  where
+    has : HasItem places old
+    has = subst (HasItem places) (sym is) (item_in places at old inside)
+
+    same : (p : TokenPlace) → HasItem places p → (b : Bool) → (serial == p.serial) ≡ b → b ≡ ((grant == p.grant) && b)
+    same p h true e =
+        let one : p ≡ old = one_key (λ (q : TokenPlace). q.serial) places p old order h has (sym (eqb-true serial p.serial e) ∙ sym mine) in
+        let g : grant ≡ p.grant = sym its ∙ ap (λ (q : TokenPlace). q.grant) (sym one) in
+        let t : (grant == p.grant) ≡ true = subst (λ n. (grant == n) ≡ true) g (eqb-self grant) in rw t refl
+    same p h false e = none (grant == p.grant)
+      where
+        none : (a : Bool) → false ≡ (a && false)
+        none true = refl
+        none false = refl
+
+pub none_out : (slice places : List TokenPlace) (at grant serial : ℕ) → slice ≡ places → AreInOrder places → IsPlaceOf serial (place_serials slice) at
+    → ((old : TokenPlace) → at < length places → old ≡ get_or places at old → old.serial ≡ serial → old.grant ≡ grant → ⊥)
+    → places ≡ filter (λ (p : TokenPlace). not (is_this grant serial p)) places
+none_out slice places at grant serial same order place other = all_stay (is_this grant serial) places (λ p h e.
+    let both = both_true (grant == p.grant) (serial == p.serial) e in
+    let mine : p.serial ≡ serial = sym (eqb-true serial p.serial both.1) in
+    let its : p.grant ≡ grant = sym (eqb-true grant p.grant both.0) in
+    let there : slice_get places at ≡ Some p = ap (λ (ps : List TokenPlace). slice_get ps at) (sym same)
+    ∙ at_place (λ (q : TokenPlace). q.serial) slice at serial p (ascending_keys (λ (q : TokenPlace). q.serial) slice (subst AreInOrder (sym same) order)) place (subst (λ (ps : List TokenPlace). HasItem ps p) (sym same) h) mine in
+    inside p mine its there (cases_lt at (length places)))
+  where
+    inside : (q : TokenPlace) → q.serial ≡ serial → q.grant ≡ grant → slice_get places at ≡ Some q → (at < length places) ⊎ (length places ≤ at) → ⊥
+    inside q mine its there (inl lt) = let k : Some (get_or places at q) ≡ Some q = sym (get_at places at q lt) ∙ there in other q lt (sym (cc k)) mine its
+    inside q mine its there (inr le) = let k : None ≡ Some q = sym (get_past places at le) ∙ there in cc k
+
+-- one serial more
+pub one_more : (places : List TokenPlace) (grant : ℕ) (owned : List OwnedSerial) (one : OwnedSerial)
+    → filter (λ (p : TokenPlace). not (is_this grant one.serial p)) (filter (λ (p : TokenPlace). not (is_among grant owned p)) places) ≡ filter (λ (p : TokenPlace). not (is_among grant (owned ++ one ∷ []) p)) places
+one_more places grant owned one =
+    filter-filter (λ (p : TokenPlace). not (is_this grant one.serial p)) (λ (p : TokenPlace). not (is_among grant owned p)) places
+    ∙ filter_agrees _ _ places (λ p h. joined (grant == p.grant) (one.serial == p.serial) (list_any (λ (o : OwnedSerial). o.serial == p.serial) owned) ∙ ap (λ b. not ((grant == p.grant) && b)) (sym (any_appended p)))
+  where
+    joined : (g s a : Bool) → (not (g && s) && not (g && a)) ≡ not (g && (a || s))
+    joined true true true = refl
+    joined true true false = refl
+    joined true false true = refl
+    joined true false false = refl
+    joined false s a = refl
+
+    last : (b : Bool) → (b || false) ≡ b
+    last true = refl
+    last false = refl
+
+    any_appended : (p : TokenPlace) → list_any (λ (o : OwnedSerial). o.serial == p.serial) (owned ++ one ∷ []) ≡ (list_any (λ (o : OwnedSerial). o.serial == p.serial) owned || (one.serial == p.serial))
+    any_appended p = list_any-append (λ (o : OwnedSerial). o.serial == p.serial) owned (one ∷ []) ∙ ap (λ b. list_any (λ (o : OwnedSerial). o.serial == p.serial) owned || b) (last (one.serial == p.serial))
+
+pub none_yet : (places : List TokenPlace) (grant : ℕ) → places ≡ filter (λ (p : TokenPlace). not (is_among grant [] p)) places
+none_yet places grant = all_stay (is_among grant []) places (λ p h e. let both = both_true (grant == p.grant) false e in cc both.1)
+
+-- an item has its own key
+any_with_key : {A : Type 0} (key : A → ℕ) (xs : List A) (z : A) → HasItem xs z → list_any (λ x. key x == key z) xs ≡ true
+any_with_key key [] z h = absurd h
+any_with_key key (x ∷ xs) z (inl e) = rw (subst (λ n. (n == key z) ≡ true) (ap key e) (eqb-self (key z))) refl
+any_with_key {A} key (x ∷ xs) z (inr h) = either (key x == key z) (any_with_key key xs z h)
+  where
+    either : (b : Bool) → list_any (λ (y : A). key y == key z) xs ≡ true → (b || list_any (λ (y : A). key y == key z) xs) ≡ true
+    either true e = refl
+    either false e = e
+
+-- What stands under the grant are all tokens of it.
+pub all_of_grant : (places : List TokenPlace) (owned run : List OwnedSerial) (grant : ℕ) → AreListed owned places → ((one : OwnedSerial) → HasItem owned one → one.grant ≡ grant → HasItem run one)
+    → filter (λ (p : TokenPlace). not (is_among grant run p)) places ≡ filter (λ (p : TokenPlace). not (grant == p.grant)) places
+all_of_grant places owned run grant listed all =
+    filter_agrees (λ (p : TokenPlace). not (is_among grant run p)) (λ (p : TokenPlace). not (grant == p.grant)) places (λ p h. ap not (same p h (grant == p.grant) refl))
+  where
+    same : (p : TokenPlace) → HasItem places p → (b : Bool) → (grant == p.grant) ≡ b → (b && list_any (λ (o : OwnedSerial). o.serial == p.serial) run) ≡ b
+    same p h true e = any_with_key (λ (o : OwnedSerial). o.serial) run (owned_serial p.grant p.serial) (all (owned_serial p.grant p.serial) (item_all (λ (q : TokenPlace). HasItem owned (owned_serial q.grant q.serial)) places p listed h) (sym (eqb-true grant p.grant e)))
+    same p h false e = refl
+
+-- what is left is listed
+pub listed_left : (test : TokenPlace → Bool) (owned : List OwnedSerial) (places : List TokenPlace) → AreListed owned places → AreListed owned (filter test places)
+listed_left test owned places listed = All-filter test (λ (p : TokenPlace). HasItem owned (owned_serial p.grant p.serial)) places listed
+
+pub listed_removed : (owned : List OwnedSerial) (places : List TokenPlace) (at serial : ℕ) (old : TokenPlace) → AreTokenPlaces places → AreListed owned places → at < length places → old ≡ get_or places at old → old.serial ≡ serial
+    → AreListed owned (remove places at)
+listed_removed owned places at serial old are listed inside is mine =
+    subst (AreListed owned) (sym (removed_at (λ (p : TokenPlace). p.serial) places at serial old (place_pairs places are) inside (ap (λ (p : TokenPlace). p.serial) (sym is) ∙ mine)))
+    (listed_left (λ (p : TokenPlace). not (serial == p.serial)) owned places listed)
+
+pub listed_marked : (owned : List OwnedSerial) (places : List TokenPlace) (at serial : ℕ) (old new : TokenPlace) → AreListed owned places → at < length places → old ≡ get_or places at old → Marks serial old new
+    → AreListed owned (set places at new)
+listed_marked owned places at serial old new listed inside is marks =
+    All-set (λ (p : TokenPlace). HasItem owned (owned_serial p.grant p.serial)) places at new (rw (marks.serial_kept, marks.grant_kept) (subst (λ (p : TokenPlace). HasItem owned (owned_serial p.grant p.serial)) (sym is) (listed at old inside))) listed
+
+pub listed_pushed : (before after : List OwnedSerial) (places : List TokenPlace) (new : TokenPlace) → AreListed before places → ((one : OwnedSerial) → HasItem before one → HasItem after one) → HasItem after (owned_serial new.grant new.serial)
+    → AreListed after (places ++ new ∷ [])
+listed_pushed before after places new listed kept has =
+    All-push (λ (p : TokenPlace). HasItem after (owned_serial p.grant p.serial)) places new (λ k d inside. kept (owned_serial (get_or places k d).grant (get_or places k d).serial) (listed k d inside)) has
+
+-- a serial of a row stays in the index
+pub listed_still : (owned : List OwnedSerial) (slice places : List TokenPlace) → slice ≡ places → AreListed owned places
+    → AreListed (filter (λ (one : OwnedSerial). list_any (λ (p : TokenPlace). p.serial == one.serial) slice) owned) places
+listed_still owned slice places same listed k d inside =
+    kept owned (get_or places k d) (item_in places k d inside) (listed k d inside)
+  where
+    kept : (os : List OwnedSerial) (p : TokenPlace) → HasItem places p → HasItem os (owned_serial p.grant p.serial) → HasItem (filter (λ (one : OwnedSerial). list_any (λ (q : TokenPlace). q.serial == one.serial) slice) os) (owned_serial p.grant p.serial)
+    kept [] p h l = absurd l
+    kept (o ∷ os) p h (inl e) = subst (λ b. HasItem (cond b (o ∷ filter (λ (one : OwnedSerial). list_any (λ (q : TokenPlace). q.serial == one.serial) slice) os) (filter (λ (one : OwnedSerial). list_any (λ (q : TokenPlace). q.serial == one.serial) slice) os)) (owned_serial p.grant p.serial))
+        (sym (subst (λ (x : OwnedSerial). list_any (λ (q : TokenPlace). q.serial == x.serial) slice ≡ true) e (any_with_key (λ (q : TokenPlace). q.serial) slice p (subst (λ (ps : List TokenPlace). HasItem ps p) (sym same) h)))) (inl e)
+    kept (o ∷ os) p h (inr l) = either (list_any (λ (q : TokenPlace). q.serial == o.serial) slice) (kept os p h l)
+      where
+        either : (b : Bool) → HasItem (filter (λ (one : OwnedSerial). list_any (λ (q : TokenPlace). q.serial == one.serial) slice) os) (owned_serial p.grant p.serial)
+            → HasItem (cond b (o ∷ filter (λ (one : OwnedSerial). list_any (λ (q : TokenPlace). q.serial == one.serial) slice) os) (filter (λ (one : OwnedSerial). list_any (λ (q : TokenPlace). q.serial == one.serial) slice) os)) (owned_serial p.grant p.serial)
+        either true i = inr i
+        either false i = i
+
+-- ---- a row that is appended
+
+pub place_pushed : (places : List TokenPlace) (new : TokenPlace) → AreTokenPlaces places → IsTokenPlace new → IsTokenRow new.row.value
+    → All (λ (other : TokenRow). other.serial < new.row.value.serial) (map token_in places) → HoldRows (places ++ new ∷ []) (map token_in places ++ new.row.value ∷ [])
+place_pushed places new are is row above =
+    let rows = map-append token_in places (new ∷ []) in (
+      rows,
+      record {
+        rows = subst AreTokenRows (sym rows) (record {
+          ascending = all_pairs_push (λ (a b : TokenRow). a.serial < b.serial) (map token_in places) new.row.value are.rows.ascending above;
+          each = All-push (λ (r : TokenRow). IsTokenRow r) (map token_in places) new.row.value are.rows.each row;
+        });
+        each = All-push IsTokenPlace places new are.each is;
+      },
+    )
+
+-- ---- live rows
+
+count-map : {A B : Type 0} (f : A → B) (t : A → Bool) (u : B → Bool) (xs : List A) → ((x : A) → HasItem xs x → t x ≡ u (f x)) → count_by t xs ≡ length (filter u (map f xs))
+count-map {A} {B} f t u xs same = sym (length-filter t xs) ∙ sym (length-map (filter t xs) f) ∙ ap (length {A = B}) (map-filter f t u xs same)
+
+pub live_counted : (places : List TokenPlace) (rows : List TokenRow) (grants : List GrantRow) (now : ℕ) → map token_in places ≡ rows → count_by (is_live_place now grants) places ≡ length (live_rows now grants rows)
+live_counted places rows grants now view =
+    count-map token_in (is_live_place now grants) (λ (row : TokenRow). is_live_row now grants row) places (λ x h. refl) ∙ ap (λ (rs : List TokenRow). length (live_rows now grants rs)) view
+
+pub others_counted : (places : List TokenPlace) (rows : List TokenRow) (grants : List GrantRow) (number now : ℕ) → map token_in places ≡ rows → AreTokenPlaces places
+    → count_by (is_live_elsewhere now grants number) places ≡ length (rows_of_others number (live_rows now grants rows))
+others_counted places rows grants number now view are =
+    count-map token_in (is_live_elsewhere now grants number) (λ (row : TokenRow). not (row.grant == number) && is_live_row now grants row) places
+    (λ p h. ap (λ n. not (n == number) && is_live_row now grants p.row.value) (item_all IsTokenPlace places p are.each h).grant)
+    ∙ ap (length {A = TokenRow}) (sym (filter-filter (λ (row : TokenRow). not (row.grant == number)) (λ (row : TokenRow). is_live_row now grants row) (map token_in places)))
+    ∙ ap (λ (rs : List TokenRow). length (rows_of_others number (live_rows now grants rs))) view
+
+-- no more are counted than there are
+pub live_few : (rows : List TokenRow) (grants : List GrantRow) (now : ℕ) → length (live_rows now grants rows) ≤ length rows
+live_few rows grants now = let c = length-filter (λ (row : TokenRow). is_live_row now grants row) rows in let l = count_by-le-length (λ (row : TokenRow). is_live_row now grants row) rows in omega (arith, c, l)
+
+pub others_few : (rows : List TokenRow) (grants : List GrantRow) (number now : ℕ) → length (rows_of_others number (live_rows now grants rows)) ≤ length rows
+others_few rows grants number now =
+    let live = live_few rows grants now in
+    let c = length-filter (λ (row : TokenRow). not (row.grant == number)) (live_rows now grants rows) in
+    let l = count_by-le-length (λ (row : TokenRow). not (row.grant == number)) (live_rows now grants rows) in omega (arith, live, c, l)
+
+-- so many more pass the limit where they pass what is left of it
+pub limit_moved : (count live more : ℕ) → count ≡ live → more ≤ 16 → nat_lt (65536 - more) count ≡ nat_lt 65536 (live + more)
+limit_moved count live more same few = by (nat_lt (65536 - more) count) (nat_lt 65536 (live + more)) refl refl
+  where
+    by : (a b : Bool) → nat_lt (65536 - more) count ≡ a → nat_lt 65536 (live + more) ≡ b → a ≡ b
+    by true true e f = refl
+    by true false e f = absurd (grind (arith, nat_tests, e, f, same, few))
+    by false true e f = absurd (grind (arith, nat_tests, e, f, same, few))
+    by false false e f = refl
+
+-- few rows pass no limit
+pub limit_far : (rows live more : ℕ) → live ≤ rows → rows ≤ 65536 - more → more ≤ 16 → false ≡ nat_lt 65536 (live + more)
+limit_far rows live more le few small = by (nat_lt 65536 (live + more)) refl
+  where
+    by : (b : Bool) → nat_lt 65536 (live + more) ≡ b → false ≡ b
+    by true e = absurd (grind (arith, nat_tests, e, le, few, small))
+    by false e = refl

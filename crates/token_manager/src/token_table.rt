@@ -1,0 +1,346 @@
+//! The rows of tokens.
+ghost use Rattle.std.specs.Prelude.{◌≡◌, ◌+◌, ◌-◌, ◌*◌, ◌^◌, ◌<◌, ◌≤◌, [], ◌∷◌, ◌++◌, length, filter, option_map, slice_get, vec_len, vec_capacity, OnOk, not, ◌&&◌, ◌==◌};
+ghost use Rattle.std.specs.Option.{option_and_then};
+ghost use Rattle.std.specs.List.{All, AllPairs, count_by};
+ghost use Rattle.gnap_model.specs.Common.{same_text, some_if};
+ghost use Rattle.gnap_tables.specs.declared.rows.TokenRow.{TokenRow};
+ghost use Rattle.gnap_tables.specs.Tables.{sweep_tokens, drop_tokens_of, drop_token, change_token, with_retirement};
+ghost use Rattle.gnap_tables.specs.RowSearches.{row_by_manage, is_live_row, live_rows};
+ghost use Rattle.gnap_tables.specs.ActionsByRows.{pass_live, rows_of_others};
+ghost use Rattle.token_manager.specs.Tokens.{AreTokenRows, IsTokenRow, row_by_value, token_in, is_live_place, is_live_elsewhere, is_among, Marks};
+ghost use Rattle.token_manager.specs.declared.token_table.TokenPlace.{TokenPlace};
+
+use crate::serials_by_grant::{OwnedSerial, SerialsByGrant};
+use bytes_and_lists::memory::Mem;
+use gnap_tables::rows::TokenRow;
+use grant_states::{GrantTable, serial_in_value};
+use ordered_search::{Keyed, Steps, place, place_of};
+use std::alloc::Global;
+use std::marker::{Brand, Model};
+use std::sync::ledger::{Blank, Ledger};
+
+/// So many tokens may be live.
+pub const LIVE_LIMIT: usize = 65_536;
+
+/// A row at its place. Its serial and the number of its grant stand beside it, so that searches and passes read no rows.
+#[derive(Drop)]
+struct TokenPlace {
+    serial: u64,
+    grant: u64,
+    row: Box<TokenRow>,
+}
+
+impl Keyed for TokenPlace {
+    ghost key_of = { λ place. place.serial };
+
+    fn key(&self) -> u64 {
+        self.serial
+    }
+}
+
+/// The rows of the tokens that can be managed, in order of their serials, with an index by their grants.
+#[derive(Drop)]
+pub struct TokenTable {
+    places: Vec<TokenPlace>,
+    serials: SerialsByGrant,
+}
+
+impl Model for TokenTable {
+    ghost use Rattle.std.specs.Prelude.{map, ◌-◌, min, vec_len, vec_capacity};
+    ghost use Rattle.token_manager.specs.Tokens.{StoredTokens, AreTokenPlaces, AreListed, token_in};
+
+    ghost Value = { StoredTokens };
+
+    ghost view = { λ s. record { rows = map token_in s.places.items; spare = min (vec_capacity s.places - vec_len s.places) s.serials.spare } };
+
+    ghost invariant = { λ s. AreTokenPlaces s.places.items × AreListed s.serials.owned s.places.items };
+}
+
+// The row at a place.
+fn row_at(places: &[TokenPlace], at: usize) -> Option<&TokenRow>
+    ensures { option_map (λ row. row.now) result ≡ option_map token_in (slice_get places.now at) }
+{
+    match places.get(at) {
+        Some(place) => Some(place.row.as_ref()),
+        None => None,
+    }
+}
+
+// The row, where it has this value.
+fn with_value<'a>(row: Option<&'a TokenRow>, value: &[u8]) -> Option<&'a TokenRow>
+    ensures { option_map (λ row. row.now) result ≡ option_and_then (λ (row : TokenRow). some_if (same_text row.value value.now) row) (option_map (λ row. row.now) row.entry) }
+{
+    row.filter(|row| row.value.as_slice() == value)
+}
+
+// The row, where it has this management value.
+fn with_manage<'a>(row: Option<&'a TokenRow>, value: &[u8]) -> Option<&'a TokenRow>
+    ensures { option_map (λ row. row.now) result ≡ option_and_then (λ (row : TokenRow). some_if (same_text row.manage value.now) row) (option_map (λ row. row.now) row.entry) }
+{
+    row.filter(|row| row.manage.as_slice() == value)
+}
+
+// The row is live.
+fn is_live(row: &TokenRow, grants: &GrantTable, now: u64) -> bool
+    ensures { result ≡ is_live_row now grants.now.rows row.now }
+{
+    !row.retired && now < row.until && grants.is_approved(row.grant)
+}
+
+// How many rows are live.
+fn live_count(places: &[TokenPlace], grants: &GrantTable, now: u64) -> usize
+    ensures { result ≡ count_by (is_live_place now grants.now.rows) places.now }
+{
+    let mut count = 0;
+    for place in places {
+        if is_live(place.row.as_ref(), grants, now) {
+            count += 1;
+        }
+    }
+    count
+}
+
+// How many rows of other grants are live.
+fn live_elsewhere(places: &[TokenPlace], grants: &GrantTable, number: u64, now: u64) -> usize
+    ensures { result ≡ count_by (is_live_elsewhere now grants.now.rows number) places.now }
+{
+    let mut count = 0;
+    for place in places {
+        if place.grant != number && is_live(place.row.as_ref(), grants, now) {
+            count += 1;
+        }
+    }
+    count
+}
+
+// The row is marked as retired, where it has this serial.
+fn mark(place: &mut TokenPlace, serial: u64)
+    ensures { Marks serial place.old place.new }
+{
+    if place.serial == serial {
+        place.row.as_mut().retired = true;
+    }
+}
+
+// Takes out the token with this serial, where it is the grant's.
+fn take_out(places: &mut Vec<TokenPlace>, grant: u64, serial: u64)
+    requires { AllPairs (λ (a b : TokenPlace). a.serial < b.serial) places.old.items }
+    ensures items { places.new.items ≡ filter (λ (place : TokenPlace). not ((grant == place.grant) && (serial == place.serial))) places.old.items }
+    ensures fewer { vec_len places.new ≤ vec_len places.old }
+    ensures capacity { vec_capacity places.new ≡ vec_capacity places.old }
+{
+    let at = place_of(places.as_slice(), serial);
+    if at < places.len() && places[at].serial == serial && places[at].grant == grant {
+        let _gone = places.remove(at);
+    }
+}
+
+// Takes out the tokens with these serials, where they are the grant's.
+fn take_out_all(places: &mut Vec<TokenPlace>, grant: u64, owned: &[OwnedSerial])
+    requires { AllPairs (λ (a b : TokenPlace). a.serial < b.serial) places.old.items }
+    ensures items { places.new.items ≡ filter (λ (place : TokenPlace). not (is_among grant owned.now place)) places.old.items }
+    ensures fewer { vec_len places.new ≤ vec_len places.old }
+    ensures capacity { vec_capacity places.new ≡ vec_capacity places.old }
+{
+    for one in owned {
+        take_out(places, grant, one.serial);
+    }
+}
+
+// The same search with a ledger of its own.
+fn find_from<'a, L: Ledger>(
+    table: &'a TokenTable,
+    value: &[u8],
+    blank: Blank,
+) -> Option<&'a TokenRow>
+    requires name { blank.name ≡ L.name }
+    requires parts { blank.parts ≡ L.parts }
+    requires some { 0 < blank.parts }
+    ensures { option_map (λ row. row.now) result ≡ row_by_value value.now table.now.rows }
+{
+    let mut steps = Steps::<L>::new(blank);
+    table.find(value, &mut steps)
+}
+
+// The same search with a ledger of its own.
+fn find_managed_from<'a, L: Ledger>(
+    table: &'a TokenTable,
+    value: &[u8],
+    blank: Blank,
+) -> Option<&'a TokenRow>
+    requires name { blank.name ≡ L.name }
+    requires parts { blank.parts ≡ L.parts }
+    requires some { 0 < blank.parts }
+    ensures { option_map (λ row. row.now) result ≡ row_by_manage value.now table.now.rows }
+{
+    let mut steps = Steps::<L>::new(blank);
+    table.find_managed(value, &mut steps)
+}
+
+impl TokenTable {
+    /// No rows. Takes no memory.
+    pub fn new(alloc: Global) -> TokenTable
+        ensures { result.rows ≡ [] }
+    {
+        TokenTable {
+            places: Vec::new(alloc),
+            serials: SerialsByGrant::new(alloc),
+        }
+    }
+
+    /// How many rows there are. They stand in the order of their serials.
+    pub fn len(&self) -> usize
+        ensures count { result ≡ length self.now.rows }
+        ensures ordered { AreTokenRows self.now.rows }
+    {
+        self.places.len()
+    }
+
+    // Leaves out of the index what no row has, where it is longer than twice the rows.
+    fn drop_former(&mut self)
+        ensures { self.new.rows ≡ self.old.rows }
+    {
+        if self.serials.len() / 2 > self.places.len() {
+            self.serials.drop_missing(self.places.as_slice());
+        }
+    }
+
+    /// Takes memory for so many rows more. An `Err` changes no row.
+    pub fn reserve(&mut self, more: usize) -> Result<(), Mem>
+        ensures rows { self.new.rows ≡ self.old.rows }
+        ensures ok { OnOk result (more ≤ self.new.spare) }
+    {
+        self.drop_former();
+        if self.places.reserve(more).is_err() {
+            return Err(Mem);
+        }
+        self.serials.reserve(more)
+    }
+
+    /// Appends a row, which has a greater serial than all. Takes no memory.
+    pub fn issue(&mut self, row: Box<TokenRow>)
+        requires room { 0 < self.old.spare }
+        requires is { IsTokenRow row.value }
+        requires above { All (λ (other : TokenRow). other.serial < row.value.serial) self.old.rows }
+        ensures rows { self.new.rows ≡ self.old.rows ++ row.value ∷ [] }
+        ensures spare { self.old.spare ≡ self.new.spare + 1 }
+    {
+        let place = TokenPlace {
+            serial: row.serial,
+            grant: row.grant,
+            row,
+        };
+        self.serials.list(place.grant, place.serial);
+        self.places.push_reserved(place);
+    }
+
+    /// The row with this value. A step is a comparison of serials.
+    pub fn find<L: Ledger>(&self, value: &[u8], steps: &mut Steps<L>) -> Option<&TokenRow>
+        ensures row { option_map (λ row. row.now) result ≡ row_by_value value.now self.now.rows }
+        ensures cost { 2 ^ (steps.new - steps.old) ≤ 2 * length self.now.rows + 1 }
+    {
+        match serial_in_value(value) {
+            Some(serial) => {
+                let places = self.places.as_slice();
+                let at = place(places, serial, steps);
+                with_value(row_at(places, at), value)
+            }
+            None => None,
+        }
+    }
+
+    /// The row with this management value, whose serial is the one after the token's. A step is a comparison of serials.
+    pub fn find_managed<L: Ledger>(&self, value: &[u8], steps: &mut Steps<L>) -> Option<&TokenRow>
+        ensures row { option_map (λ row. row.now) result ≡ row_by_manage value.now self.now.rows }
+        ensures cost { 2 ^ (steps.new - steps.old) ≤ 2 * length self.now.rows + 1 }
+    {
+        match serial_in_value(value) {
+            Some(serial) => {
+                let places = self.places.as_slice();
+                let at = place(places, serial.saturating_sub(1), steps);
+                with_manage(row_at(places, at), value)
+            }
+            None => None,
+        }
+    }
+
+    /// The row with this value, uncounted.
+    pub fn by_value(&self, value: &[u8]) -> Option<&TokenRow>
+        ensures { option_map (λ row. row.now) result ≡ row_by_value value.now self.now.rows }
+    {
+        find_from::<Brand>(self, value, Blank::new(1))
+    }
+
+    /// The row with this management value, uncounted.
+    pub fn by_manage(&self, value: &[u8]) -> Option<&TokenRow>
+        ensures { option_map (λ row. row.now) result ≡ row_by_manage value.now self.now.rows }
+    {
+        find_managed_from::<Brand>(self, value, Blank::new(1))
+    }
+
+    /// The live rows and so many more are more than may be live. They are counted only where there are so many rows.
+    pub fn passes_limit_with(&self, grants: &GrantTable, now: u64, more: usize) -> bool
+        requires { more ≤ 16 }
+        ensures { result ≡ pass_live (live_rows now grants.now.rows self.now.rows) more }
+    {
+        if self.places.len() <= LIVE_LIMIT - more {
+            return false;
+        }
+        live_count(self.places.as_slice(), grants, now) > LIVE_LIMIT - more
+    }
+
+    /// The live rows of other grants than this one and so many more are more than may be live. They are counted only where there are so many rows.
+    pub fn others_pass_limit_with(
+        &self,
+        grants: &GrantTable,
+        number: u64,
+        now: u64,
+        more: usize,
+    ) -> bool
+        requires { more ≤ 16 }
+        ensures { result ≡ pass_live (rows_of_others number (live_rows now grants.now.rows self.now.rows)) more }
+    {
+        if self.places.len() <= LIVE_LIMIT - more {
+            return false;
+        }
+        live_elsewhere(self.places.as_slice(), grants, number, now) > LIVE_LIMIT - more
+    }
+
+    /// Marks the token with this serial as revoked. Takes no memory.
+    pub fn revoke(&mut self, serial: u64)
+        ensures rows { self.new.rows ≡ change_token serial with_retirement self.old.rows }
+        ensures spare { self.new.spare ≡ self.old.spare }
+    {
+        let at = place_of(self.places.as_slice(), serial);
+        if at < self.places.len() {
+            mark(&mut self.places[at], serial);
+        }
+    }
+
+    /// Takes out the token with this serial. Takes no memory.
+    pub fn retire(&mut self, serial: u64)
+        ensures rows { self.new.rows ≡ drop_token serial self.old.rows }
+        ensures spare { self.old.spare ≤ self.new.spare }
+    {
+        let at = place_of(self.places.as_slice(), serial);
+        if at < self.places.len() && self.places[at].serial == serial {
+            let _gone = self.places.remove(at);
+        }
+    }
+
+    /// Takes out the tokens of a grant. Takes no memory.
+    pub fn retire_all(&mut self, grant: u64)
+        ensures rows { self.new.rows ≡ drop_tokens_of grant self.old.rows }
+        ensures spare { self.old.spare ≤ self.new.spare }
+    {
+        take_out_all(&mut self.places, grant, self.serials.of(grant));
+    }
+
+    /// Takes out the tokens whose grant isn't among these. Takes no memory.
+    pub fn sweep(&mut self, grants: &GrantTable)
+        ensures rows { self.new.rows ≡ sweep_tokens grants.now.rows self.old.rows }
+        ensures spare { self.old.spare ≤ self.new.spare }
+    {
+        self.places.retain(|place| grants.has(place.grant));
+    }
+}
