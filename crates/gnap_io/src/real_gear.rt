@@ -78,7 +78,8 @@ impl<'a, R: rt::Clock> Counted for RealGear<'a, R> {
       left = gear.left;
       faults = gear.faults;
       log = record {
-        served = map (λ pair. served_of (⟦<Stream<TimedSocket<'a, R>> as Device>⟧.told pair.0) (⟦<Stream<TimedSocket<'a, R>> as Device>⟧.faults pair.0)) gear.served.items;
+        served = map (λ pair. served_of (⟦<Stream<TimedSocket<'a, R>> as Device>⟧.told pair.0)
+            (⟦<Stream<TimedSocket<'a, R>> as Device>⟧.faults pair.0)) gear.served.items;
         moments = map (λ pair. pair.0) gear.moments.items;
         draws = map (λ pair. pair.0) gear.draws.items;
       };

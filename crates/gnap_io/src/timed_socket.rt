@@ -11,13 +11,13 @@ use std::sync::Arc;
 use std::time::{Duration, Instant};
 
 /// How long a message may take from its first byte to its last, and a reply to be taken, in seconds.
-pub(crate) const MESSAGE_LIMIT: u64 = 60;
+const MESSAGE_LIMIT: u64 = 60;
 
 /// How long a connection may bring nothing where a message may begin, in seconds.
-pub(crate) const IDLE_LIMIT: u64 = 60;
+const IDLE_LIMIT: u64 = 60;
 
 /// How long a connection that had its reply may bring nothing where another one waits and no worker is free, in seconds.
-pub(crate) const SPARE_LIMIT: u64 = 1;
+const SPARE_LIMIT: u64 = 1;
 
 /// How long a call of the system waits before the clock is looked at, in milliseconds.
 const LOOK: u64 = 250;

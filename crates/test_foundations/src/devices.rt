@@ -92,7 +92,7 @@ fn filled(alloc: Global) -> Result<bool, Mem> {
     ];
     for (answer, bytes) in rows {
         let mut buf = *b"....";
-        if source.read(&mut buf) != answer || buf != *bytes {
+        if source.read(&mut buf) != answer || buf.as_slice() != bytes {
             return Ok(false);
         }
     }
