@@ -2,7 +2,7 @@
 use Rattle.std.specs.Prelude.{◌≡◌, ℕ, ◌≤◌, List, [], ◌∷◌, ◌++◌, map, length}
 use Rattle.gnap_io.specs.Outside.{Served}
 use Rattle.gnap_io.specs.Gears.{Log, GearState, with_uses}
-use Rattle.histories.specs.History.{Entry}
+use Rattle.histories.specs.declared.entry.Entry.{Entry}
 use Rattle.histories.specs.Turns.{Turn, moments_in, entries_in, draw_of}
 use Rattle.histories.specs.Whole.{own_of}
 
