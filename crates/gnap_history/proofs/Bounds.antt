@@ -18,7 +18,7 @@ use Rattle.gnap_model.specs.declared.notes.RoundNote.{RoundNote}
 use Rattle.gnap_model.specs.declared.notes.TokenNote.{TokenNote}
 use Rattle.gnap_model.specs.declared.notes.Note.{Note}
 use Rattle.gnap_model.specs.declared.notes.Note.TheVariants.{Opened, Terms, Approved, Issued, Door, Pended, DecidedAs, Finalized, Wrong, Retired}
-use Rattle.gnap_model.proofs.NoteCounts.{issues, filter_counted, count-reverse}
+use Rattle.gnap_laws.proofs.NoteCounts.{issues, filter_counted, count-reverse}
 use Rattle.gnap_history.specs.Counts.{is_issue, is_unexpired, is_live_elsewhere, lets_go_on}
 use Rattle.gnap_history.proofs.Counts.{sum_by-reverse}
 

@@ -15,7 +15,7 @@ use Rattle.gnap_model.specs.declared.notes.Note.{Note}
 use Rattle.gnap_model.specs.declared.notes.Note.TheVariants.{Opened, Terms, Approved, Issued, Pended}
 use Rattle.gnap_model.specs.declared.notes.OpeningNote.{OpeningNote}
 use Rattle.gnap_model.specs.declared.notes.TokenNote.{TokenNote}
-use Rattle.gnap_model.proofs.Causes.{Cause, cause_of, IsBegin, IsModify}
+use Rattle.gnap_laws.proofs.Causes.{Cause, cause_of, IsBegin, IsModify}
 use Rattle.gnap_history.specs.Terms.{AsksForFew, AskForFew}
 use Rattle.grant_machine.proofs.FoundFits.{all-append, if_both}
 

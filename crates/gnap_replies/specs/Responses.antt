@@ -10,7 +10,8 @@ use Rattle.gnap_model.specs.declared.calls.Reply.TheVariants as reply
 use Rattle.gnap_replies.specs.Grants.{interact_data, granted_fields, pending_fields, continuing_fields, rotated_fields}
 use Rattle.gnap_replies.specs.Interactions.{shown_fields, handle_fields, decided_fields}
 use Rattle.gnap_replies.specs.Introspections.{active_fields, inactive_fields}
-use Rattle.gnap_replies.specs.Errors.{error_status, error_fields}
+use Rattle.gnap_model.specs.Codes.{error_status}
+use Rattle.gnap_replies.specs.Errors.{error_fields}
 
 pub record Response : Type 0 where
   pub status : ℕ

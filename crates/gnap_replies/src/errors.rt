@@ -1,37 +1,14 @@
-//! Errors as JSON (RFC 9635, section 3.6), and their status.
+//! Errors as JSON (RFC 9635, section 3.6).
 ghost use Rattle.std.specs.Prelude.{◌≡◌, IfOk};
 ghost use Rattle.serde_json.specs.View.{view};
 ghost use Rattle.json_objects.specs.Objects.{object_of};
-ghost use Rattle.gnap_replies.specs.Errors.{error_status, error_fields};
+ghost use Rattle.gnap_replies.specs.Errors.{error_fields};
 
 use bytes_and_lists::memory::Mem;
 use gnap_model::objects::ErrorCode;
 use json_objects::put;
 use serde_json::{Map, Value};
 use std::alloc::Global;
-
-/// The HTTP status of an error.
-pub fn error_status(code: ErrorCode) -> u16
-    ensures { result ≡ error_status code }
-{
-    match code {
-        ErrorCode::InvalidClient
-        | ErrorCode::InvalidContinuation
-        | ErrorCode::InvalidResourceServer => 401,
-        ErrorCode::InvalidRequest
-        | ErrorCode::InvalidInteraction
-        | ErrorCode::InvalidFlag
-        | ErrorCode::InvalidRotation
-        | ErrorCode::KeyRotationNotSupported
-        | ErrorCode::UserDenied
-        | ErrorCode::RequestDenied
-        | ErrorCode::UnknownUser
-        | ErrorCode::UnknownInteraction
-        | ErrorCode::TooFast
-        | ErrorCode::TooManyAttempts
-        | ErrorCode::InvalidAccess => 400,
-    }
-}
 
 pub fn error_value(alloc: Global, code: ErrorCode) -> Result<Value, Mem>
     ensures { IfOk result (λ v. view v ≡ object_of (error_fields code)) }

@@ -8,7 +8,7 @@
 
 pub mod discovery;
 mod endpoints;
-pub mod errors;
+mod errors;
 mod grants;
 mod interactions;
 mod introspections;

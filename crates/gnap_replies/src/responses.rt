@@ -6,7 +6,7 @@ ghost use Rattle.gnap_model.specs.declared.objects.Setup.{Setup};
 ghost use Rattle.gnap_objects.specs.CallsFit.{ReplyFits};
 ghost use Rattle.gnap_replies.specs.Responses.{response_of, error_response, text_of};
 
-use crate::errors::{error_status, error_value};
+use crate::errors::error_value;
 use crate::grants::{
     continuing_value, granted_value, interact_value, pending_value, rotated_value,
 };
@@ -35,7 +35,7 @@ fn status(reply: &Reply) -> u16
         | Reply::Handle { .. }
         | Reply::Decided { .. } => 200,
         Reply::Done => 204,
-        Reply::Error { code } => error_status(*code),
+        Reply::Error { code } => code.status(),
         Reply::Lapsed => 503,
     }
 }
@@ -152,5 +152,5 @@ pub fn print_error(alloc: Global, code: ErrorCode) -> Result<(u16, Option<Bytes>
     ensures { IfOk result (λ printed. printed ≡ text_of (error_response code)) }
 {
     let body = error_value(alloc, code)?;
-    Ok((error_status(code), Some(compact_text(alloc, &body)?)))
+    Ok((code.status(), Some(compact_text(alloc, &body)?)))
 }

@@ -24,8 +24,8 @@ use Rattle.gnap_model.specs.declared.notes.RoundNote.{RoundNote}
 use Rattle.gnap_model.specs.declared.notes.DecisionNote.{DecisionNote}
 use Rattle.gnap_model.specs.declared.notes.TokenNote.{TokenNote}
 use Rattle.gnap_model.specs.declared.notes.Note.{Note}
-use Rattle.gnap_model.specs.declared.notes.Note.TheVariants.{Opened, Terms, Approved, Issued, Door, Pended, DecidedAs, Finalized, Wrong, Retired}
-use Rattle.gnap_model.specs.Standing.{GrantState, grant_state, is_finalized, opening_in, terms_in, terms_of, consent_of, earliest_in, decision_in, decision_of, wrongs_of, round_trail, named_grant, token_in, next_grant, live_grants, live_token, live_tokens, managed_token, is_live, is_managed, is_replacement, is_retirement, round_by_handle, round_by_code}
+use Rattle.gnap_model.specs.declared.notes.Note.TheVariants.{Opened, Issued, DecidedAs}
+use Rattle.gnap_model.specs.Standing.{GrantState, grant_state, is_finalized, opening_in, terms_of, consent_of, earliest_in, decision_in, decision_of, wrongs_of, round_trail, named_grant, token_in, next_grant, live_grants, live_token, live_tokens, managed_token, is_live, is_managed, is_replacement, is_retirement, round_by_handle, round_by_code}
 use Rattle.gnap_model.specs.Standing.GrantState.{IsPending, IsApproved, IsFinalized}
 use Rattle.gnap_model.specs.Keys.{key_of, server_names}
 use Rattle.gnap_model.specs.Judging.{Settled, settle, serves_all}
@@ -38,9 +38,8 @@ use Rattle.gnap_model.specs.Front.{decide_on}
 use Rattle.gnap_model.specs.Actions.{Action, Supply, on_found, with_key}
 use Rattle.gnap_model.specs.Actions.Action.{Refuse, OpenAtOnce, ShowRound, ShowHandle, RenewDoor, CollectDecision, WrongReference, LastWrongReference, RefuseAndFinalize, ModifyAtOnce, ModifyAsking, CancelGrant, RevokeToken}
 use Rattle.gnap_model.specs.Answer.{action_of}
-use Rattle.gnap_model.proofs.AliveTokens.{HasNote, first_noted, named_unfinalized, token_found}
-use Rattle.gnap_model.proofs.Doors.{some_if_some}
-use Rattle.gnap_model.proofs.Sound.{named_opened}
+use Rattle.gnap_model.proofs.TrailNotes.{HasNote, first_noted, grant_named, terms_noted, token_found}
+use Rattle.gnap_model.proofs.LookUps.{some_if_some}
 use Rattle.gnap_tables.specs.Rows.{GrantRow, TokenRow, decision_row, round_row, round_in, grant_row, grant_rows, token_row, token_rows}
 use Rattle.gnap_tables.specs.Tables.{tables_of}
 use Rattle.gnap_tables.specs.RowSearches.{newest, opening_of, terms_of_row, decision_of_row, token_of, row_by_door, row_by_manage, is_live_row, live_rows, Interaction, interaction_where}
@@ -71,15 +70,7 @@ decision_is trail g = at (decision_of trail g) refl
   where
     of_grant : (d : DecisionNote) (n : Note) → decision_in g n ≡ Some d → d.grant ≡ g
     of_grant d (DecidedAs x) h = let both = some_if_some (x.grant == g) x d h in subst (λ (y : DecisionNote). y.grant ≡ g) both.1 (eqb-true x.grant g both.0)
-    of_grant d (Opened o) h = cc h
-    of_grant d (Terms w) h = cc h
-    of_grant d (Approved k c) h = cc h
-    of_grant d (Issued t) h = cc h
-    of_grant d (Door k v x) h = cc h
-    of_grant d (Pended r) h = cc h
-    of_grant d (Finalized k) h = cc h
-    of_grant d (Wrong k) h = cc h
-    of_grant d (Retired s w) h = cc h
+    of_grant d _ h = cc h
 
     at : (x : Option DecisionNote) → decision_of trail g ≡ x → option_map (decision_of_row g) (option_map decision_row x) ≡ x
     at None e = refl
@@ -87,27 +78,12 @@ decision_is trail g = at (decision_of trail g) refl
         let f = first_noted (decision_in g) (round_trail trail g) d e in
         ap (λ n. Some (record d { grant = n })) (sym (of_grant d f.0 f.2))
 
-terms_grant : (trail : List Note) (g : ℕ) (w : TermsNote) → terms_of trail g ≡ Some w → w.grant ≡ g
-terms_grant trail g w e = let f = first_noted (terms_in g) trail w e in at f.0 f.2
-  where
-    at : (n : Note) → terms_in g n ≡ Some w → w.grant ≡ g
-    at (Terms x) h = let both = some_if_some (x.grant == g) x w h in subst (λ (y : TermsNote). y.grant ≡ g) both.1 (eqb-true x.grant g both.0)
-    at (Opened o) h = cc h
-    at (Approved k c) h = cc h
-    at (Issued t) h = cc h
-    at (Door k v x) h = cc h
-    at (Pended r) h = cc h
-    at (DecidedAs d) h = cc h
-    at (Finalized k) h = cc h
-    at (Wrong k) h = cc h
-    at (Retired s x) h = cc h
-
 terms_is : (trail : List Note) (now : ℕ) (o : OpeningNote) (w : TermsNote) → terms_of trail o.grant ≡ Some w → terms_of_row (grant_row trail now o) ≡ w
-terms_is trail now o w e = rw e (ap (λ n. record w { grant = n }) (sym (terms_grant trail o.grant w e)))
+terms_is trail now o w e = rw e (ap (λ n. record w { grant = n }) (sym (terms_noted trail o.grant w e).1))
 
 -- a named grant goes on
 pub named_goes : (trail : List Note) (now : ℕ) (v : Text) (o : OpeningNote) → named_grant trail now v ≡ Some o → is_finalized (grant_state trail o.grant now) ≡ false
-named_goes trail now v o e = not-true (is_finalized (grant_state trail o.grant now)) (named_unfinalized trail now v o e)
+named_goes trail now v o e = not-true (is_finalized (grant_state trail o.grant now)) (grant_named trail now v o e).goes_on
 
 -- what is done with the grant that a value names
 named_action : (trail : List Note) (now : ℕ) (value key : Text) (act : GrantRow → Action) (act' : OpeningNote → Action) → HaveDoors trail
@@ -274,7 +250,7 @@ action_is rules trail supply (Decide front request) whole =
     (handle_is trail supply.now request.handle) (λ i f. decide_is trail supply.now request i whole f)
 action_is rules trail supply (Continue key value reference) whole =
     named_action trail supply.now value key (continue_rows (tables_of trail supply.now) supply.now reference) (λ o. continue_at (grant_state trail o.grant supply.now) trail supply.now o reference) whole.doors
-    (λ o e. continue_is trail supply.now o reference (grant_state trail o.grant supply.now) whole (named_opened trail supply.now value o e) (named_goes trail supply.now value o e))
+    (λ o e. continue_is trail supply.now o reference (grant_state trail o.grant supply.now) whole (grant_named trail supply.now value o e).opened (named_goes trail supply.now value o e))
 action_is rules trail supply (Modify key value request) whole =
     named_action trail supply.now value key (λ (row : GrantRow). modify_rows (settle rules row.key row.consent request) (tables_of trail supply.now) supply.now row request)
     (λ o. modify_by (settle rules o.key (consent_of trail o.grant) request) trail supply.now o request) whole.doors

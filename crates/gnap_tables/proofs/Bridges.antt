@@ -13,8 +13,7 @@ use Rattle.gnap_model.specs.declared.notes.Note.TheVariants.{Opened, Terms, Appr
 use Rattle.gnap_model.specs.Standing.{GrantState, grant_state, is_finalized, is_approved, opening_in, door, named_in, named_grant, live_grants, is_live_opening}
 use Rattle.gnap_model.specs.Standing.GrantState.{IsPending, IsApproved, IsFinalized}
 use Rattle.gnap_model.specs.Actions.{or_zeros}
-use Rattle.gnap_model.proofs.AliveTokens.{HasNote}
-use Rattle.gnap_model.proofs.Sound.{opening_grant}
+use Rattle.gnap_model.proofs.TrailNotes.{HasNote, opening_noted}
 use Rattle.gnap_tables.specs.Rows.{GrantRow, TokenRow, grant_row, grant_row_in, grant_rows, token_row_in, token_rows}
 use Rattle.gnap_tables.specs.RowSearches.{newest, row_by_number, row_by_door, approved_in, is_approved_grant}
 use Rattle.gnap_tables.proofs.GrantsAfter.{IsNoOpening}
@@ -125,7 +124,7 @@ approved_is trail now g there = ap approved_in (number_is trail now g) ∙ at (f
     at : (x : Option OpeningNote) → first_of (opening_in g) trail ≡ x → is_some x ≡ true
         → approved_in (option_and_then (λ (o : OpeningNote). some_if (not (is_finalized (grant_state trail g now))) (grant_row trail now o)) x) ≡ is_approved (grant_state trail g now)
     at None e h = cc h
-    at (Some o) e h = by (grant_state trail g now) (grant_row trail now o) (ap (λ n. is_approved (grant_state trail n now)) (opening_grant trail g o e))
+    at (Some o) e h = by (grant_state trail g now) (grant_row trail now o) (ap (λ n. is_approved (grant_state trail n now)) (opening_noted trail g o e).1)
 
 -- ---- grants by their continuation values
 
@@ -165,15 +164,7 @@ door_is trail now value doors =
 
     none : (n : Note) → IsNoOpening n → (option_and_then look (grant_row_in trail now n) ≡ None) × (option_map (grant_row trail now) (named_in trail now value n) ≡ None)
     none (Opened o) h = absurd h
-    none (Terms w) h = (refl, refl)
-    none (Approved g c) h = (refl, refl)
-    none (Issued t) h = (refl, refl)
-    none (Door g v e) h = (refl, refl)
-    none (Pended r) h = (refl, refl)
-    none (DecidedAs d) h = (refl, refl)
-    none (Finalized g) h = (refl, refl)
-    none (Wrong g) h = (refl, refl)
-    none (Retired s w) h = (refl, refl)
+    none _ h = (refl, refl)
 
 -- ---- counts of grants
 
@@ -188,15 +179,7 @@ rows_counted trail now (n ∷ ns) = here n (rows_counted trail now ns) ∙ sym (
     here : (m : Note) → length (filter_map (grant_row_in trail now) ns) ≡ count_by (is_live_opening trail now) ns
         → length (cons_option (grant_row_in trail now m) (filter_map (grant_row_in trail now) ns)) ≡ cond (is_live_opening trail now m) 1 0 + count_by (is_live_opening trail now) ns
     here (Opened o) e = live o (not (is_finalized (grant_state trail o.grant now))) (filter_map (grant_row_in trail now) ns) (count_by (is_live_opening trail now) ns) e
-    here (Terms w) e = omega arith
-    here (Approved g c) e = omega arith
-    here (Issued t) e = omega arith
-    here (Door g v x) e = omega arith
-    here (Pended r) e = omega arith
-    here (DecidedAs d) e = omega arith
-    here (Finalized g) e = omega arith
-    here (Wrong g) e = omega arith
-    here (Retired s w) e = omega arith
+    here _ e = omega arith
 
 -- The rows are as many as there are live grants.
 pub grants_counted : (trail : List Note) (now : ℕ) → length (grant_rows trail now) ≡ live_grants trail now

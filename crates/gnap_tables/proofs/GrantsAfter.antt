@@ -18,8 +18,7 @@ use Rattle.gnap_model.specs.Standing.{GrantState, StateChange, grant_state, stat
 use Rattle.gnap_model.specs.Standing.GrantState.{IsPending, IsApproved, IsFinalized}
 use Rattle.gnap_model.specs.Standing.StateChange.{ToPending, ToApproved}
 use Rattle.gnap_model.specs.Actions.{or_zeros}
-use Rattle.gnap_model.proofs.AliveTokens.{HasNote}
-use Rattle.gnap_model.proofs.Opened.{opened_found}
+use Rattle.gnap_model.proofs.TrailNotes.{opened_found, HasNote}
 use Rattle.gnap_tables.specs.Rows.{Round, GrantRow, asks_of, single_of, subject_of, round_row, round_in, grant_row_in, grant_rows}
 use Rattle.gnap_tables.specs.Tables.{new_grant, with_terms, with_approval, with_round, with_decision, with_wrong, with_door, grants_after}
 use Rattle.gnap_tables.specs.AddableNotes.{IsNew, GoesOn, CanFollow}
@@ -327,28 +326,15 @@ grants_changed f trail after now later h =
   where
     each : (n : Note) → HasItem trail n → grant_row_in after later n ≡ option_and_then f (grant_row_in trail now n)
     each (Opened o) i = h o (item_noted trail (Opened o) i)
-    each (Terms w) i = refl
-    each (Approved g c) i = refl
-    each (Issued t) i = refl
-    each (Door g v e) i = refl
-    each (Pended r) i = refl
-    each (DecidedAs d) i = refl
-    each (Finalized g) i = refl
-    each (Wrong g) i = refl
-    each (Retired s w) i = refl
+    each _ i = refl
 
 -- each change is one of the list
 change_is : (n : Note) (rows : List GrantRow) → IsNoOpening n → filter_map (note_change n) rows ≡ grants_after n rows
 change_is (Opened o) rows h = absurd h
-change_is (Terms w) rows h = sym (map_is _ rows)
-change_is (Approved k c) rows h = sym (map_is _ rows)
 change_is (Issued t) rows h = all_kept rows
-change_is (Door k v x) rows h = sym (map_is _ rows)
-change_is (Pended r) rows h = sym (map_is _ rows)
-change_is (DecidedAs d) rows h = sym (map_is _ rows)
 change_is (Finalized k) rows h = sym (filter_is _ rows)
-change_is (Wrong k) rows h = sym (map_is _ rows)
 change_is (Retired s w) rows h = all_kept rows
+change_is _ rows h = sym (map_is _ rows)
 
 -- a grant that no note speaks of isn't opened in the notes
 pub is_another : (trail : List Note) (g : ℕ) (o : OpeningNote) → first_of (opening_in g) trail ≡ None → HasNote trail (Opened o) → (g == o.grant) ≡ false

@@ -1,5 +1,5 @@
 -- In a legal history every note speaks of a grant that was opened before, and every opened grant has a continuation value.
-use Rattle.std.proofs.Common.{ℕ, ◌≡◌, ◌<◌, ◌≤◌, ◌+◌, ◌*◌, Bool, true, false, List, [], ◌∷◌, ◌++◌, length, map, reverse, refl, sym, ◌∙◌, subst, inl, arith, cond, Option, Some, None}
+use Rattle.std.proofs.Common.{ℕ, ◌≡◌, ◌<◌, ◌≤◌, ◌+◌, ◌*◌, Bool, false, List, [], ◌∷◌, ◌++◌, length, map, reverse, refl, sym, ◌∙◌, subst, inl, arith, cond, Option, Some, None}
 use Rattle.std.specs.Prelude.{◌==◌, if◌then◌else◌, option_map}
 use Rattle.std.specs.List.{list_any}
 use Rattle.std.proofs.lemmas.Bool.{or_from}
@@ -18,13 +18,12 @@ use Rattle.gnap_model.specs.declared.notes.Note.TheVariants.{Opened, Terms, Appr
 use Rattle.gnap_model.specs.Notes.{Event, trail_of}
 use Rattle.gnap_model.specs.Standing.{opening_in, terms_in, consent_in, door_in, earliest_in, is_end_of, state_change_in, next_grant, is_opening, round_by_handle}
 use Rattle.gnap_model.specs.Actions.{Action, Supply, outcome_of, grant_outcome, pending_outcome, tokens_for, door_note, terms_for, instance_of, retire, round_for}
-use Rattle.gnap_model.specs.Actions.Action.{Refuse, ShowToken, ShowInactive, LapseAction, OpenAtOnce, OpenAsking, ShowRound, ShowHandle, TakeDecision, RenewDoor, CollectDecision, WrongReference, LastWrongReference, RefuseAndFinalize, ModifyAtOnce, ModifyAsking, CancelGrant, RotateToken, RevokeToken}
+use Rattle.gnap_model.specs.Actions.Action.{OpenAtOnce, OpenAsking, TakeDecision, RenewDoor, CollectDecision, WrongReference, LastWrongReference, RefuseAndFinalize, ModifyAtOnce, ModifyAsking, CancelGrant, RotateToken, RevokeToken}
 use Rattle.gnap_model.specs.Answer.{supply_at, action_of}
 use Rattle.gnap_model.specs.Legal.{IsLegalPast}
-use Rattle.gnap_model.proofs.Causes.{Cause, cause_of}
-use Rattle.gnap_model.proofs.AliveTokens.{HasNote, first_noted, managed_issued}
-use Rattle.gnap_model.proofs.Opened.{EachNote, each-append, each-reverse, each_more}
-use Rattle.gnap_model.proofs.Sound.{IsSound, past_sound, names_known, old_known, new_known, opening_grant, sound_note}
+use Rattle.gnap_laws.proofs.Causes.{Cause, cause_of}
+use Rattle.gnap_model.proofs.TrailNotes.{HasNote, EachNote, each-append, each-reverse, each_more, opening_noted, managed_issued}
+use Rattle.gnap_laws.proofs.Sound.{IsSound, past_sound, names_known, old_known, new_known, sound_note}
 use Rattle.gnap_tables.specs.AddableNotes.{IsNew}
 use Rattle.gnap_tables.specs.Rows.{grant_rows}
 use Rattle.gnap_tables.specs.RowSearches.{Interaction, interaction_by_handle}
@@ -48,16 +47,8 @@ abbrev pub AreKnown : ℕ → List Note → Type 0
 AreKnown g notes = EachNote (KnownAt g) notes
 
 known_at_more : (g h : ℕ) (n : Note) → g ≤ h → KnownAt g n → KnownAt h n
-known_at_more g h (Opened o) le k = omega arith
-known_at_more g h (Terms w) le k = omega arith
-known_at_more g h (Approved x c) le k = omega arith
-known_at_more g h (Issued t) le k = omega arith
-known_at_more g h (Door x v y) le k = omega arith
-known_at_more g h (Pended r) le k = omega arith
-known_at_more g h (DecidedAs d) le k = omega arith
-known_at_more g h (Finalized x) le k = omega arith
-known_at_more g h (Wrong x) le k = omega arith
 known_at_more g h (Retired s w) le k = tt
+known_at_more g h _ le k = omega arith
 
 known_tokens : (g : ℕ) (supply : Supply) (o : OpeningNote) (asks : List Ask) (k : ℕ) → o.grant < g → AreKnown g (map Issued (tokens_for supply o asks k))
 known_tokens g supply o [] k h = tt
@@ -90,12 +81,6 @@ interaction_known trail now handle r e = at (interaction_by_handle now handle (g
 -- the notes of an action speak of known grants
 action_known : (supply : Supply) (trail : List Note) (call : Call) (action : Action) (g : ℕ) → IsSound trail → Cause trail supply.now call action → MoreCause trail supply.now action
     → next_grant (reverse (outcome_of supply action).notes ++ trail) ≤ g → AreKnown g (outcome_of supply action).notes
-action_known supply trail call (Refuse code) g sound a m p = tt
-action_known supply trail call (ShowToken access t) g sound a m p = tt
-action_known supply trail call ShowInactive g sound a m p = tt
-action_known supply trail call LapseAction g sound a m p = tt
-action_known supply trail call (ShowRound r w o) g sound a m p = tt
-action_known supply trail call (ShowHandle r) g sound a m p = tt
 action_known supply trail call (TakeDecision r rights request) g sound a m p =
     let k = interaction_known trail supply.now m.0 r m.1 in
     let low : k.0.grant < next_grant trail = sound_note (next_grant trail) _ trail (Opened k.0) sound k.1 in
@@ -129,14 +114,13 @@ action_known supply trail call (ModifyAsking o retired request modes) g sound a 
 action_known supply trail call (CancelGrant o) g sound a m p =
     let k : o.grant < g = old_known (outcome_of supply (CancelGrant o)).notes trail o (names_known trail supply.now call o sound a.0) g p in (k, tt)
 action_known supply trail call (RotateToken o u) g sound a m p =
-    let n = first_noted (opening_in u.grant) trail o a.3 in
-    let same : o.grant ≡ u.grant = opening_grant trail u.grant o a.3 in
+    let same : o.grant ≡ u.grant = (opening_noted trail u.grant o a.3).1 in
     let u_sound = sound_note (next_grant trail) _ trail (Issued u) sound (managed_issued trail supply.now a.1.0 u a.1.2).0 in
     let low : u.grant < next_grant trail = u_sound.1 in
     let grows = sum_by-append (λ (n : Note). cond (is_opening n) 1 0) (reverse (outcome_of supply (RotateToken o u)).notes) trail in
     (tt, (omega arith, tt))
-action_known supply trail call (RevokeToken u true) g sound a m p = tt
 action_known supply trail call (RevokeToken u false) g sound a m p = (tt, tt)
+action_known supply trail call _ g sound a m p = tt
 
 pub past_known : (rules : Setup) (past : List Event) → IsLegalPast rules past → AreKnown (next_grant (trail_of past)) (trail_of past)
 past_known rules [] legal = tt
@@ -168,13 +152,10 @@ says_nothing : (g : ℕ) (n : Note) → KnownAt g n
 says_nothing g (Opened o) low = let b : (o.grant == g) ≡ false = below_not o.grant g low in (rw b refl, refl, refl, refl, refl, refl, refl)
 says_nothing g (Terms w) low = let b : (w.grant == g) ≡ false = below_not w.grant g low in (refl, refl, rw b refl, refl, refl, refl, refl)
 says_nothing g (Approved k c) low = let b : (k == g) ≡ false = below_not k g low in (refl, refl, refl, rw b refl, refl, refl, rw b refl)
-says_nothing g (Issued t) low = (refl, refl, refl, refl, refl, refl, refl)
 says_nothing g (Door k v x) low = let b : (k == g) ≡ false = below_not k g low in (refl, refl, refl, refl, rw b refl, rw b refl, refl)
 says_nothing g (Pended r) low = let b : (r.grant == g) ≡ false = below_not r.grant g low in (refl, refl, refl, refl, refl, refl, rw b refl)
-says_nothing g (DecidedAs d) low = (refl, refl, refl, refl, refl, refl, refl)
 says_nothing g (Finalized k) low = let b : (k == g) ≡ false = below_not k g low in (refl, rw b refl, refl, refl, refl, refl, refl)
-says_nothing g (Wrong k) low = (refl, refl, refl, refl, refl, refl, refl)
-says_nothing g (Retired s w) low = (refl, refl, refl, refl, refl, refl, refl)
+says_nothing g _ low = (refl, refl, refl, refl, refl, refl, refl)
 
 not_ended : (g : ℕ) (ns : List Note) → AreKnown g ns → list_any (is_end_of g) ns ≡ false
 not_ended g [] h = refl

@@ -35,7 +35,7 @@ use Rattle.gnap_model.specs.Front.{may_decide, rights_or}
 use Rattle.gnap_model.specs.Actions.{Action, Supply, on_found, with_key}
 use Rattle.gnap_model.specs.Actions.Action.{Refuse, ShowToken, ShowInactive, OpenAtOnce, OpenAsking, ShowHandle, TakeDecision, RenewDoor, CollectDecision, WrongReference, LastWrongReference, RefuseAndFinalize, ModifyAtOnce, ModifyAsking, CancelGrant, RevokeToken}
 use Rattle.gnap_model.specs.Answer.{action_of}
-use Rattle.gnap_model.proofs.Causes.{if_both, if_known}
+use Rattle.gnap_laws.proofs.Causes.{if_both, if_known}
 
 abbrev pub MoreCause : List Note → ℕ → Action → Type 0
 MoreCause trail now (OpenAtOnce o request) = nat_le o.end now ≡ false

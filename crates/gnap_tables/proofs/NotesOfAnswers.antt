@@ -12,15 +12,15 @@ use Rattle.gnap_model.specs.declared.notes.OpeningNote.{OpeningNote}
 use Rattle.gnap_model.specs.declared.notes.TokenNote.{TokenNote}
 use Rattle.gnap_model.specs.declared.notes.Why.TheVariants.{ByModification}
 use Rattle.gnap_model.specs.declared.notes.Note.{Note}
-use Rattle.gnap_model.specs.declared.notes.Note.TheVariants.{Opened, Terms, Approved, Issued, Door, Pended, DecidedAs, Finalized, Wrong, Retired}
+use Rattle.gnap_model.specs.declared.notes.Note.TheVariants.{Opened, Terms, Approved, Issued, Door, Pended, Retired}
 use Rattle.gnap_model.specs.Notes.{first_serial}
 use Rattle.gnap_model.specs.Standing.{GrantState, grant_state, is_finalized, is_approved, is_retirement, next_grant}
 use Rattle.gnap_model.specs.Standing.GrantState.{IsPending, IsApproved, IsFinalized}
 use Rattle.gnap_model.specs.Actions.{Action, Supply, outcome_of, tokens_for, token_for, door_note, terms_for, retire, round_for}
-use Rattle.gnap_model.specs.Actions.Action.{Refuse, ShowToken, ShowInactive, LapseAction, OpenAtOnce, OpenAsking, ShowRound, ShowHandle, TakeDecision, RenewDoor, CollectDecision, WrongReference, LastWrongReference, RefuseAndFinalize, ModifyAtOnce, ModifyAsking, CancelGrant, RotateToken, RevokeToken}
-use Rattle.gnap_model.proofs.Causes.{Cause}
-use Rattle.gnap_model.proofs.AliveTokens.{managed_issued}
-use Rattle.gnap_model.proofs.Sound.{IsSound, AreSound, SoundAt, SerialsBelow, sound_note, opening_grant, modified_below}
+use Rattle.gnap_model.specs.Actions.Action.{OpenAtOnce, OpenAsking, TakeDecision, RenewDoor, CollectDecision, WrongReference, LastWrongReference, RefuseAndFinalize, ModifyAtOnce, ModifyAsking, CancelGrant, RotateToken, RevokeToken}
+use Rattle.gnap_laws.proofs.Causes.{Cause}
+use Rattle.gnap_model.proofs.TrailNotes.{opening_noted, managed_issued}
+use Rattle.gnap_laws.proofs.Sound.{IsSound, AreSound, SoundAt, SerialsBelow, sound_note, modified_below}
 use Rattle.gnap_tables.specs.AddableNotes.{IsNew, GoesOn, CanAllFollow}
 use Rattle.gnap_tables.proofs.TokensAfter.{finalized_same}
 use Rattle.gnap_tables.proofs.ActionsAgree.{named_goes}
@@ -37,15 +37,7 @@ sound_fresh g s (n ∷ ns) h k le = at n h.0 (sound_fresh g s ns h.1 k le)
   where
     at : (m : Note) → SoundAt g s m → list_any (is_retirement k) ns ≡ false → list_any (is_retirement k) (m ∷ ns) ≡ false
     at (Retired r w) low e = let b : (r == k) ≡ false = below_not r k (omega arith) in rw b e
-    at (Opened o) low e = e
-    at (Terms w) low e = e
-    at (Approved x c) low e = e
-    at (Issued t) low e = e
-    at (Door x v i) low e = e
-    at (Pended x) low e = e
-    at (DecidedAs d) low e = e
-    at (Finalized x) low e = e
-    at (Wrong x) low e = e
+    at _ low e = e
 
 -- the tokens for some asks, and what comes after
 issue_follow : (supply : Supply) (o : OpeningNote) (asks : List Ask) (i : ℕ) (trail : List Note) (v : Text) (x : ℕ) → GoesOn trail supply.now o.grant → AreFresh supply.first trail
@@ -93,12 +85,6 @@ live_goes IsFinalized false b h = cc h
 
 pub action_follows : (supply : Supply) (trail : List Note) (call : Call) (action : Action) → IsSound trail → AreKnown (next_grant trail) trail → supply.first ≡ first_serial trail
     → Cause trail supply.now call action → MoreCause trail supply.now action → CanAllFollow supply.now trail (outcome_of supply action).notes
-action_follows supply trail call (Refuse code) sound known first a m = tt
-action_follows supply trail call (ShowToken access t) sound known first a m = tt
-action_follows supply trail call ShowInactive sound known first a m = tt
-action_follows supply trail call LapseAction sound known first a m = tt
-action_follows supply trail call (ShowRound r w o) sound known first a m = tt
-action_follows supply trail call (ShowHandle r) sound known first a m = tt
 action_follows supply trail call (TakeDecision r rights request) sound known first a m = (tt, tt)
 action_follows supply trail call (OpenAtOnce o request) sound known first a m =
     let new : IsNew trail o.grant = subst (IsNew trail) (sym a.2) (is_new (next_grant trail) trail known) in
@@ -127,8 +113,8 @@ action_follows supply trail call (RotateToken o u) sound known first a m =
     let u_sound = sound_note (next_grant trail) (first_serial trail) trail (Issued u) sound (managed_issued trail supply.now a.1.0 u a.1.2).0 in
     let low : u.serial < first_serial trail = u_sound.0 in
     let going : is_finalized (grant_state trail u.grant supply.now) ≡ false = live_goes (grant_state trail u.grant supply.now) (not (list_any (is_retirement u.serial) trail)) (nat_lt supply.now u.until) a.2 in
-    let same : o.grant ≡ u.grant = opening_grant trail u.grant o a.3 in
+    let same : o.grant ≡ u.grant = (opening_noted trail u.grant o a.3).1 in
     let b : (u.serial == supply.first + 0) ≡ false = below_not u.serial (supply.first + 0) (omega arith) in
     (tt, ((subst (λ n. is_finalized (grant_state trail n supply.now) ≡ false) (sym same) going, rw b (sound_fresh (next_grant trail) (first_serial trail) trail sound (supply.first + 0) (omega arith))), tt))
-action_follows supply trail call (RevokeToken u true) sound known first a m = tt
 action_follows supply trail call (RevokeToken u false) sound known first a m = (tt, tt)
+action_follows supply trail call _ sound known first a m = tt

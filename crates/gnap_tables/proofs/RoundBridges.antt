@@ -1,58 +1,23 @@
 -- The interactions of the rows are those of the notes.
-use Rattle.std.proofs.Common.{ℕ, ◌≡◌, Bool, true, false, List, refl, sym, ◌∙◌, ap, subst, Option, Some, None}
-use Rattle.std.specs.Prelude.{◌&&◌, ◌||◌, not, ◌==◌, if◌then◌else◌, nat_lt, nat_le, is_some, option_map}
+use Rattle.std.proofs.Common.{ℕ, ◌≡◌, Bool, true, false, List, refl, sym, ◌∙◌, ap, Option, Some, None}
+use Rattle.std.specs.Prelude.{◌&&◌, not, nat_lt, is_some, option_map}
 use Rattle.std.specs.Option.{option_and_then}
-use Rattle.std.specs.List.{list_any, filter_map}
-use Rattle.std.proofs.lemmas.Bool.{eqb-true}
+use Rattle.std.specs.List.{filter_map}
 use Rattle.std.proofs.lemmas.List.{reverse-reverse}
 use Rattle.gnap_model.specs.Common.{Text, same_text, first_of, some_if, is_text}
 use Rattle.gnap_model.specs.declared.notes.OpeningNote.{OpeningNote}
 use Rattle.gnap_model.specs.declared.notes.RoundNote.{RoundNote}
 use Rattle.gnap_model.specs.declared.notes.Note.{Note}
 use Rattle.gnap_model.specs.declared.notes.Note.TheVariants.{Opened, Terms, Approved, Issued, Door, Pended, DecidedAs, Finalized, Wrong, Retired}
-use Rattle.gnap_model.specs.Standing.{GrantState, StateChange, grant_state, state_after, has_ended, is_finalized, is_end_of, opening_in, state_change_in, decision_of, live_round, is_undecided, interaction_in, live_rounds, live_codes, code_in, round_by_handle, round_by_code}
+use Rattle.gnap_model.specs.Standing.{GrantState, grant_state, is_finalized, decision_of, live_round, is_undecided, interaction_in, live_rounds, live_codes, code_in, round_by_handle, round_by_code}
 use Rattle.gnap_model.specs.Standing.GrantState.{IsPending, IsApproved, IsFinalized}
-use Rattle.gnap_model.specs.Standing.StateChange.{ToPending, ToApproved}
-use Rattle.gnap_model.proofs.AliveTokens.{HasNote, first_noted}
-use Rattle.gnap_model.proofs.Doors.{some_if_some}
+use Rattle.gnap_model.proofs.TrailNotes.{HasNote, first_noted, pending_grant}
+use Rattle.gnap_model.proofs.LookUps.{some_if_some}
 use Rattle.gnap_tables.specs.Rows.{GrantRow, Round, decision_row, grant_row, grant_row_in, grant_rows}
 use Rattle.gnap_tables.specs.RowSearches.{newest, round_of, is_open_round, open_round, open_rounds, Interaction, interaction_where, interaction_by_handle, interaction_by_code}
 use Rattle.gnap_tables.proofs.Lists.{filter_map-filter_map}
 use Rattle.gnap_tables.proofs.Bridges.{in_grants, option_map-first_of, first_of-filter_map}
 use Rattle.gnap_tables.proofs.TokenBridges.{pass_same, first_same}
-
--- the round of a grant is a round of this grant
-pub change_grant_is : (trail : List Note) (g : ℕ) (r : RoundNote) → first_of (state_change_in g) trail ≡ Some (ToPending r) → r.grant ≡ g
-change_grant_is trail g r e = let f = first_noted (state_change_in g) trail (ToPending r) e in at f.0 f.2
-  where
-    at : (n : Note) → state_change_in g n ≡ Some (ToPending r) → r.grant ≡ g
-    at (Pended x) h = let both = some_if_some (x.grant == g) (ToPending x) (ToPending r) h in
-        let same : x ≡ r = (let k = both.1 in cc k) in subst (λ (y : RoundNote). y.grant ≡ g) same (eqb-true x.grant g both.0)
-    at (Approved k c) h = let both = some_if_some (k == g) ToApproved (ToPending r) h in (let k = both.1 in cc k)
-    at (Opened o) h = cc h
-    at (Terms w) h = cc h
-    at (Issued t) h = cc h
-    at (Door k v x) h = cc h
-    at (DecidedAs d) h = cc h
-    at (Finalized k) h = cc h
-    at (Wrong k) h = cc h
-    at (Retired s w) h = cc h
-
-pub pending_grant_is : (trail : List Note) (now g : ℕ) (r : RoundNote) → grant_state trail g now ≡ IsPending r → r.grant ≡ g
-pending_grant_is trail now g r = at (list_any (is_end_of g) trail || has_ended (first_of (opening_in g) trail) now) (first_of (state_change_in g) trail) refl
-  where
-    over : (x : RoundNote) (b : Bool) → (if b then IsFinalized else IsPending x) ≡ IsPending r → x ≡ r
-    over x true h = cc h
-    over x false h = cc h
-
-    after : (change : Option StateChange) → first_of (state_change_in g) trail ≡ change → state_after change now ≡ IsPending r → r.grant ≡ g
-    after None e h = cc h
-    after (Some ToApproved) e h = cc h
-    after (Some (ToPending x)) e h = subst (λ (y : RoundNote). y.grant ≡ g) (over x (nat_le x.over now) h) (change_grant_is trail g x e)
-
-    at : (ended : Bool) (change : Option StateChange) → first_of (state_change_in g) trail ≡ change → (if ended then IsFinalized else state_after change now) ≡ IsPending r → r.grant ≡ g
-    at true change e h = cc h
-    at false change e h = after change e h
 
 some_mapped : {A B : Type 0} (f : A → B) (x : Option A) → is_some (option_map f x) ≡ is_some x
 some_mapped f None = refl
@@ -68,7 +33,7 @@ open_round_is trail now (Opened o) = at (grant_state trail o.grant now) refl
     at : (s : GrantState) → grant_state trail o.grant now ≡ s → option_and_then (open_round now) (grant_row_in trail now (Opened o)) ≡ live_round trail now s
     at IsFinalized e = rw e refl
     at IsApproved e = rw e refl
-    at (IsPending r) e = rw e (pending r (not (is_some (option_map decision_row (decision_of trail o.grant)))) (pending_grant_is trail now o.grant r e) (ap not (some_mapped decision_row (decision_of trail o.grant))))
+    at (IsPending r) e = rw e (pending r (not (is_some (option_map decision_row (decision_of trail o.grant)))) (pending_grant trail o.grant now r e) (ap not (some_mapped decision_row (decision_of trail o.grant))))
 open_round_is trail now (Terms w) = refl
 open_round_is trail now (Approved k c) = refl
 open_round_is trail now (Issued t) = refl
@@ -154,12 +119,4 @@ found_row test trail now i e =
 
     at : (n : Note) → HasNote trail n → option_and_then (interaction_where test now) (grant_row_in trail now n) ≡ Some i → IsFound trail now i
     at (Opened o) h k = goes o (is_finalized (grant_state trail o.grant now)) refl h k
-    at (Terms w) h k = cc k
-    at (Approved g c) h k = cc k
-    at (Issued t) h k = cc k
-    at (Door g v x) h k = cc k
-    at (Pended r) h k = cc k
-    at (DecidedAs d) h k = cc k
-    at (Finalized g) h k = cc k
-    at (Wrong g) h k = cc k
-    at (Retired s w) h k = cc k
+    at _ h k = cc k

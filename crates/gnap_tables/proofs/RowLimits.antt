@@ -16,8 +16,8 @@ use Rattle.gnap_model.specs.Notes.{Event}
 use Rattle.gnap_model.specs.Standing.{GrantState, grant_state, is_finalized, wrongs_of}
 use Rattle.gnap_model.specs.Standing.GrantState.{IsPending, IsApproved, IsFinalized}
 use Rattle.gnap_model.specs.Legal.{grant_law, HasFewAsks}
-use Rattle.gnap_model.proofs.WithinLimits.{history_within}
-use Rattle.gnap_model.proofs.WrongReferences.{history_few}
+use Rattle.gnap_laws.proofs.WithinLimits.{history_within}
+use Rattle.gnap_laws.proofs.WrongReferences.{history_few}
 use Rattle.gnap_tables.specs.Rows.{Round, GrantRow, TokenRow, round_in, grant_row, grant_row_in, grant_rows, token_rows}
 use Rattle.gnap_tables.specs.RowSearches.{live_rows, token_of}
 use Rattle.gnap_tables.specs.StandsFor.{kept_of}

@@ -15,10 +15,10 @@ use Rattle.gnap_model.specs.Notes.{Event, first_serial, trail_values}
 use Rattle.gnap_model.specs.Standing.{next_grant, is_managed}
 use Rattle.gnap_model.specs.Answer.{gnap_answer}
 use Rattle.gnap_model.specs.Legal.{HasFewAsks}
-use Rattle.gnap_model.proofs.AliveTokens.{HasNote}
-use Rattle.gnap_model.proofs.Bound.{few_values}
-use Rattle.gnap_model.proofs.NewestFirst.{legal_past, trail-back}
-use Rattle.gnap_model.proofs.Sound.{IsSound, sound_note}
+use Rattle.gnap_model.proofs.TrailNotes.{HasNote}
+use Rattle.gnap_laws.proofs.Bound.{few_values}
+use Rattle.gnap_laws.proofs.NewestFirst.{legal_past, trail-back}
+use Rattle.gnap_laws.proofs.Sound.{IsSound, sound_note}
 use Rattle.gnap_tables.specs.Rows.{TokenRow, token_row, token_row_in, token_rows}
 use Rattle.gnap_tables.specs.StandsFor.{machine_of}
 use Rattle.gnap_tables.proofs.Lists.{HasItem, reverse-cons}

@@ -13,8 +13,9 @@ use Rattle.gnap_model.specs.declared.notes.Note.TheVariants.{Opened, Issued}
 use Rattle.gnap_model.specs.Standing.{GrantState, StateChange, grant_state, state_after, is_finalized, is_end_of, opening_in, state_change_in, is_replacement, terms_of}
 use Rattle.gnap_model.specs.Standing.GrantState.{IsPending, IsApproved, IsFinalized}
 use Rattle.gnap_model.specs.Standing.StateChange.{ToPending, ToApproved}
-use Rattle.gnap_model.proofs.AliveTokens.{HasNote, any-reverse}
-use Rattle.gnap_model.proofs.States.{finalized_later}
+use Rattle.gnap_model.proofs.LookUps.{any-reverse}
+use Rattle.gnap_model.proofs.TrailNotes.{HasNote}
+use Rattle.gnap_laws.proofs.States.{finalized_later}
 use Rattle.gnap_tables.specs.Rows.{GrantRow, TokenRow, row_at, grant_row, grant_row_in, grant_rows, token_row, token_row_in, token_rows}
 use Rattle.gnap_tables.specs.Tables.{tables_of, is_row_over, sweep_grants, has_grant, sweep_tokens, sweep}
 use Rattle.gnap_tables.proofs.Lists.{any_found, filter_is}

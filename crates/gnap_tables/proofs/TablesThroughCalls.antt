@@ -16,9 +16,9 @@ use Rattle.gnap_model.specs.Standing.{next_grant, is_opening}
 use Rattle.gnap_model.specs.Actions.{Supply, Outcome, outcome_of}
 use Rattle.gnap_model.specs.Answer.{gnap_answer, action_of, supply_of}
 use Rattle.gnap_model.specs.Legal.{HasFewAsks}
-use Rattle.gnap_model.proofs.NewestFirst.{legal_past, trail-back}
-use Rattle.gnap_model.proofs.NoteCounts.{count-append, count-reverse}
-use Rattle.gnap_model.proofs.Serials.{trail-onto}
+use Rattle.gnap_laws.proofs.NewestFirst.{legal_past, trail-back}
+use Rattle.gnap_laws.proofs.NoteCounts.{count-append, count-reverse}
+use Rattle.gnap_laws.proofs.Serials.{trail-onto}
 use Rattle.gnap_tables.specs.Tables.{Tables, tables_of, after_notes}
 use Rattle.gnap_tables.specs.AddableNotes.{CanAllFollow}
 use Rattle.gnap_tables.specs.ActionsByRows.{row_action, row_supply}
@@ -31,8 +31,8 @@ use Rattle.gnap_tables.proofs.WholePast.{past_whole}
 use Rattle.gnap_tables.proofs.Known.{AreKnown, past_known}
 use Rattle.gnap_tables.proofs.MoreCauses.{more_cause}
 use Rattle.gnap_tables.proofs.NotesOfAnswers.{action_follows}
-use Rattle.gnap_model.proofs.Causes.{cause_of}
-use Rattle.gnap_model.proofs.Sound.{IsSound, past_sound}
+use Rattle.gnap_laws.proofs.Causes.{cause_of}
+use Rattle.gnap_laws.proofs.Sound.{IsSound, past_sound}
 
 -- what holds of the notes of a legal history
 pub record AreLegalNotes (trail : List Note) : Type 0 where

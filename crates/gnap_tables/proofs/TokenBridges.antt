@@ -12,7 +12,8 @@ use Rattle.gnap_model.specs.declared.notes.Note.TheVariants.{Opened, Terms, Appr
 use Rattle.gnap_model.specs.Standing.{GrantState, grant_state, is_finalized, is_approved, is_replacement, is_retirement, is_live, is_managed, token_in, live_token, managed_token, live_tokens, issued_where}
 use Rattle.gnap_model.specs.Standing.GrantState.{IsPending, IsApproved, IsFinalized}
 use Rattle.gnap_model.specs.Change.{tokens_of, other_live_tokens}
-use Rattle.gnap_model.proofs.AliveTokens.{HasNote, not_replaced}
+use Rattle.gnap_model.proofs.TrailNotes.{HasNote}
+use Rattle.gnap_laws.proofs.AliveTokens.{not_replaced}
 use Rattle.gnap_tables.specs.Rows.{TokenRow, grant_rows, token_row, token_row_in, token_rows}
 use Rattle.gnap_tables.specs.RowSearches.{token_of, row_by_manage, is_live_row, live_row, live_rows}
 use Rattle.gnap_tables.proofs.Lists.{filter_map-filter_map, filter_map-reverse, filter_is, map_is}
@@ -48,15 +49,7 @@ pass_same {B} f g (n ∷ ns) h = ap (λ (x : Option B). cons_option x (filter_ma
 nothing_elsewhere : {B : Type 0} (look : TokenRow → Option B) (f : TokenNote → B) (test : TokenNote → Bool) (trail : List Note) (now : ℕ) (n : Note) → IsNoIssue n
     → (option_and_then look (token_row_in trail now n) ≡ None) × (option_map f (token_in test n) ≡ None)
 nothing_elsewhere look f test trail now (Issued t) h = absurd h
-nothing_elsewhere look f test trail now (Opened o) h = (refl, refl)
-nothing_elsewhere look f test trail now (Terms w) h = (refl, refl)
-nothing_elsewhere look f test trail now (Approved x c) h = (refl, refl)
-nothing_elsewhere look f test trail now (Door x v e) h = (refl, refl)
-nothing_elsewhere look f test trail now (Pended r) h = (refl, refl)
-nothing_elsewhere look f test trail now (DecidedAs d) h = (refl, refl)
-nothing_elsewhere look f test trail now (Finalized x) h = (refl, refl)
-nothing_elsewhere look f test trail now (Wrong x) h = (refl, refl)
-nothing_elsewhere look f test trail now (Retired s w) h = (refl, refl)
+nothing_elsewhere look f test trail now _ h = (refl, refl)
 
 -- The row with a management value is that of the token which the value names.
 pub manage_is : (trail : List Note) (now : ℕ) (value : Text) → row_by_manage value (token_rows trail now) ≡ option_map (token_row trail) (managed_token trail now value)
@@ -191,15 +184,7 @@ tokens_where p test trail now h =
 
     none : (n : Note) → IsNoIssue n → (option_and_then twice (token_row_in trail now n) ≡ None) × (token_in test n ≡ None)
     none (Issued t) i = absurd i
-    none (Opened o) i = (refl, refl)
-    none (Terms w) i = (refl, refl)
-    none (Approved x c) i = (refl, refl)
-    none (Door x v e) i = (refl, refl)
-    none (Pended r) i = (refl, refl)
-    none (DecidedAs d) i = (refl, refl)
-    none (Finalized x) i = (refl, refl)
-    none (Wrong x) i = (refl, refl)
-    none (Retired s w) i = (refl, refl)
+    none _ i = (refl, refl)
 
 -- The tokens of the live rows are the live tokens.
 pub live_tokens_are : (trail : List Note) (now : ℕ) → HaveGrants trail → map token_of (live_rows now (grant_rows trail now) (token_rows trail now)) ≡ live_tokens trail now

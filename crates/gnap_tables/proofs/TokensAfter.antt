@@ -15,7 +15,8 @@ use Rattle.gnap_model.specs.declared.notes.Note.TheVariants.{Opened, Terms, Appr
 use Rattle.gnap_model.specs.Standing.{GrantState, StateChange, grant_state, state_after, has_ended, is_finalized, is_end_of, opening_in, state_change_in, is_retirement, is_replacement}
 use Rattle.gnap_model.specs.Standing.GrantState.{IsPending, IsFinalized}
 use Rattle.gnap_model.specs.Standing.StateChange.{ToPending, ToApproved}
-use Rattle.gnap_model.proofs.AliveTokens.{HasNote, not_replaced}
+use Rattle.gnap_model.proofs.TrailNotes.{HasNote}
+use Rattle.gnap_laws.proofs.AliveTokens.{not_replaced}
 use Rattle.gnap_tables.specs.Rows.{TokenRow, token_row_in, token_rows}
 use Rattle.gnap_tables.specs.Tables.{new_token, with_retirement, tokens_after}
 use Rattle.gnap_tables.specs.AddableNotes.{IsNew, GoesOn, CanFollow}
@@ -50,19 +51,14 @@ pended_same now false change x true going later = (let over : state_after (Some 
 -- A note that ends no grant leaves which grants are finalized.
 pub finalized_same : (n : Note) (trail : List Note) (now g : ℕ) → CanFollow now trail n → EndsNothing n → is_finalized (grant_state (n ∷ trail) g now) ≡ is_finalized (grant_state trail g now)
 finalized_same (Opened p) trail now g can e = opened_same trail now g p (p.grant == g) (λ same. subst (IsNew trail) (eqb-true p.grant g same) can.0) can.1
-finalized_same (Terms w) trail now g can e = refl
 finalized_same (Approved k c) trail now g can e =
     approved_same now (list_any (is_end_of g) trail || has_ended (first_of (opening_in g) trail) now) (first_of (state_change_in g) trail) (k == g)
     (λ same. subst (λ n. is_finalized (grant_state trail n now) ≡ false) (eqb-true k g same) can)
-finalized_same (Issued t) trail now g can e = refl
-finalized_same (Door k v x) trail now g can e = refl
 finalized_same (Pended r) trail now g can e =
     pended_same now (list_any (is_end_of g) trail || has_ended (first_of (opening_in g) trail) now) (first_of (state_change_in g) trail) r (r.grant == g)
     (λ same. subst (λ n. is_finalized (grant_state trail n now) ≡ false) (eqb-true r.grant g same) can.0) can.1
-finalized_same (DecidedAs d) trail now g can e = refl
 finalized_same (Finalized k) trail now g can e = absurd e
-finalized_same (Wrong k) trail now g can e = refl
-finalized_same (Retired s w) trail now g can e = refl
+finalized_same _ trail now g can e = refl
 
 -- ---- what a note does to one row
 
@@ -156,18 +152,14 @@ finalized_in trail now t = is_finalized (grant_state trail t.grant now)
 pub next_token : (n : Note) (trail : List Note) (now : ℕ) (t : TokenNote) → CanFollow now trail n
     → token_row_in (n ∷ trail) now (Issued t) ≡ option_and_then (token_change n) (token_row_in trail now (Issued t))
 next_token (Opened p) trail now t can = left_row t (replaced_in trail t) (finalized_in trail now t) (finalized_in (Opened p ∷ trail) now t) (retired_in trail t) (finalized_same (Opened p) trail now t.grant can tt)
-next_token (Terms w) trail now t can = kept (token_row_in trail now (Issued t))
 next_token (Approved k c) trail now t can = left_row t (replaced_in trail t) (finalized_in trail now t) (finalized_in (Approved k c ∷ trail) now t) (retired_in trail t) (finalized_same (Approved k c) trail now t.grant can tt)
-next_token (Issued u) trail now t can = kept (token_row_in trail now (Issued t))
-next_token (Door k v x) trail now t can = kept (token_row_in trail now (Issued t))
 next_token (Pended r) trail now t can = left_row t (replaced_in trail t) (finalized_in trail now t) (finalized_in (Pended r ∷ trail) now t) (retired_in trail t) (finalized_same (Pended r) trail now t.grant can tt)
-next_token (DecidedAs d) trail now t can = kept (token_row_in trail now (Issued t))
 next_token (Finalized k) trail now t can =
     row_end t (replaced_in trail t) (retired_in trail t) now k (list_any (is_end_of t.grant) trail) (has_ended (first_of (opening_in t.grant) trail) now) (first_of (state_change_in t.grant) trail)
-next_token (Wrong k) trail now t can = kept (token_row_in trail now (Issued t))
 next_token (Retired s ByRevocation) trail now t can = row_revoked t s (replaced_in trail t) (finalized_in trail now t) (retired_in trail t)
 next_token (Retired s ByRotation) trail now t can = row_replaced t s (replaced_in trail t) (finalized_in trail now t) (retired_in trail t)
 next_token (Retired s ByModification) trail now t can = row_replaced t s (replaced_in trail t) (finalized_in trail now t) (retired_in trail t)
+next_token _ trail now t can = kept (token_row_in trail now (Issued t))
 
 -- ---- all tokens
 
@@ -179,16 +171,8 @@ tokens_changed f trail after now later h =
     ap reverse (parts_changed f (token_row_in trail now) (token_row_in after later) trail each) ∙ sym (filter_map-reverse f (filter_map (token_row_in trail now) trail))
   where
     each : (n : Note) → HasItem trail n → token_row_in after later n ≡ option_and_then f (token_row_in trail now n)
-    each (Opened o) i = refl
-    each (Terms w) i = refl
-    each (Approved g c) i = refl
     each (Issued t) i = h t (item_noted trail (Issued t) i)
-    each (Door g v e) i = refl
-    each (Pended r) i = refl
-    each (DecidedAs d) i = refl
-    each (Finalized g) i = refl
-    each (Wrong g) i = refl
-    each (Retired s w) i = refl
+    each _ i = refl
 
 -- the row of a token that was just issued
 issued_row : (trail : List Note) (now : ℕ) (t : TokenNote) → GoesOn trail now t.grant → list_any (is_retirement t.serial) trail ≡ false → token_row_in (Issued t ∷ trail) now (Issued t) ≡ Some (new_token t)

@@ -14,15 +14,15 @@ use Rattle.gnap_model.specs.declared.notes.Note.TheVariants.{Opened, Terms, Appr
 use Rattle.gnap_model.specs.Notes.{Event, trail_of, now_at}
 use Rattle.gnap_model.specs.Standing.{opening_in, door_in}
 use Rattle.gnap_model.specs.Actions.{Action, Supply, outcome_of, tokens_for, door_note, terms_for, retire, round_for}
-use Rattle.gnap_model.specs.Actions.Action.{Refuse, ShowToken, ShowInactive, LapseAction, OpenAtOnce, OpenAsking, ShowRound, ShowHandle, TakeDecision, RenewDoor, CollectDecision, WrongReference, LastWrongReference, RefuseAndFinalize, ModifyAtOnce, ModifyAsking, CancelGrant, RotateToken, RevokeToken}
+use Rattle.gnap_model.specs.Actions.Action.{OpenAtOnce, OpenAsking, TakeDecision, RenewDoor, CollectDecision, WrongReference, LastWrongReference, RefuseAndFinalize, ModifyAtOnce, ModifyAsking, CancelGrant, RotateToken, RevokeToken}
 use Rattle.gnap_model.specs.Answer.{supply_at, action_of}
 use Rattle.gnap_model.specs.Legal.{IsLegalPast, IsNext}
-use Rattle.gnap_model.proofs.Causes.{cause_of}
-use Rattle.gnap_model.proofs.AliveTokens.{HasNote}
-use Rattle.gnap_model.proofs.Doors.{first_of-append}
-use Rattle.gnap_model.proofs.Came.{note_cases}
-use Rattle.gnap_model.proofs.Opened.{EachNote, each-append, each_of, past_origins, opened_terms, issued_opened}
-use Rattle.gnap_model.proofs.Sound.{past_sound, note-append_right, note-append_left, note-reverse}
+use Rattle.gnap_laws.proofs.Causes.{cause_of}
+use Rattle.gnap_model.proofs.TrailNotes.{HasNote, note-append_right, note-append_left, note-reverse, EachNote, each-append, each_of}
+use Rattle.gnap_model.proofs.LookUps.{first_of-append}
+use Rattle.gnap_laws.proofs.Came.{note_cases}
+use Rattle.gnap_laws.proofs.Opened.{past_origins, opened_terms, issued_opened}
+use Rattle.gnap_laws.proofs.Sound.{past_sound}
 use Rattle.gnap_tables.specs.Tables.{tables_of, after_notes}
 use Rattle.gnap_tables.specs.AddableNotes.{CanFollow, CanAllFollow}
 use Rattle.gnap_tables.proofs.Lists.{reverse-cons}
@@ -103,12 +103,6 @@ grant_doored supply o before asks notes h =
     (each-append (HasDoorNote notes) before (map Issued (tokens_for supply o asks 0)) h (tokens_doored notes supply o asks 0)) (tt, tt)
 
 action_doored : (supply : Supply) (action : Action) → EachNote (HasDoorNote (outcome_of supply action).notes) (outcome_of supply action).notes
-action_doored supply (Refuse code) = tt
-action_doored supply (ShowToken access t) = tt
-action_doored supply ShowInactive = tt
-action_doored supply LapseAction = tt
-action_doored supply (ShowRound r w o) = tt
-action_doored supply (ShowHandle r) = tt
 action_doored supply (TakeDecision r rights request) = (tt, tt)
 action_doored supply (OpenAtOnce o request) =
     grant_doored supply o (Opened o ∷ Terms (terms_for o request) ∷ Approved o.grant [] ∷ []) request.asks (outcome_of supply (OpenAtOnce o request)).notes
@@ -127,8 +121,8 @@ action_doored supply (ModifyAsking o retired request modes) =
     (retire_doored _ retired (Terms (terms_for o request) ∷ []) (tt, tt)) (tt, (tt, tt))
 action_doored supply (CancelGrant o) = (tt, tt)
 action_doored supply (RotateToken o t) = (tt, (tt, tt))
-action_doored supply (RevokeToken t true) = tt
 action_doored supply (RevokeToken t false) = (tt, tt)
+action_doored supply _ = tt
 
 abbrev HasDoor : ℕ → List Note → Type 0
 HasDoor g ns = (v : Text) × (first_of (door_in g) ns ≡ Some v)

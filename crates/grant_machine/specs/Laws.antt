@@ -6,13 +6,13 @@ use Rattle.gnap_model.specs.Common.{Text, AreDistinct}
 use Rattle.gnap_model.specs.Keys.{key_of, server_names}
 use Rattle.gnap_model.specs.Judging.{serves_all, active}
 use Rattle.gnap_model.specs.Limits.{wrong_limit}
-use Rattle.gnap_model.specs.Laws.{IsWithinLimits}
+use Rattle.gnap_laws.specs.Laws.{IsWithinLimits}
 use Rattle.gnap_model.specs.Standing.{grant_state, wrongs_of, round_by_code}
 use Rattle.gnap_model.specs.Standing.GrantState.{IsPending}
 use Rattle.gnap_model.specs.declared.notes.RoundNote.{RoundNote}
 use Rattle.gnap_model.specs.declared.notes.Note.TheVariants.{Pended}
-use Rattle.gnap_model.specs.Refusals.{HasCause}
-use Rattle.gnap_model.specs.Provenance.{is_active, tells_all, drawn_by, IsOnce, IsRefusedAfter}
+use Rattle.gnap_laws.specs.Refusals.{HasCause}
+use Rattle.gnap_laws.specs.Provenance.{is_active, tells_all, drawn_by, IsOnce, IsRefusedAfter}
 use Rattle.gnap_model.specs.declared.calls.Call.TheVariants.{Introspect}
 use Rattle.gnap_model.specs.declared.calls.Reply.TheVariants.{Error}
 use Rattle.gnap_model.specs.declared.objects.ErrorCode.{ErrorCode}

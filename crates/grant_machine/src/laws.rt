@@ -5,7 +5,7 @@ ghost use Rattle.grant_machine.specs.Gnap.{gnap};
 ghost use Rattle.grant_machine.specs.Laws.{WhatHolds};
 
 use crate::machine::Gnap;
-use gnap_model::laws::{
+use gnap_laws::laws::{
     doors_open_once, drawn_codes_are_free, drawn_values_differ, limits_hold, refusals_have_causes,
     says_active, tells_what_came, wrong_references_are_few,
 };

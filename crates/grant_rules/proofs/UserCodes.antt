@@ -6,7 +6,7 @@ use Rattle.std.proofs.Math.Nat.{mod-mod, mod-add-mod, mod-eq_of_lt}
 use Rattle.std.proofs.lemmas.List.{length-reverse}
 use Rattle.gnap_model.specs.Common.{Text, same_text}
 use Rattle.gnap_model.specs.Values.{code_text, code_count, free_code}
-use Rattle.gnap_model.proofs.AliveTokens.{any-reverse}
+use Rattle.gnap_model.proofs.LookUps.{any-reverse}
 
 pub free_code-mod : (tries number : ℕ) (taken : List Text) → free_code tries (number % code_count) taken ≡ free_code tries number taken
 free_code-mod zero number taken = ap code_text (mod-mod number code_count)

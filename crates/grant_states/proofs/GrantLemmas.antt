@@ -13,7 +13,7 @@ use Rattle.std.proofs.lemmas.Bool.{cases_lt, eqb-true}
 use Rattle.std.proofs.lemmas.Slice.Eq.{bytes_eq-Decides}
 use Rattle.gnap_model.specs.Common.{Text, same_text, some_if}
 use Rattle.gnap_model.specs.Values.{value_text}
-use Rattle.gnap_model.proofs.Doors.{some_if_some}
+use Rattle.gnap_model.proofs.LookUps.{some_if_some}
 use Rattle.gnap_tables.specs.declared.rows.GrantRow.{GrantRow}
 use Rattle.gnap_tables.specs.Tables.{drop_grant, has_grant, change_grant, with_door}
 use Rattle.gnap_tables.specs.RowSearches.{row_by_number, row_by_door}

@@ -4,7 +4,7 @@ use Rattle.std.specs.Prelude.{slice_get, is_some, option_map, ◌||◌}
 use Rattle.std.specs.Option.{option_or}
 use Rattle.std.specs.List.{All, list_any}
 use Rattle.gnap_model.specs.Common.{first_of, some_if}
-use Rattle.gnap_model.proofs.Doors.{some_if_some, option_or_cases}
+use Rattle.gnap_model.proofs.LookUps.{some_if_some, option_or_cases}
 use Rattle.gnap_tables.specs.RowSearches.{newest}
 use Rattle.gnap_tables.proofs.Lists.{HasItem, reverse-cons, any_found}
 

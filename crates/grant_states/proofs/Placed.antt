@@ -7,7 +7,7 @@ use Rattle.std.proofs.lemmas.List.{length-map, get_or-map}
 use Rattle.std.proofs.lemmas.Bool.{cases_lt, eqb-true}
 use Rattle.std.proofs.lemmas.Bool.Decides.{Decides-eqb}
 use Rattle.gnap_model.specs.Common.{some_if}
-use Rattle.gnap_model.proofs.Doors.{some_if_some}
+use Rattle.gnap_model.proofs.LookUps.{some_if_some}
 use Rattle.gnap_tables.specs.RowSearches.{newest}
 use Rattle.gnap_tables.proofs.Lists.{HasItem}
 use Rattle.ordered_search.specs.Order.{IsAscending, IsPlaceOf}

@@ -10,8 +10,7 @@ use Rattle.json_objects.specs.Reading.{◌>>=◌, each}
 use Rattle.gnap_model.specs.declared.calls.TokenOut.{TokenOut}
 use Rattle.gnap_model.specs.declared.objects.ErrorCode.{ErrorCode}
 use Rattle.gnap_model.specs.declared.objects.ErrorCode.TheVariants as code
-use Rattle.gnap_model.specs.Codes.{error_text}
-use Rattle.gnap_replies.specs.Errors.{error_status}
+use Rattle.gnap_model.specs.Codes.{error_text, error_status}
 use Rattle.reply_readers.specs.declared.members.FormFault.{FormFault}
 use Rattle.reply_readers.specs.declared.members.FormFault.TheVariants as faults
 use Rattle.reply_readers.specs.declared.grant_reply.Interaction.{Interaction}

@@ -10,7 +10,6 @@ ghost use Rattle.reply_readers.specs.Grants.{code_named, refused_of};
 use crate::grant_reply::GrantReply;
 use crate::members::{FormFault, needed, needed_text};
 use gnap_model::objects::ErrorCode;
-use gnap_replies::errors::error_status;
 use serde_json::Value;
 use std::alloc::Global;
 
@@ -66,7 +65,7 @@ pub(crate) fn refused_of(alloc: Global, status: u16, value: &Value) -> Result<Gr
     let error = needed(value, "error")?;
     let text = needed_text(alloc, error, "code")?;
     let code = code_named(text.as_slice())?;
-    if status == error_status(code) {
+    if status == code.status() {
         Ok(GrantReply::Refused { code })
     } else {
         Err(FormFault::NotOfForm)

@@ -15,8 +15,8 @@ use Rattle.gnap_model.specs.declared.notes.TermsNote.{TermsNote}
 use Rattle.gnap_model.specs.declared.notes.TokenNote.{TokenNote}
 use Rattle.gnap_model.specs.declared.notes.Note.{Note}
 use Rattle.gnap_model.specs.declared.notes.Note.TheVariants.{Terms, Approved, Door, Issued, Pended}
-use Rattle.gnap_model.proofs.NoteCounts.{grant_skipped, pend_skipped, retire_skipped}
-use Rattle.gnap_model.proofs.Serials.{grant_values, pend_values, retired_none}
+use Rattle.gnap_laws.proofs.NoteCounts.{grant_skipped, pend_skipped, retire_skipped}
+use Rattle.gnap_laws.proofs.Serials.{grant_values, pend_values, retired_none}
 use Rattle.gnap_tables.specs.declared.rows.GrantRow.{GrantRow}
 use Rattle.gnap_tables.specs.declared.rows.Round.{Round}
 use Rattle.gnap_tables.specs.Rows.{round_row}

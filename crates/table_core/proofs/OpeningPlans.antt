@@ -17,8 +17,8 @@ use Rattle.gnap_model.specs.declared.calls.Reply.{Reply}
 use Rattle.gnap_model.specs.declared.notes.OpeningNote.{OpeningNote}
 use Rattle.gnap_model.specs.declared.notes.Note.{Note}
 use Rattle.gnap_model.specs.declared.notes.Note.TheVariants.{Opened, Terms, Approved}
-use Rattle.gnap_model.proofs.NoteCounts.{grant_skipped, pend_skipped}
-use Rattle.gnap_model.proofs.Serials.{grant_values, pend_values}
+use Rattle.gnap_laws.proofs.NoteCounts.{grant_skipped, pend_skipped}
+use Rattle.gnap_laws.proofs.Serials.{grant_values, pend_values}
 use Rattle.gnap_tables.specs.declared.rows.GrantRow.{GrantRow}
 use Rattle.gnap_tables.specs.declared.rows.TokenRow.{TokenRow}
 use Rattle.gnap_tables.specs.Tables.{new_grant, new_token, with_door, with_round, with_terms}

@@ -24,8 +24,8 @@ use Rattle.gnap_model.specs.declared.notes.OpeningNote.{OpeningNote}
 use Rattle.gnap_model.specs.declared.notes.DecisionNote.{DecisionNote}
 use Rattle.gnap_model.specs.declared.notes.Note.{Note}
 use Rattle.gnap_model.specs.declared.notes.Note.TheVariants.{Approved, Door, Issued}
-use Rattle.gnap_model.proofs.NoteCounts.{SkipsCommon, grant_skipped}
-use Rattle.gnap_model.proofs.Serials.{tokens_length, grant_values}
+use Rattle.gnap_laws.proofs.NoteCounts.{SkipsCommon, grant_skipped}
+use Rattle.gnap_laws.proofs.Serials.{tokens_length, grant_values}
 use Rattle.gnap_tables.specs.declared.rows.GrantRow.{GrantRow}
 use Rattle.gnap_tables.specs.declared.rows.TokenRow.{TokenRow}
 use Rattle.gnap_tables.specs.declared.rows.Round.{Round}

@@ -19,11 +19,11 @@ use Rattle.gnap_model.specs.declared.calls.Call.{Call}
 use Rattle.gnap_model.specs.declared.notes.OpeningNote.{OpeningNote}
 use Rattle.gnap_model.specs.declared.notes.Note.{Note}
 use Rattle.gnap_model.specs.declared.notes.Note.TheVariants.{Opened, Terms, Approved, Issued, Door, Pended, DecidedAs, Finalized, Wrong, Retired}
-use Rattle.gnap_model.proofs.AliveTokens.{HasNote, each_of}
-use Rattle.gnap_model.proofs.Bound.{AllTermsFit, past_fits}
-use Rattle.gnap_model.proofs.Causes.{chosen}
-use Rattle.gnap_model.proofs.NewestFirst.{legal_past, trail-back}
-use Rattle.gnap_model.proofs.NoteCounts.{SkipsCommon, count-append, count-reverse, grant_skipped, pend_skipped, retire_skipped}
+use Rattle.gnap_model.proofs.TrailNotes.{HasNote, each_of}
+use Rattle.gnap_laws.proofs.Bound.{AllTermsFit, past_fits}
+use Rattle.gnap_laws.proofs.Causes.{chosen}
+use Rattle.gnap_laws.proofs.NewestFirst.{legal_past, trail-back}
+use Rattle.gnap_laws.proofs.NoteCounts.{SkipsCommon, count-append, count-reverse, grant_skipped, pend_skipped, retire_skipped}
 use Rattle.gnap_tables.specs.declared.rows.GrantRow.{GrantRow}
 use Rattle.gnap_tables.specs.declared.rows.TokenRow.{TokenRow}
 use Rattle.gnap_tables.specs.Rows.{asks_of, grant_row, grant_row_in, grant_rows}

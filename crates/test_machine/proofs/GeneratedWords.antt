@@ -22,7 +22,7 @@ use Rattle.gnap_model.specs.declared.notes.Note.TheVariants.{Opened, Terms, Issu
 use Rattle.gnap_model.specs.Notes.{Event, trail_of}
 use Rattle.gnap_model.specs.Standing.{live_token}
 use Rattle.gnap_model.specs.Actions.{Outcome}
-use Rattle.gnap_model.specs.Provenance.{came}
+use Rattle.gnap_laws.specs.Provenance.{came}
 use Rattle.test_machine.proofs.ExampleHistories.{Line, played}
 
 abbrev pub out : Reply → List Note → Outcome

@@ -5,7 +5,7 @@ use Rattle.base64.specs.Rfc4648.{encode_symbols}
 use Rattle.gnap_model.specs.Values.{value_text, code_text}
 use Rattle.gnap_model.specs.declared.objects.Verdict.TheVariants.{Grant}
 use Rattle.gnap_model.specs.declared.calls.Call.TheVariants.{Begin, Modify, Cancel, Rotate, Revoke}
-use Rattle.gnap_model.specs.Provenance.{tells_all}
+use Rattle.gnap_laws.specs.Provenance.{tells_all}
 use Rattle.test_machine.proofs.ExampleHistories.{Line, at, played, setup, for_photos, by_code, photos, mail, ask_for, c1, c2, begin, introspect, continue, decide, v1, v2, v3, v4, v5, v6, v7, v8, v9}
 
 -- every value is asked for

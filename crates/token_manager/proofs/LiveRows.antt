@@ -4,7 +4,7 @@ use Rattle.std.specs.Prelude.{◌&&◌}
 use Rattle.std.specs.Option.{option_and_then}
 use Rattle.std.proofs.lemmas.Slice.Eq.{bytes_eq-Decides}
 use Rattle.gnap_model.specs.Common.{Text, same_text, some_if}
-use Rattle.gnap_model.proofs.Doors.{some_if_some}
+use Rattle.gnap_model.proofs.LookUps.{some_if_some}
 use Rattle.gnap_model.proofs.ValueTexts.{value_text_injective}
 use Rattle.gnap_tables.specs.declared.rows.GrantRow.{GrantRow}
 use Rattle.gnap_tables.specs.declared.rows.TokenRow.{TokenRow}

@@ -1,7 +1,7 @@
 use Rattle.std.proofs.Common.{◌∙◌, List, ap, subst}
 use Rattle.histories.specs.History.{Legal, now, notes_of}
 use Rattle.gnap_model.specs.Answer.{gnap_answer}
-use Rattle.gnap_model.specs.Provenance.{is_active}
+use Rattle.gnap_laws.specs.Provenance.{is_active}
 use Rattle.gnap_model.specs.declared.calls.Call.{Call}
 use Rattle.gnap_model.specs.Legal.{grant_law}
 use Rattle.grant_machine.specs.Gnap.{GnapEntry}

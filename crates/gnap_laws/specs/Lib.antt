@@ -1,0 +1,4 @@
+pub mod Types
+pub mod Provenance
+pub mod Refusals
+pub mod Laws

@@ -1,0 +1,20 @@
+-- The types of `gnap_model` that the laws and their proofs speak of, under one name.
+pub use Rattle.gnap_model.specs.declared.rights.Right.{Right}
+pub use Rattle.gnap_model.specs.declared.objects.Finish.{Finish}
+pub use Rattle.gnap_model.specs.declared.objects.Binding.{Binding}
+pub use Rattle.gnap_model.specs.declared.objects.Setup.{Setup}
+pub use Rattle.gnap_model.specs.declared.objects.Modes.{Modes}
+pub use Rattle.gnap_model.specs.declared.objects.Ask.{Ask}
+pub use Rattle.gnap_model.specs.declared.objects.Verdict.{Verdict}
+pub use Rattle.gnap_model.specs.declared.objects.GrantRequest.{GrantRequest}
+pub use Rattle.gnap_model.specs.declared.objects.ErrorCode.{ErrorCode}
+pub use Rattle.gnap_model.specs.declared.calls.Call.{Call}
+pub use Rattle.gnap_model.specs.declared.calls.FinishOut.{FinishOut}
+pub use Rattle.gnap_model.specs.declared.calls.TokenOut.{TokenOut}
+pub use Rattle.gnap_model.specs.declared.calls.Reply.{Reply}
+pub use Rattle.gnap_model.specs.declared.notes.Note.{Note}
+pub use Rattle.gnap_model.specs.declared.notes.TermsNote.{TermsNote}
+pub use Rattle.gnap_model.specs.declared.notes.OpeningNote.{OpeningNote}
+pub use Rattle.gnap_model.specs.declared.notes.TokenNote.{TokenNote}
+pub use Rattle.gnap_model.specs.declared.notes.RoundNote.{RoundNote}
+pub use Rattle.gnap_model.specs.declared.notes.DecisionNote.{DecisionNote}

@@ -1,5 +1,0 @@
-use Rattle.gnap_model.proofs.Covering.{covers_includes}
-use Rattle.gnap_model.proofs.laws.covers_is_inclusion.Goals as goal
-
-pub returns : goal.returns
-returns c = covers_includes

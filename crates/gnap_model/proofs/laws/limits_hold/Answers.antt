@@ -1,5 +1,0 @@
-use Rattle.gnap_model.proofs.WithinLimits.{history_within}
-use Rattle.gnap_model.proofs.laws.limits_hold.Goals as goal
-
-pub returns : goal.returns
-returns c = history_within
