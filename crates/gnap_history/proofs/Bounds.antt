@@ -28,15 +28,7 @@ at_most_one false = omega arith
 
 live_opening : (whole : List Note) (now : ℕ) (note : Note) → cond (is_live_opening whole now note) 1 0 ≤ cond (is_opening note) 1 0
 live_opening whole now (Opened o) = at_most_one (not (is_finalized (grant_state whole o.grant now)))
-live_opening whole now (Terms t) = omega arith
-live_opening whole now (Approved g consent) = omega arith
-live_opening whole now (Issued t) = omega arith
-live_opening whole now (Door g value earliest) = omega arith
-live_opening whole now (Pended r) = omega arith
-live_opening whole now (DecidedAs d) = omega arith
-live_opening whole now (Finalized g) = omega arith
-live_opening whole now (Wrong g) = omega arith
-live_opening whole now (Retired s why) = omega arith
+live_opening whole now _ = omega arith
 
 live_openings : (whole : List Note) (now : ℕ) (trail : List Note) → count_by (is_live_opening whole now) trail ≤ count_by is_opening trail
 live_openings whole now [] = omega arith
@@ -60,15 +52,7 @@ token_some test p weaker (Issued t) xs = let le = weaker t in some_few (test t) 
     some_few : (b : Bool) (t : TokenNote) (xs : List TokenNote) (n : ℕ) → cond b 1 0 ≤ n → length (cons_option (some_if b t) xs) ≤ n + length xs
     some_few true t xs n le = omega arith
     some_few false t xs n le = omega arith
-token_some test p weaker (Opened o) xs = omega arith
-token_some test p weaker (Terms t) xs = omega arith
-token_some test p weaker (Approved g consent) xs = omega arith
-token_some test p weaker (Door g value earliest) xs = omega arith
-token_some test p weaker (Pended r) xs = omega arith
-token_some test p weaker (DecidedAs d) xs = omega arith
-token_some test p weaker (Finalized g) xs = omega arith
-token_some test p weaker (Wrong g) xs = omega arith
-token_some test p weaker (Retired s why) xs = omega arith
+token_some test p weaker _ xs = omega arith
 
 tokens_found : (test : TokenNote → Bool) (p : Note → Bool) → ((t : TokenNote) → cond (test t) 1 0 ≤ cond (p (Issued t)) 1 0)
     → (trail : List Note) → length (filter_map (token_in test) trail) ≤ count_by p trail
@@ -126,11 +110,9 @@ not_over now (Approved h consent ∷ trail) g on =
 not_over now (Terms t ∷ trail) g on = not_over now trail g on
 not_over now (Issued t ∷ trail) g on = not_over now trail g on
 not_over now (Door h value earliest ∷ trail) g on = not_over now trail g on
-not_over now (Pended r ∷ trail) g on = cc on
 not_over now (DecidedAs d ∷ trail) g on = not_over now trail g on
-not_over now (Finalized h ∷ trail) g on = cc on
 not_over now (Wrong h ∷ trail) g on = not_over now trail g on
-not_over now (Retired s why ∷ trail) g on = cc on
+not_over now _ g on = cc on
 
 state_on : (change : Option StateChange) (now : ℕ) → ((r : RoundNote) → change ≡ Some (ToPending r) → ⊥) → state_after change now ≡ IsApproved
 state_on (Some (ToPending r)) now none = absurd (none r refl)
@@ -153,15 +135,7 @@ counted_alike p q alike (note ∷ notes) =
 
 live_alike : (whole : List Note) (now : ℕ) → ((g : ℕ) → grant_state whole g now ≡ IsApproved) → (note : Note) → is_live_opening whole now note ≡ is_opening note
 live_alike whole now on (Opened o) = rw (on o.grant) refl
-live_alike whole now on (Terms t) = refl
-live_alike whole now on (Approved g consent) = refl
-live_alike whole now on (Issued t) = refl
-live_alike whole now on (Door g value earliest) = refl
-live_alike whole now on (Pended r) = refl
-live_alike whole now on (DecidedAs d) = refl
-live_alike whole now on (Finalized g) = refl
-live_alike whole now on (Wrong g) = refl
-live_alike whole now on (Retired s why) = refl
+live_alike whole now on _ = refl
 
 all-reverse : (p : Note → Bool) (notes : List Note) → list_all p notes ≡ true → list_all p (reverse notes) ≡ true
 all-reverse p [] on = refl
@@ -184,11 +158,9 @@ not_retired now (Terms t ∷ trail) serial on = not_retired now trail serial on
 not_retired now (Approved h consent ∷ trail) serial on = not_retired now trail serial on
 not_retired now (Issued t ∷ trail) serial on = not_retired now trail serial on
 not_retired now (Door h value earliest ∷ trail) serial on = not_retired now trail serial on
-not_retired now (Pended r ∷ trail) serial on = cc on
 not_retired now (DecidedAs d ∷ trail) serial on = not_retired now trail serial on
-not_retired now (Finalized h ∷ trail) serial on = cc on
 not_retired now (Wrong h ∷ trail) serial on = not_retired now trail serial on
-not_retired now (Retired s why ∷ trail) serial on = cc on
+not_retired now _ serial on = cc on
 
 middle_of : (a b c : Bool) → a ≡ true → c ≡ true → (a && b && c) ≡ b
 middle_of true true true is also = refl
@@ -211,15 +183,7 @@ token_each now test is (Issued t) xs = some_counted (test t) (nat_lt now t.until
     some_counted false false same = omega arith
     some_counted true false same = cc same
     some_counted false true same = cc same
-token_each now test is (Opened o) xs = omega arith
-token_each now test is (Terms t) xs = omega arith
-token_each now test is (Approved g consent) xs = omega arith
-token_each now test is (Door g value earliest) xs = omega arith
-token_each now test is (Pended r) xs = omega arith
-token_each now test is (DecidedAs d) xs = omega arith
-token_each now test is (Finalized g) xs = omega arith
-token_each now test is (Wrong g) xs = omega arith
-token_each now test is (Retired s why) xs = omega arith
+token_each now test is _ xs = omega arith
 
 tokens_each : (now : ℕ) (test : TokenNote → Bool) → ((t : TokenNote) → test t ≡ nat_lt now t.until)
     → (trail : List Note) → length (filter_map (token_in test) trail) ≡ count_by (is_unexpired now) trail
@@ -246,15 +210,7 @@ is_there false t = refl
 other_alike : (trail : List Note) (now : ℕ) (o : OpeningNote) (note : Note)
     → issues (λ token. is_live trail now token && not (token.grant == o.grant)) note ≡ is_live_elsewhere trail now o.grant note
 other_alike trail now o (Issued t) = is_there (is_live trail now t && not (t.grant == o.grant)) t
-other_alike trail now o (Opened opening) = refl
-other_alike trail now o (Terms t) = refl
-other_alike trail now o (Approved g consent) = refl
-other_alike trail now o (Door g value earliest) = refl
-other_alike trail now o (Pended r) = refl
-other_alike trail now o (DecidedAs d) = refl
-other_alike trail now o (Finalized g) = refl
-other_alike trail now o (Wrong g) = refl
-other_alike trail now o (Retired s why) = refl
+other_alike trail now o _ = refl
 
 -- The live tokens of other grants, as they are counted from the oldest note on.
 pub other_live_tokens-count : (notes : List Note) (now : ℕ) (o : OpeningNote)

@@ -25,16 +25,9 @@ option_few None = omega arith
 option_few (Some x) = omega arith
 
 few_in_note : (note : Note) → length (note_values note) ≤ 2
-few_in_note (Issued t) = omega arith
-few_in_note (Door g value earliest) = omega arith
 few_in_note (Pended r) = let few = option_few r.nonce in omega arith
 few_in_note (DecidedAs d) = let few = option_few d.reference in omega arith
-few_in_note (Opened o) = omega arith
-few_in_note (Terms t) = omega arith
-few_in_note (Approved g consent) = omega arith
-few_in_note (Finalized g) = omega arith
-few_in_note (Wrong g) = omega arith
-few_in_note (Retired s why) = omega arith
+few_in_note _ = omega arith
 
 -- A note has at most two values.
 pub value_count-le : (notes : List Note) → value_count notes ≤ 2 * length notes

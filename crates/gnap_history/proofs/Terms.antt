@@ -45,17 +45,11 @@ changed_few call request is few = subst HasFewAsks is.2 few
 
 outcome_few : (supply : Supply) (trail : List Note) (call : Call) (action : Action) → Cause trail supply.now call action → HasFewAsks call
     → AskForFew (outcome_of supply action).notes
-outcome_few supply trail call (Refuse code) cause few = tt
-outcome_few supply trail call (ShowToken access token) cause few = tt
-outcome_few supply trail call ShowInactive cause few = tt
-outcome_few supply trail call LapseAction cause few = tt
 outcome_few supply trail call (OpenAtOnce o request) cause few =
     grant_few supply o (Opened o ∷ Terms (terms_for o request) ∷ Approved o.grant [] ∷ []) request.asks request.single None (instance_of o)
     (tt, (asked_few call request cause.1 few, (tt, tt)))
 outcome_few supply trail call (OpenAsking o request modes) cause few =
     pending_few supply o (Opened o ∷ Terms (terms_for o request) ∷ []) modes (instance_of o) (tt, (asked_few call request cause.1 few, tt))
-outcome_few supply trail call (ShowRound round terms o) cause few = tt
-outcome_few supply trail call (ShowHandle round) cause few = tt
 outcome_few supply trail call (TakeDecision round rights request) cause few = (tt, tt)
 outcome_few supply trail call (RenewDoor o) cause few = (tt, tt)
 outcome_few supply trail call (CollectDecision o terms decision asks) cause few =
@@ -72,6 +66,7 @@ outcome_few supply trail call (ModifyAsking o retired request modes) cause few =
 outcome_few supply trail call (CancelGrant o) cause few = (tt, tt)
 outcome_few supply trail call (RotateToken o token) cause few = (tt, (tt, tt))
 outcome_few supply trail call (RevokeToken token was_retired) cause few = if_both AskForFew was_retired [] _ tt (tt, tt)
+outcome_few supply trail call _ cause few = tt
 
 -- The notes of a call that asks for few tokens ask for few.
 pub answer_few : (rules : Setup) (notes : List Note) (at : ℕ) (draw : List ℕ) (call : Call) → HasFewAsks call → AskForFew (gnap_answer rules notes at draw call).notes
