@@ -13,7 +13,7 @@ LABEL = "sig1"
 
 
 def _byte_sequence(data: bytes) -> str:
-    """A byte sequence as a structured field shows it (RFC 8941, section 3.3.5)."""
+    """A byte sequence as a structured field shows it (RFC 9651, section 3.3.5)."""
     return f":{base64.b64encode(data).decode()}:"
 
 

@@ -7,7 +7,7 @@ use Rattle.base64.specs.Engines.{standard}
 use Rattle.sha2.specs.Sha256.{sha256}
 use Rattle.sha2.specs.Sha512.{sha512}
 use Rattle.structured_fields.specs.declared.bare.Bare.{Bare}
-use Rattle.structured_fields.specs.declared.bare.Bare.TheVariants.{Integer, Decimal, Str, Token, Binary, Boolean}
+use Rattle.structured_fields.specs.declared.bare.Bare.TheVariants.{Integer, Decimal, Str, Token, Binary, Boolean, Date, Display}
 use Rattle.structured_fields.specs.declared.item.Member.{Member}
 use Rattle.structured_fields.specs.declared.item.Member.TheVariants.{Item as Single, Inner}
 
@@ -33,6 +33,8 @@ binary_of (Str s) = None
 binary_of (Token s) = None
 binary_of (Binary b) = Some b
 binary_of (Boolean b) = None
+binary_of (Date n) = None
+binary_of (Display s) = None
 
 -- the bytes of a member that is a byte sequence, whatever its parameters
 abbrev pub sequence_of : Member → Option (List ℕ)

@@ -6,7 +6,7 @@ use Rattle.std.proofs.lemmas.Bool.{and_parts, or_cases, or_left, or_right, not-t
 use Rattle.std.proofs.lemmas.Option.{option_and_then_some}
 use Rattle.bytes_and_lists.specs.declared.message.Message.{Message}
 use Rattle.structured_fields.specs.declared.bare.Bare.{Bare}
-use Rattle.structured_fields.specs.declared.bare.Bare.TheVariants.{Integer, Decimal, Str, Token, Binary, Boolean}
+use Rattle.structured_fields.specs.declared.bare.Bare.TheVariants.{Integer, Decimal, Str, Token, Binary, Boolean, Date, Display}
 use Rattle.structured_fields.specs.declared.item.Item.{Item}
 use Rattle.structured_fields.specs.declared.item.InnerList.{InnerList}
 use Rattle.structured_fields.specs.declared.item.Member.{Member}
@@ -51,6 +51,8 @@ name_is_string item name h = by item.bare refl
     by (Token s) e = absurd cc
     by (Binary s) e = absurd cc
     by (Boolean t) e = absurd cc
+    by (Date n) e = absurd cc
+    by (Display t) e = absurd cc
 
 line_is_of_string : (m : Message) (base : List ℕ) (item : Item) (others : List Item) (line : List ℕ) → line_of m base item others ≡ Some line → is_any_string item.bare ≡ true
 line_is_of_string m base item others line h = option_and_then_some _ (name_of item) line h (λ name named rest. name_is_string item name named)

@@ -6,7 +6,7 @@ use Rattle.std.proofs.lemmas.Slice.Eq.{bytes_eq-Decides}
 use Rattle.std.proofs.lemmas.Bool.{leb-true, and_parts}
 use Rattle.std.proofs.lemmas.Bool.Decides.{nat_tests}
 use Rattle.structured_fields.specs.declared.bare.Bare.{Bare}
-use Rattle.structured_fields.specs.declared.bare.Bare.TheVariants.{Integer, Decimal, Str, Token, Binary, Boolean}
+use Rattle.structured_fields.specs.declared.bare.Bare.TheVariants.{Integer, Decimal, Str, Token, Binary, Boolean, Date, Display}
 use Rattle.structured_fields.specs.Named.{value_at}
 use Rattle.structured_fields.proofs.Fronts.{some_is}
 use Rattle.message_signature.specs.Base.{is_string}
@@ -22,6 +22,8 @@ string_decides s (Decimal n) = (λ h. absurd cc, λ e. absurd cc)
 string_decides s (Token t) = (λ h. absurd cc, λ e. absurd cc)
 string_decides s (Binary b) = (λ h. absurd cc, λ e. absurd cc)
 string_decides s (Boolean b) = (λ h. absurd cc, λ e. absurd cc)
+string_decides s (Date n) = (λ h. absurd cc, λ e. absurd cc)
+string_decides s (Display t) = (λ h. absurd cc, λ e. absurd cc)
 
 pub text_decides : (s : List ℕ) (o : Option Bare) → Decides (is_text s o) (o ≡ Some (Str s))
 text_decides s (Some v) = (λ h. ap (λ (w : Bare). Some w) ((string_decides s v).0 h), λ e. let same : v ≡ Str s = cc in (string_decides s v).1 same)
@@ -62,6 +64,8 @@ window_says now (Some (Str s)) h = absurd cc
 window_says now (Some (Token s)) h = absurd cc
 window_says now (Some (Binary b)) h = absurd cc
 window_says now (Some (Boolean b)) h = absurd cc
+window_says now (Some (Date n)) h = absurd cc
+window_says now (Some (Display t)) h = absurd cc
 window_says now None h = absurd cc
 
 pub window_passes : (now : ℕ) (created : ℤ) → IsNear now created → is_in_window now (Some (Integer created)) ≡ true
@@ -80,6 +84,8 @@ expiry_says now (Some (Str s)) kind h = absurd cc
 expiry_says now (Some (Token s)) kind h = absurd cc
 expiry_says now (Some (Binary b)) kind h = absurd cc
 expiry_says now (Some (Boolean b)) kind h = absurd cc
+expiry_says now (Some (Date n)) kind h = absurd cc
+expiry_says now (Some (Display t)) kind h = absurd cc
 
 pub expiry_passes : (now : ℕ) (o : Option Bare) → IfSome o (EndsLater now) → (absent_or is_integer o ≡ true) × (is_not_expired now o ≡ true)
 expiry_passes now None later = (refl, refl)
@@ -109,6 +115,8 @@ key_says ring (Some (Decimal n)) key h = absurd cc
 key_says ring (Some (Token s)) key h = absurd cc
 key_says ring (Some (Binary b)) key h = absurd cc
 key_says ring (Some (Boolean b)) key h = absurd cc
+key_says ring (Some (Date n)) key h = absurd cc
+key_says ring (Some (Display t)) key h = absurd cc
 key_says ring None key h = absurd cc
 
 pub key_found : (ring : List (List ℕ × List ℕ)) (o : Option Bare) (id secret : List ℕ) → o ≡ Some (Str id) → value_at ring id ≡ Some secret → key_in ring o ≡ Some (id, secret)

@@ -5,7 +5,7 @@ use Rattle.std.specs.List.{list_any}
 use Rattle.std.specs.Str.{bytes_eq}
 use Rattle.bytes_and_lists.specs.declared.message.Message.{Message}
 use Rattle.structured_fields.specs.declared.bare.Bare.{Bare}
-use Rattle.structured_fields.specs.declared.bare.Bare.TheVariants.{Integer, Decimal, Str, Token, Binary, Boolean}
+use Rattle.structured_fields.specs.declared.bare.Bare.TheVariants.{Integer, Decimal, Str, Token, Binary, Boolean, Date, Display}
 use Rattle.structured_fields.specs.declared.item.Item.{Item}
 use Rattle.structured_fields.specs.declared.item.InnerList.{InnerList}
 use Rattle.structured_fields.specs.Reading.{◌>>=◌}
@@ -20,6 +20,8 @@ is_string s (Decimal n) = false
 is_string s (Token t) = false
 is_string s (Binary b) = false
 is_string s (Boolean b) = false
+is_string s (Date n) = false
+is_string s (Display t) = false
 
 -- an item names the component
 abbrev pub is_named : List ℕ → List Item → Bool

@@ -4,7 +4,7 @@ use Rattle.std.specs.List.{list_all}
 use Rattle.std.specs.Str.{bytes_eq}
 use Rattle.bytes_and_lists.specs.declared.message.Message.{Message}
 use Rattle.structured_fields.specs.declared.bare.Bare.{Bare}
-use Rattle.structured_fields.specs.declared.bare.Bare.TheVariants.{Integer, Decimal, Str, Token, Binary, Boolean}
+use Rattle.structured_fields.specs.declared.bare.Bare.TheVariants.{Integer, Decimal, Str, Token, Binary, Boolean, Date, Display}
 use Rattle.structured_fields.specs.declared.item.InnerList.{InnerList}
 use Rattle.structured_fields.specs.declared.item.Member.{Member}
 use Rattle.structured_fields.specs.declared.item.Member.TheVariants.{Item as Single, Inner}
@@ -63,6 +63,8 @@ is_integer (Str s) = false
 is_integer (Token s) = false
 is_integer (Binary b) = false
 is_integer (Boolean b) = false
+is_integer (Date n) = false
+is_integer (Display s) = false
 
 abbrev pub is_any_string : Bare → Bool
 is_any_string (Integer n) = false
@@ -71,6 +73,8 @@ is_any_string (Str s) = true
 is_any_string (Token s) = false
 is_any_string (Binary b) = false
 is_any_string (Boolean b) = false
+is_any_string (Date n) = false
+is_any_string (Display s) = false
 
 -- the parameter isn't there, or passes
 abbrev pub absent_or : (Bare → Bool) → Option Bare → Bool

@@ -1,12 +1,13 @@
 -- The front of a text that passes a test, and what is read behind it.
 use Rattle.std.proofs.Common.{◌≡◌, ℕ, suc, ◌+◌, ◌-◌, ◌≤◌, ◌==◌, Bool, true, false, not, cond, ◌&&◌, ◌||◌, ◌⊎◌, inl, inr, List, [], ◌∷◌, ◌++◌, length, take, drop, reverse, Option, Some, None, refl, sym, ap, ◌∙◌, arith, true≢false}
 use Rattle.std.specs.Prelude.{codes, nat_le}
+use Rattle.std.specs.Option.{option_map}
 use Rattle.std.specs.List.{prefix_len, list_all, list_any}
 use Rattle.std.proofs.lemmas.List.{length-reverse, length-drop, reverse-append, reverse-reverse, take_at, drop_at, take-append-drop}
 use Rattle.std.proofs.lemmas.Bool.{or_parts, not-true, not_from_false}
 use Rattle.std.proofs.lemmas.Bool.Decides.{nat_tests}
 use Rattle.structured_fields.specs.Letters.{is_digit, is_lower, is_letter, is_token_byte, is_key_byte}
-use Rattle.structured_fields.specs.Reading.{front, behind, begins}
+use Rattle.structured_fields.specs.Reading.{◌>>=◌, front, behind, begins}
 
 -- nothing that passes comes first
 abbrev pub stops : (ℕ → Bool) → List ℕ → Bool
@@ -50,6 +51,16 @@ some x = Some x
 
 pub some_is : {A : Type 0} (x y : A) → some x ≡ some y → x ≡ y
 some_is x y e = cc
+
+-- the value of a step that did not fail
+pub bind_some : {A B : Type 0} (r : Option A) (f : A → Option B) (y : B) → (r >>= f) ≡ Some y → (x : A) × (r ≡ Some x) × (f x ≡ Some y)
+bind_some (Some x) f y e = (x, refl, e)
+bind_some None f y e = absurd cc
+
+-- a value that option_map gives
+pub mapped : {A B : Type 0} (f : A → B) (o : Option A) (x : B) → option_map f o ≡ Some x → (y : A) × (o ≡ Some y) × (f y ≡ x)
+mapped f None x e = absurd cc
+mapped f (Some y) x e = (y, refl, some_is (f y) x e)
 
 -- a text that begins with c
 pub begun : (c : ℕ) (t : List ℕ) → begins c t ≡ true → t ≡ c ∷ drop 1 t

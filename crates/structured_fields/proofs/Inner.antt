@@ -9,9 +9,9 @@ use Rattle.structured_fields.specs.declared.item.InnerList.{InnerList}
 use Rattle.structured_fields.specs.Letters.{is_space}
 use Rattle.structured_fields.specs.Grammar.{IsItem, IsGap, IsInner, AreSeparated}
 use Rattle.structured_fields.specs.Reading.{◌>>=◌, behind, begins, item_at, params_at, is_item_end, items_from, items_at, inner_at}
-use Rattle.structured_fields.proofs.Fronts.{behind_again, chosen, given, some_is, begun}
+use Rattle.structured_fields.proofs.Fronts.{bind_some, behind_again, chosen, given, some_is, begun}
 use Rattle.structured_fields.proofs.Bares.{rest_bytes}
-use Rattle.structured_fields.proofs.Items.{bind_some, spaced, are_spaces, is_close, first_is, item_takes, item_again, params_at_takes, params_at_again}
+use Rattle.structured_fields.proofs.Items.{spaced, are_spaces, is_close, first_is, item_takes, item_again, params_at_takes, params_at_again}
 use Rattle.structured_fields.proofs.Opens.{is_plain, opens_more, opens_begins, opens_stops, opens_to, opens_some, plain_no_space, item_opens, count_separated}
 
 abbrev pub spaces : ℕ → List ℕ

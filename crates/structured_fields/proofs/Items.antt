@@ -1,5 +1,5 @@
 -- Parameters and items.
-use Rattle.std.proofs.Common.{◌≡◌, ℕ, zero, suc, ◌+◌, ◌≤◌, ◌==◌, Bool, true, false, not, cond, ◌||◌, ◌⊎◌, inl, inr, List, [], ◌∷◌, ◌++◌, length, replicate, drop, Option, Some, None, refl, sym, ap, subst, ◌∙◌, arith, append_assoc}
+use Rattle.std.proofs.Common.{◌≡◌, ℕ, zero, suc, ◌+◌, ◌≤◌, ◌==◌, Bool, true, false, not, cond, inl, inr, List, [], ◌∷◌, ◌++◌, length, replicate, drop, Option, Some, refl, sym, ap, subst, ◌∙◌, arith, append_assoc}
 use Rattle.std.specs.List.{prefix_len, list_all, list_any}
 use Rattle.std.proofs.lemmas.Bool.Decides.{nat_tests}
 use Rattle.std.proofs.lemmas.List.{length-append}
@@ -13,15 +13,10 @@ use Rattle.structured_fields.specs.declared.item.Item.{Item}
 use Rattle.structured_fields.specs.Letters.{is_space, is_key, is_key_start, is_token_byte, is_key_byte}
 use Rattle.structured_fields.specs.Grammar.{IsValue, IsGroup, AreGroups, AreParams, IsItem}
 use Rattle.structured_fields.specs.Reading.{◌>>=◌, front, behind, begins, key_at, bare_at, value_of, group_at, params_from, params_at, item_at}
-use Rattle.structured_fields.proofs.Fronts.{behind_again, parts, chosen, some_is, begun, ends, ends_key, stops}
+use Rattle.structured_fields.proofs.Fronts.{bind_some, behind_again, parts, chosen, some_is, begun, ends, ends_key, stops}
 use Rattle.structured_fields.proofs.Runs.{front_all}
 use Rattle.structured_fields.proofs.Entries.{over}
 use Rattle.structured_fields.proofs.Bares.{rest_bytes, key_takes, key_again, bare_takes, bare_text_again}
-
--- the value of a step that did not fail
-pub bind_some : {A B : Type 0} (r : Option A) (f : A → Option B) (y : B) → (r >>= f) ≡ Some y → (x : A) × (r ≡ Some x) × (f x ≡ Some y)
-bind_some (Some x) f y e = (x, refl, e)
-bind_some None f y e = absurd cc
 
 -- as many spaces as there are
 pub spaces_are : (t : List ℕ) → list_all is_space t ≡ true → t ≡ replicate (length t) 32

@@ -5,6 +5,7 @@ pub mod Fronts
 pub mod Numbers
 pub mod Base64
 pub mod Strings
+pub mod Displays
 pub mod Bares
 pub mod Items
 pub mod Loop

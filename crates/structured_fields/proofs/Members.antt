@@ -16,10 +16,10 @@ use Rattle.structured_fields.specs.declared.item.Member.TheVariants.{Item as Sin
 use Rattle.structured_fields.specs.Letters.{is_ows, is_key, is_key_start, is_key_byte}
 use Rattle.structured_fields.specs.Grammar.{IsComma, AreSeparated, IsMember, IsGiven, IsBareTrue, IsEntry}
 use Rattle.structured_fields.specs.Reading.{◌>>=◌, front, behind, begins, key_at, params_at, item_at, inner_at, member_at, entry_value_at, entry_at, next_at, members_from}
-use Rattle.structured_fields.proofs.Fronts.{behind_again, parts, chosen, given, some_is, begun, ends_key, stops}
+use Rattle.structured_fields.proofs.Fronts.{bind_some, mapped, behind_again, parts, chosen, given, some_is, begun, ends_key, stops}
 use Rattle.structured_fields.proofs.Runs.{front_all}
-use Rattle.structured_fields.proofs.Bares.{rest_bytes, mapped, key_takes, key_again}
-use Rattle.structured_fields.proofs.Items.{bind_some, is_close, first_is, follows_ends, follows_no_value, item_takes, item_again, params_at_takes, params_at_again, params_follow}
+use Rattle.structured_fields.proofs.Bares.{rest_bytes, key_takes, key_again}
+use Rattle.structured_fields.proofs.Items.{is_close, first_is, follows_ends, follows_no_value, item_takes, item_again, params_at_takes, params_at_again, params_follow}
 use Rattle.structured_fields.proofs.Opens.{Opens, is_plain, opens_more, opens_begins, opens_stops, opens_to, plain_no_ows, item_opens}
 use Rattle.structured_fields.proofs.Inner.{inner_takes, inner_again}
 

@@ -5,7 +5,7 @@ use Rattle.std.specs.List.{list_all, AllByRecursion}
 use Rattle.std.proofs.Math.Nat.{pow-le-pow_right, pow-suc}
 use Rattle.std.proofs.lemmas.Bool.Decides.{nat_tests}
 use Rattle.structured_fields.specs.declared.bare.Bare.{Bare}
-use Rattle.structured_fields.specs.declared.bare.Bare.TheVariants.{Integer, Decimal, Str, Token, Binary, Boolean}
+use Rattle.structured_fields.specs.declared.bare.Bare.TheVariants.{Integer, Decimal, Str, Token, Binary, Boolean, Date, Display}
 use Rattle.structured_fields.specs.declared.item.Item.{Item}
 use Rattle.structured_fields.specs.declared.item.InnerList.{InnerList}
 use Rattle.structured_fields.specs.declared.item.Member.{Member}
@@ -70,6 +70,8 @@ bare_range text (Str s) is = is.all
 bare_range text (Token s) is = is.0
 bare_range text (Binary b) is = is.bytes
 bare_range text (Boolean b) is = tt
+bare_range text (Date n) is = integer_range is.seconds n is.integer
+bare_range text (Display s) is = is.utf8
 
 value_range : (text : List ℕ) (v : Bare) → IsValue text v → IsInRange v
 value_range [] v is = subst IsInRange (sym is) tt

@@ -10,9 +10,9 @@ use Rattle.structured_fields.specs.declared.item.Member.{Member}
 use Rattle.structured_fields.specs.Letters.{is_space, is_ows}
 use Rattle.structured_fields.specs.Grammar.{IsItemText, IsComma, IsMember, IsEntry, AreMembersText, IsListText, IsDictionaryText}
 use Rattle.structured_fields.specs.Reading.{◌>>=◌, behind, item_at, member_at, entry_at, members_from, members_of, with_last, with_entry, item_of, list_of, dictionary_of}
-use Rattle.structured_fields.proofs.Fronts.{behind_again, chosen, given, some_is, stops}
+use Rattle.structured_fields.proofs.Fronts.{bind_some, behind_again, chosen, given, some_is, stops}
 use Rattle.structured_fields.proofs.Bares.{rest_bytes}
-use Rattle.structured_fields.proofs.Items.{bind_some, spaced, are_spaces, is_close, first_is, item_takes, item_again}
+use Rattle.structured_fields.proofs.Items.{spaced, are_spaces, is_close, first_is, item_takes, item_again}
 use Rattle.structured_fields.proofs.Opens.{Opens, is_plain, opens_more, opens_stops, opens_to, opens_some, plain_no_space, item_opens, count_separated}
 use Rattle.structured_fields.proofs.Members.{TakesMember, members_take, members_again, member_takes, member_again, member_opens, entry_takes, entry_again, entry_opens}
 

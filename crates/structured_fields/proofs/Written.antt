@@ -1,7 +1,7 @@
 -- The canonical text of a value in range is a text of it.
 use Rattle.std.proofs.Common.{◌≡◌, ℕ, zero, suc, ◌+◌, ◌-◌, ◌*◌, ◌/◌, ◌%◌, ◌^◌, ◌<◌, ◌==◌, Bool, true, false, cond, List, [], ◌∷◌, ◌++◌, length, take, slice_get, Some, refl, sym, ap, ◌∙◌, arith, append_assoc, rules, ℤ, pos, negsuc, ◌⊎◌, inl, inr}
 use Rattle.std.specs.Prelude.{neg_ℤ}
-use Rattle.std.specs.List.{list_all, AllByRecursion}
+use Rattle.std.specs.List.{list_all, flat_map, AllByRecursion}
 use Rattle.std.specs.Fmt.{decimal}
 use Rattle.std.proofs.lemmas.Str.Parse.{IsNumeralModel, numerals_by_fold}
 use Rattle.std.proofs.lemmas.Fmt.{digits_decimal, digits_value-decimal, length-decimal-le, decimal_nonempty}
@@ -10,14 +10,15 @@ use Rattle.std.proofs.lemmas.Bool.{eqb-true}
 use Rattle.std.proofs.lemmas.List.{append-nil}
 use Rattle.structured_fields.specs.Named.{IsDistinct}
 use Rattle.structured_fields.specs.declared.bare.Bare.{Bare}
-use Rattle.structured_fields.specs.declared.bare.Bare.TheVariants.{Integer, Decimal, Str, Token, Binary, Boolean}
+use Rattle.structured_fields.specs.declared.bare.Bare.TheVariants.{Integer, Decimal, Str, Token, Binary, Boolean, Date, Display}
 use Rattle.structured_fields.specs.declared.item.Item.{Item}
 use Rattle.structured_fields.specs.declared.item.InnerList.{InnerList}
 use Rattle.structured_fields.specs.declared.item.Member.{Member}
 use Rattle.structured_fields.specs.declared.item.Member.TheVariants.{Item as Single, Inner}
 use Rattle.structured_fields.specs.Letters.{is_digit, is_key, number, number_after, signed, sign}
 use Rattle.structured_fields.specs.Grammar.{AreDigits, IsInteger, IsDecimal, IsBare, IsValue, AreGroups, AreParams, IsItem, IsGap, IsComma, IsInner, IsMember, IsGiven, IsBareTrue, IsEntry, AreFurther, AreSeparated, MayEnd, AreMembersText, IsItemText, IsListText, IsDictionaryText}
-use Rattle.structured_fields.specs.Canonical.{part_text, integer_text, thousandths_text, bare_text, value_text, params_text, item_text, further_text, separated_text, inner_text, member_text, single_text, entry_text, list_text, dictionary_text, IsInRange, AreInRange, IsItemInRange, IsInnerInRange, IsMemberInRange, IsListInRange, IsDictionaryInRange}
+use Rattle.structured_fields.specs.Canonical.{part_text, shown, integer_text, thousandths_text, bare_text, value_text, params_text, item_text, further_text, separated_text, inner_text, member_text, single_text, entry_text, list_text, dictionary_text, IsInRange, AreInRange, IsItemInRange, IsInnerInRange, IsMemberInRange, IsListInRange, IsDictionaryInRange}
+use Rattle.structured_fields.proofs.Displays.{shown_are}
 use Rattle.structured_fields.proofs.Entries.{stays}
 
 -- ---- one more entry written
@@ -92,6 +93,8 @@ bare_is (Str s) h = record { all = h; is = refl }
 bare_is (Token s) h = (h, refl)
 bare_is (Binary b) h = record { bytes = h; padded = true; is = refl }
 bare_is (Boolean b) h = refl
+bare_is (Date n) h = record { seconds = integer_text n; is = refl; integer = integer_is n h }
+bare_is (Display s) h = record { utf8 = h; body = flat_map shown s; shown = shown_are s; is = refl }
 
 value_is : (v : Bare) → IsInRange v → IsValue (value_text v) v
 value_is (Integer n) h = (refl, bare_is (Integer n) h)
@@ -101,6 +104,8 @@ value_is (Token s) h = (refl, bare_is (Token s) h)
 value_is (Binary b) h = (refl, bare_is (Binary b) h)
 value_is (Boolean true) h = refl
 value_is (Boolean false) h = (refl, refl)
+value_is (Date n) h = (refl, bare_is (Date n) h)
+value_is (Display s) h = (refl, bare_is (Display s) h)
 
 -- ---- parameters
 
@@ -175,6 +180,8 @@ single_is (Token s) ps h = inl (given_is (Token s) ps h refl)
 single_is (Binary b) ps h = inl (given_is (Binary b) ps h refl)
 single_is (Boolean true) ps h = inr (record { params = ps; is = params_are ps h.params h.distinct; value = refl })
 single_is (Boolean false) ps h = inl (given_is (Boolean false) ps h refl)
+single_is (Date n) ps h = inl (given_is (Date n) ps h refl)
+single_is (Display s) ps h = inl (given_is (Display s) ps h refl)
 
 entry_is : (e : List ℕ × Member) → (is_key e.0 ≡ true) × IsMemberInRange e.1 → IsEntry (entry_text e) e
 entry_is (name, Single v) h = record { rest = single_text v.bare v.params; key = h.0; is = refl; member = single_is v.bare v.params h.1 }

@@ -1,20 +1,20 @@
--- The one canonical text of each value (RFC 8941, section 4.1), and the values that have one.
-use Rattle.std.specs.Prelude.{◌≡◌, ℕ, suc, ◌+◌, ◌/◌, ◌%◌, ◌==◌, ◌<◌, ◌^◌, true, false, if◌then◌else◌, List, [], ◌∷◌, ◌++◌, ℤ, pos, negsuc, nat_abs}
+-- The one canonical text of each value (RFC 9651, section 4.1), and the values that have one.
+use Rattle.std.specs.Prelude.{◌≡◌, ℕ, suc, ◌+◌, ◌/◌, ◌%◌, ◌==◌, ◌<◌, true, false, if◌then◌else◌, List, [], ◌∷◌, ◌++◌, ℤ, pos, negsuc, nat_abs, IsUtf8}
 use Rattle.std.specs.List.{flat_map, list_all, AllByRecursion}
 use Rattle.std.specs.Fmt.{decimal}
 use Rattle.base64.specs.GeneralPurpose.{encode_of, IsBytes}
 use Rattle.base64.specs.Engines.{standard}
 use Rattle.structured_fields.specs.Named.{IsDistinct}
 use Rattle.structured_fields.specs.declared.bare.Bare.{Bare}
-use Rattle.structured_fields.specs.declared.bare.Bare.TheVariants.{Integer, Decimal, Str, Token, Binary, Boolean}
+use Rattle.structured_fields.specs.declared.bare.Bare.TheVariants.{Integer, Decimal, Str, Token, Binary, Boolean, Date, Display}
 use Rattle.structured_fields.specs.declared.item.Item.{Item}
 use Rattle.structured_fields.specs.declared.item.InnerList.{InnerList}
 use Rattle.structured_fields.specs.declared.item.Member.{Member}
 use Rattle.structured_fields.specs.declared.item.Member.TheVariants.{Item as Single, Inner}
-use Rattle.structured_fields.specs.Letters.{is_key, is_token, is_string_byte}
-use Rattle.structured_fields.specs.Grammar.{in_string, boolean_text}
+use Rattle.structured_fields.specs.Letters.{number_limit, is_key, is_token, is_string_byte, is_shown}
+use Rattle.structured_fields.specs.Grammar.{in_string, boolean_text, percent}
 
--- ---- bare items (sections 4.1.4 to 4.1.9)
+-- ---- bare items (sections 4.1.4 to 4.1.11)
 
 -- the digits of so many thousandths, below a thousand, without needless zeros at the end
 abbrev pub part_text : ℕ → List ℕ
@@ -34,6 +34,10 @@ abbrev pub decimal_text : ℤ → List ℕ
 decimal_text (pos n) = thousandths_text n
 decimal_text (negsuc n) = 45 ∷ thousandths_text (suc n)
 
+-- a byte that may not stand for itself in a Display String stands as its digits
+abbrev pub shown : ℕ → List ℕ
+shown b = if is_shown b then b ∷ [] else percent b
+
 abbrev pub bare_text : Bare → List ℕ
 bare_text (Integer n) = integer_text n
 bare_text (Decimal n) = decimal_text n
@@ -41,6 +45,8 @@ bare_text (Str s) = 34 ∷ flat_map in_string s ++ 34 ∷ []
 bare_text (Token s) = s
 bare_text (Binary b) = 58 ∷ encode_of standard b ++ 58 ∷ []
 bare_text (Boolean b) = boolean_text b
+bare_text (Date n) = 64 ∷ integer_text n
+bare_text (Display s) = 37 ∷ 34 ∷ flat_map shown s ++ 34 ∷ []
 
 -- ---- parameters and items (sections 4.1.1.2 and 4.1.3)
 
@@ -53,6 +59,8 @@ value_text (Token s) = 61 ∷ bare_text (Token s)
 value_text (Binary b) = 61 ∷ bare_text (Binary b)
 value_text (Boolean true) = []
 value_text (Boolean false) = 61 ∷ bare_text (Boolean false)
+value_text (Date n) = 61 ∷ bare_text (Date n)
+value_text (Display s) = 61 ∷ bare_text (Display s)
 
 abbrev pub params_text : List (List ℕ × Bare) → List ℕ
 params_text [] = []
@@ -99,12 +107,14 @@ dictionary_text v = separated_text (44 ∷ 32 ∷ []) entry_text v
 -- ---- the ranges
 
 abbrev pub IsInRange : Bare → Type 0
-IsInRange (Integer n) = nat_abs n < 10 ^ 15
-IsInRange (Decimal n) = nat_abs n < 10 ^ 15
+IsInRange (Integer n) = nat_abs n < number_limit
+IsInRange (Decimal n) = nat_abs n < number_limit
 IsInRange (Str s) = list_all is_string_byte s ≡ true
 IsInRange (Token s) = is_token s ≡ true
 IsInRange (Binary b) = IsBytes b
 IsInRange (Boolean b) = Unit {0}
+IsInRange (Date n) = nat_abs n < number_limit
+IsInRange (Display s) = IsUtf8 s
 
 -- keys in form, values in range
 abbrev pub AreInRange : List (List ℕ × Bare) → Type 0

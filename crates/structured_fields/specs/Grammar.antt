@@ -1,17 +1,18 @@
--- The grammar of structured fields (RFC 8941), one definition for each production, as relations between whole texts and values.
--- Bytes stand by their numbers: 9 HTAB, 32 SP, 34 `"`, 40 `(`, 41 `)`, 44 `,`, 45 `-`, 46 `.`, 48 `0`, 49 `1`, 58 `:`, 59 `;`, 61 `=`, 63 `?`, 92 `\`.
-use Rattle.std.specs.Prelude.{◌≡◌, ℕ, suc, ◌+◌, ◌-◌, ◌*◌, ◌^◌, ◌≤◌, ◌⊎◌, Bool, true, if◌then◌else◌, List, [], ◌∷◌, ◌++◌, length, replicate, fold, ℤ}
+-- The grammar of structured fields (RFC 9651), one definition for each production, as relations between whole texts and values.
+-- Bytes stand by their numbers: 9 HTAB, 32 SP, 34 `"`, 37 `%`, 40 `(`, 41 `)`, 44 `,`, 45 `-`, 46 `.`, 48 `0`, 49 `1`, 58 `:`, 59 `;`, 61 `=`, 63 `?`, 64 `@`, 92 `\`.
+use Rattle.std.specs.Prelude.{◌≡◌, ℕ, suc, ◌+◌, ◌-◌, ◌*◌, ◌/◌, ◌%◌, ◌^◌, ◌≤◌, ◌⊎◌, Bool, true, if◌then◌else◌, List, [], ◌∷◌, ◌++◌, length, replicate, fold, ℤ, IsUtf8}
 use Rattle.std.specs.List.{flat_map, list_all}
+use Rattle.std.specs.Char.{digit_char}
 use Rattle.base64.specs.GeneralPurpose.{encode_of, IsBytes}
 use Rattle.base64.specs.Engines.{standard, standard_no_pad}
 use Rattle.structured_fields.specs.Named.{with_value}
 use Rattle.structured_fields.specs.declared.bare.Bare.{Bare}
-use Rattle.structured_fields.specs.declared.bare.Bare.TheVariants.{Integer, Decimal, Str, Token, Binary, Boolean}
+use Rattle.structured_fields.specs.declared.bare.Bare.TheVariants.{Integer, Decimal, Str, Token, Binary, Boolean, Date, Display}
 use Rattle.structured_fields.specs.declared.item.Item.{Item}
 use Rattle.structured_fields.specs.declared.item.InnerList.{InnerList}
 use Rattle.structured_fields.specs.declared.item.Member.{Member}
 use Rattle.structured_fields.specs.declared.item.Member.TheVariants.{Item as Single, Inner}
-use Rattle.structured_fields.specs.Letters.{is_ows, is_digit, is_key, is_token, is_string_byte, is_quoted, number, signed, sign}
+use Rattle.structured_fields.specs.Letters.{integer_digits, whole_digits, fraction_digits, is_ows, is_digit, is_key, is_token, is_string_byte, is_quoted, is_shown, number, signed, sign}
 
 -- ---- bare items (section 3.3)
 
@@ -25,7 +26,7 @@ pub record AreDigits (least most : ℕ) (digits : List ℕ) : Type 0 where
 pub record IsInteger (text : List ℕ) (n : ℤ) : Type 0 where
   pub negative : Bool
   pub digits : List ℕ
-  pub fits : AreDigits 1 15 digits
+  pub fits : AreDigits 1 integer_digits digits
   pub is : text ≡ sign negative ++ digits
   pub value : n ≡ signed negative (number digits)
 
@@ -34,10 +35,10 @@ pub record IsDecimal (text : List ℕ) (n : ℤ) : Type 0 where
   pub negative : Bool
   pub whole : List ℕ
   pub part : List ℕ
-  pub whole_fits : AreDigits 1 12 whole
-  pub part_fits : AreDigits 1 3 part
+  pub whole_fits : AreDigits 1 whole_digits whole
+  pub part_fits : AreDigits 1 fraction_digits part
   pub is : text ≡ sign negative ++ whole ++ 46 ∷ part
-  pub value : n ≡ signed negative (number whole * 1000 + number part * 10 ^ (3 - length part))
+  pub value : n ≡ signed negative (number whole * 1000 + number part * 10 ^ (fraction_digits - length part))
 
 -- a quote and a backslash stand behind a backslash
 abbrev pub in_string : ℕ → List ℕ
@@ -58,6 +59,28 @@ pub record IsBinary (text b : List ℕ) : Type 0 where
 abbrev pub boolean_text : Bool → List ℕ
 boolean_text b = 63 ∷ (if b then 49 else 48) ∷ []
 
+-- a Date (section 3.3.7): `@` and an Integer
+pub record IsDate (text : List ℕ) (n : ℤ) : Type 0 where
+  pub seconds : List ℕ
+  pub is : text ≡ 64 ∷ seconds
+  pub integer : IsInteger seconds n
+
+-- `%` and a byte's two hexadecimal digits, in lower case
+abbrev pub percent : ℕ → List ℕ
+percent b = 37 ∷ digit_char (b / 16) ∷ digit_char (b % 16) ∷ []
+
+-- each byte stands for itself, where it may, or as `%` and its digits
+abbrev pub AreShown : List ℕ → List ℕ → Type 0
+AreShown text [] = text ≡ []
+AreShown text (b ∷ bytes) = (rest : List ℕ) × (((is_shown b ≡ true) × (text ≡ b ∷ rest)) ⊎ (text ≡ percent b ++ rest)) × AreShown rest bytes
+
+-- a Display String (section 3.3.8): bytes that are UTF-8 together, so shown between `%"` and `"`
+pub record IsDisplay (text s : List ℕ) : Type 0 where
+  pub utf8 : IsUtf8 s
+  pub body : List ℕ
+  pub shown : AreShown body s
+  pub is : text ≡ 37 ∷ 34 ∷ body ++ 34 ∷ []
+
 -- a bare item. A Token (section 3.3.4) is its own text.
 abbrev pub IsBare : List ℕ → Bare → Type 0
 IsBare text (Integer n) = IsInteger text n
@@ -66,6 +89,8 @@ IsBare text (Str s) = IsString text s
 IsBare text (Token s) = (is_token s ≡ true) × (text ≡ s)
 IsBare text (Binary b) = IsBinary text b
 IsBare text (Boolean b) = text ≡ boolean_text b
+IsBare text (Date n) = IsDate text n
+IsBare text (Display s) = IsDisplay text s
 
 -- ---- parameters (section 3.1.2)
 

@@ -1,6 +1,20 @@
--- The classes of bytes of RFC 8941, and the number that digits write.
-use Rattle.std.specs.Prelude.{ℕ, ◌+◌, ◌-◌, ◌*◌, ◌==◌, nat_le, Bool, false, if◌then◌else◌, ◌&&◌, ◌||◌, not, List, [], ◌∷◌, ℤ, pos, neg_ℤ, codes}
+-- The classes of bytes of RFC 9651, and the number that digits write.
+use Rattle.std.specs.Prelude.{ℕ, ◌+◌, ◌-◌, ◌*◌, ◌^◌, ◌==◌, nat_le, Bool, false, if◌then◌else◌, ◌&&◌, ◌||◌, not, List, [], ◌∷◌, ℤ, pos, neg_ℤ, codes}
 use Rattle.std.specs.List.{list_all, list_any}
+
+-- so many digits an Integer has at most (section 3.3.1), and a Decimal before and behind its point (section 3.3.2)
+abbrev pub integer_digits : ℕ
+integer_digits = 15
+
+abbrev pub whole_digits : ℕ
+whole_digits = 12
+
+abbrev pub fraction_digits : ℕ
+fraction_digits = 3
+
+-- Integers, Dates and the thousandths of Decimals stay below this, either way
+abbrev pub number_limit : ℕ
+number_limit = 10 ^ 15
 
 -- SP
 abbrev pub is_space : ℕ → Bool
@@ -59,6 +73,10 @@ is_unquoted c = not (is_quoted c)
 -- what stands for itself between the quotes of a String
 abbrev pub is_plain : ℕ → Bool
 is_plain c = is_string_byte c && is_unquoted c
+
+-- what stands for itself between the quotes of a Display String (section 3.3.8)
+abbrev pub is_shown : ℕ → Bool
+is_shown c = is_string_byte c && not ((c == 34) || (c == 37))
 
 -- the number that the digits write after those of n
 abbrev pub number_after : ℕ → List ℕ → ℕ

@@ -1,20 +1,23 @@
--- Reading from the front of a text: a value and what stands behind it (RFC 8941, section 4.2).
+-- Reading from the front of a text: a value and what stands behind it (RFC 9651, section 4.2).
 -- Each reading has its laws with the relation of `Grammar`, in `Laws`.
 use Rattle.std.specs.Prelude.{◌≡◌, ℕ, zero, suc, ◌+◌, ◌-◌, ◌*◌, ◌^◌, ◌==◌, nat_le, nat_lt, Bool, true, false, not, if◌then◌else◌, ◌&&◌, ◌||◌, List, [], ◌∷◌, ◌++◌, length, take, drop, reverse, Option, Some, None, option_and_then, option_map, Result, Ok, Err}
 use Rattle.std.specs.Option.{option_map_or}
 use Rattle.std.specs.List.{prefix_len, list_all}
+use Rattle.std.specs.Str.{is_utf8}
 use Rattle.base64.specs.GeneralPurpose.{decoded_of}
 use Rattle.base64.specs.Engines.{standard, standard_no_pad}
 use Rattle.structured_fields.specs.Named.{with_value}
 use Rattle.structured_fields.specs.declared.bare.Bare.{Bare}
-use Rattle.structured_fields.specs.declared.bare.Bare.TheVariants.{Integer, Decimal, Str, Token, Binary, Boolean}
+use Rattle.structured_fields.specs.declared.bare.Bare.TheVariants.{Integer, Decimal, Str, Token, Binary, Boolean, Date, Display}
+use Rattle.structured_fields.specs.declared.display_reading.Awaits.{Awaits}
+use Rattle.structured_fields.specs.declared.display_reading.Awaits.TheVariants.{Character, FirstDigit, SecondDigit}
 use Rattle.structured_fields.specs.declared.fault.FieldFault.{FieldFault}
 use Rattle.structured_fields.specs.declared.fault.FieldFault.TheVariants.{NotInGrammar, OutOfMemory}
 use Rattle.structured_fields.specs.declared.item.Item.{Item}
 use Rattle.structured_fields.specs.declared.item.InnerList.{InnerList}
 use Rattle.structured_fields.specs.declared.item.Member.{Member}
 use Rattle.structured_fields.specs.declared.item.Member.TheVariants.{Item as Single, Inner}
-use Rattle.structured_fields.specs.Letters.{is_space, is_ows, is_digit, is_key_start, is_key_byte, is_token_start, is_token_byte, is_string_byte, is_quoted, number, signed}
+use Rattle.structured_fields.specs.Letters.{integer_digits, whole_digits, fraction_digits, is_space, is_ows, is_digit, is_key_start, is_key_byte, is_token_start, is_token_byte, is_string_byte, is_quoted, is_shown, number, signed}
 
 infixl 10 ◌>>=◌
 abbrev pub ◌>>=◌ : {A B : Type 0} → Option A → (A → Option B) → Option B
@@ -53,18 +56,18 @@ within n most = nat_lt 0 n && nat_le n most
 
 -- the thousandths of the digits behind the point
 abbrev pub thousandths : List ℕ → List ℕ → ℕ
-thousandths whole part = number whole * 1000 + number part * 10 ^ (3 - length part)
+thousandths whole part = number whole * 1000 + number part * 10 ^ (fraction_digits - length part)
 
 unfoldable pub decimal_at : Bool → List ℕ → List ℕ → Option (Bare × List ℕ)
 decimal_at negative whole t =
-    if within (length whole) 12 && within (prefix_len is_digit t) 3
+    if within (length whole) whole_digits && within (prefix_len is_digit t) fraction_digits
     then Some (Decimal (signed negative (thousandths whole (front is_digit t))), behind is_digit t)
     else None
 
 unfoldable pub unsigned_at : Bool → List ℕ → Option (Bare × List ℕ)
 unsigned_at negative t =
     if begins 46 (behind is_digit t) then decimal_at negative (front is_digit t) (drop 1 (behind is_digit t))
-    else if within (prefix_len is_digit t) 15
+    else if within (prefix_len is_digit t) integer_digits
     then Some (Integer (signed negative (number (front is_digit t))), behind is_digit t)
     else None
 
@@ -111,12 +114,76 @@ boolean_rest t =
     if begins 48 t then Some (Boolean false, drop 1 t)
     else if begins 49 t then Some (Boolean true, drop 1 t) else None
 
+-- a number that is the seconds of a date
+abbrev pub as_date : Bare → Option Bare
+as_date (Integer n) = Some (Date n)
+as_date (Decimal n) = None
+as_date (Str s) = None
+as_date (Token s) = None
+as_date (Binary b) = None
+as_date (Boolean b) = None
+as_date (Date n) = None
+as_date (Display s) = None
+
+-- behind the `@`
+unfoldable pub date_at : List ℕ → Option (Bare × List ℕ)
+date_at t = do
+  x ← number_at t
+  date ← as_date x.0
+  Some (date, x.1)
+
+-- the value of a hexadecimal digit, in lower case
+abbrev pub hex_value : ℕ → Option ℕ
+hex_value c =
+    if is_digit c then Some (c - 48)
+    else if nat_le 97 c && nat_le c 102 then Some (c - 87)
+    else None
+
+abbrev pub byte_of : ℕ → ℕ → Option ℕ
+byte_of first second = do
+  a ← hex_value first
+  b ← hex_value second
+  Some (16 * a + b)
+
+-- the bytes that stand between the quotes of a display string, by what is awaited
+unfoldable pub display_bytes : Awaits → List ℕ → Option (List ℕ)
+display_bytes Character [] = Some []
+display_bytes FirstDigit [] = None
+display_bytes (SecondDigit first) [] = None
+display_bytes Character (c ∷ t) =
+    if c == 37 then display_bytes FirstDigit t
+    else if is_shown c then option_map (λ s. c ∷ s) (display_bytes Character t) else None
+display_bytes FirstDigit (c ∷ t) = display_bytes (SecondDigit c) t
+display_bytes (SecondDigit first) (c ∷ t) = byte_of first c >>= λ b. option_map (λ s. b ∷ s) (display_bytes Character t)
+
+abbrev pub only_utf8 : Option (List ℕ) → Option (List ℕ)
+only_utf8 None = None
+only_utf8 (Some s) = if is_utf8 s then Some s else None
+
+unfoldable pub display_text : List ℕ → Option (List ℕ)
+display_text t = only_utf8 (display_bytes Character t)
+
+abbrev pub is_not_quote : ℕ → Bool
+is_not_quote c = not (c == 34)
+
+-- behind the first quote
+abbrev pub display_rest : List ℕ → Option (Bare × List ℕ)
+display_rest t =
+    if begins 34 (behind is_not_quote t) then option_map (λ s. (Display s, drop 1 (behind is_not_quote t))) (display_text (front is_not_quote t))
+    else None
+
+-- behind the `%`
+unfoldable pub display_at : List ℕ → Option (Bare × List ℕ)
+display_at t = if begins 34 t then display_rest (drop 1 t) else None
+
 unfoldable pub bare_at : List ℕ → Option (Bare × List ℕ)
 bare_at [] = None
 bare_at (c ∷ t) =
     if c == 34 then option_map (λ x. (Str x.0, x.1)) (string_rest false t)
     else if c == 58 then binary_rest t
     else if c == 63 then boolean_rest t
+    else if c == 64 then date_at t
+    else if c == 37 then display_at t
     else if is_token_start c then Some (Token (front is_token_byte (c ∷ t)), behind is_token_byte (c ∷ t))
     else number_at (c ∷ t)
 

@@ -2,7 +2,7 @@
 use bytes_and_lists::bytes::Bytes;
 use bytes_and_lists::memory::{Duplicate, Mem};
 
-/// A bare item (RFC 8941, section 3.3).
+/// A bare item (RFC 9651, section 3.3).
 #[derive(Drop)]
 pub enum Bare {
     /// A whole number of at most 15 digits.
@@ -16,6 +16,10 @@ pub enum Bare {
     /// Any bytes.
     Binary(Bytes),
     Boolean(bool),
+    /// Seconds from 1970-01-01T00:00:00Z on, of at most 15 digits; leap seconds aren't counted.
+    Date(i64),
+    /// A display string: UTF-8, without its escapes.
+    Display(Bytes),
 }
 
 impl Duplicate for Bare {
@@ -27,6 +31,8 @@ impl Duplicate for Bare {
             Bare::Token(text) => Ok(Bare::Token(text.copy()?)),
             Bare::Binary(bytes) => Ok(Bare::Binary(bytes.copy()?)),
             Bare::Boolean(flag) => Ok(Bare::Boolean(*flag)),
+            Bare::Date(seconds) => Ok(Bare::Date(*seconds)),
+            Bare::Display(text) => Ok(Bare::Display(text.copy()?)),
         }
     }
 }

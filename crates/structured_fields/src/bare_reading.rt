@@ -1,10 +1,11 @@
 //! Reading keys and bare items from the front of a text.
 ghost use Rattle.std.specs.Prelude.{◌≡◌, ℕ, ◌-◌, ◌*◌, ◌^◌, ◌<◌, ◌≤◌, true, false, length};
 ghost use Rattle.std.specs.List.{list_all};
-ghost use Rattle.structured_fields.specs.Letters.{is_digit, number, signed};
-ghost use Rattle.structured_fields.specs.Reading.{Gives, key_at, decimal_at, unsigned_at, number_at, string_rest, decoded, binary_rest, boolean_rest, bare_at};
+ghost use Rattle.structured_fields.specs.Letters.{integer_digits, fraction_digits, number_limit, is_digit, number, signed};
+ghost use Rattle.structured_fields.specs.Reading.{Gives, key_at, decimal_at, unsigned_at, number_at, string_rest, decoded, binary_rest, boolean_rest, date_at, bare_at};
 
 use crate::bare::Bare;
+use crate::display_reading::display_of;
 use crate::fault::FieldFault;
 use crate::letters::{
     colon_run, digits_in, is_key_start, is_quoted, is_string_byte, is_token_start, key_run,
@@ -14,6 +15,15 @@ use base64::DecodeAllocError;
 use base64::engine::general_purpose::{STANDARD, STANDARD_NO_PAD};
 use bytes_and_lists::bytes::Bytes;
 use std::alloc::Global;
+
+// So many digits an Integer has at most (RFC 9651, section 3.3.1).
+const INTEGER_DIGITS: usize = 15;
+
+// So many stand at most before the point of a Decimal (section 3.3.2).
+const WHOLE_DIGITS: usize = 12;
+
+// So many stand at most behind it.
+const FRACTION_DIGITS: usize = 3;
 
 #[tactic(auto, unfolding(crate::specs::Reading::key_at))]
 pub(crate) fn key_of(alloc: Global, bytes: &[u8]) -> Result<(Bytes, &[u8]), FieldFault>
@@ -32,7 +42,7 @@ pub(crate) fn key_of(alloc: Global, bytes: &[u8]) -> Result<(Bytes, &[u8]), Fiel
 }
 
 fn number_of(digits: &[u8]) -> u64
-    requires len { length digits.now ≤ 15 }
+    requires len { length digits.now ≤ integer_digits }
     requires all { list_all is_digit digits.now ≡ true }
     ensures value { result ≡ number digits.now }
     ensures bound { result < 10 ^ length digits.now }
@@ -46,16 +56,16 @@ fn number_of(digits: &[u8]) -> u64
 }
 
 fn with_sign(negative: bool, n: u64) -> i64
-    requires { n ≤ 10 ^ 15 }
+    requires { n ≤ number_limit }
     ensures { result ≡ signed negative n }
 {
     if negative { -(n as i64) } else { n as i64 }
 }
 
 fn part_of(digits: &[u8]) -> u64
-    requires len { length digits.now ≤ 3 }
+    requires len { length digits.now ≤ fraction_digits }
     requires all { list_all is_digit digits.now ≡ true }
-    ensures value { result ≡ number digits.now * 10 ^ (3 - length digits.now) }
+    ensures value { result ≡ number digits.now * 10 ^ (fraction_digits - length digits.now) }
     ensures bound { result ≤ 1000 }
 {
     let n = number_of(digits);
@@ -77,7 +87,11 @@ fn decimal_of<'a>(
     ensures { Gives (λ x. (x.0, x.1.now)) result (decimal_at negative whole.now bytes.now) }
 {
     let (part, rest) = digits_in(bytes);
-    if whole.is_empty() || whole.len() > 12 || part.is_empty() || part.len() > 3 {
+    if whole.is_empty()
+        || whole.len() > WHOLE_DIGITS
+        || part.is_empty()
+        || part.len() > FRACTION_DIGITS
+    {
         return Err(FieldFault::NotInGrammar);
     }
     let n = number_of(whole) * 1000 + part_of(part);
@@ -92,7 +106,7 @@ fn unsigned_of(negative: bool, bytes: &[u8]) -> Result<(Bare, &[u8]), FieldFault
     match rest {
         [b'.', after @ ..] => decimal_of(negative, digits, after),
         _ => {
-            if digits.is_empty() || digits.len() > 15 {
+            if digits.is_empty() || digits.len() > INTEGER_DIGITS {
                 return Err(FieldFault::NotInGrammar);
             }
             Ok((Bare::Integer(with_sign(negative, number_of(digits))), rest))
@@ -147,6 +161,17 @@ fn boolean_of(bytes: &[u8]) -> Result<(Bare, &[u8]), FieldFault>
     }
 }
 
+// A Decimal is no date.
+#[tactic(auto, unfolding(crate::specs::Reading::date_at))]
+fn date_of(bytes: &[u8]) -> Result<(Bare, &[u8]), FieldFault>
+    ensures { Gives (λ x. (x.0, x.1.now)) result (date_at bytes.now) }
+{
+    match number_in(bytes)? {
+        (Bare::Integer(seconds), rest) => Ok((Bare::Date(seconds), rest)),
+        _ => Err(FieldFault::NotInGrammar),
+    }
+}
+
 // What stands before the first escape is copied at once.
 #[tactic(auto, using(crate::proofs::Runs::string_steps))]
 fn string_of(alloc: Global, bytes: &[u8]) -> Result<(Bytes, &[u8]), FieldFault>
@@ -189,6 +214,8 @@ pub(crate) fn bare_of(alloc: Global, bytes: &[u8]) -> Result<(Bare, &[u8]), Fiel
         }
         [b':', after @ ..] => binary_of(alloc, after),
         [b'?', after @ ..] => boolean_of(after),
+        [b'@', after @ ..] => date_of(after),
+        [b'%', after @ ..] => display_of(alloc, after),
         [c, ..] => {
             if !is_token_start(*c) {
                 return number_in(bytes);

@@ -4,26 +4,26 @@ use crate::named::Named;
 use bytes_and_lists::memory::{Duplicate, Mem};
 use bytes_and_lists::seq::Seq;
 
-/// Parameters: bare items under distinct keys, in order (RFC 8941, section 3.1.2).
+/// Parameters: bare items under distinct keys, in order (RFC 9651, section 3.1.2).
 pub type Params = Named<Bare>;
 
 /// Items one after another.
 pub type Items = Seq<Item>;
 
-/// A list: its members in order (RFC 8941, section 3.1).
+/// A list: its members in order (RFC 9651, section 3.1).
 pub type List = Seq<Member>;
 
-/// A dictionary: members under distinct keys, in order (RFC 8941, section 3.2).
+/// A dictionary: members under distinct keys, in order (RFC 9651, section 3.2).
 pub type Dictionary = Named<Member>;
 
-/// An item: a bare item with its parameters (RFC 8941, section 3.3).
+/// An item: a bare item with its parameters (RFC 9651, section 3.3).
 #[derive(Drop)]
 pub struct Item {
     pub bare: Bare,
     pub params: Params,
 }
 
-/// An inner list: items in order, with parameters of the whole (RFC 8941, section 3.1.1).
+/// An inner list: items in order, with parameters of the whole (RFC 9651, section 3.1.1).
 #[derive(Drop)]
 pub struct InnerList {
     pub items: Items,

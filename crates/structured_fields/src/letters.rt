@@ -1,8 +1,8 @@
 //! The classes of bytes, and how far they run at the front of a text.
 ghost use Rattle.std.specs.Prelude.{◌≡◌, ◌≤◌, Bool, true, false, length, take, drop, reverse, MatchOption};
 ghost use Rattle.std.specs.List.{prefix_len, list_all};
-ghost use Rattle.structured_fields.specs.Letters.{is_space, is_ows, is_digit, is_key_start, is_key_byte, is_token_start, is_token_byte, is_string_byte, is_quoted, is_unquoted, is_plain};
-ghost use Rattle.structured_fields.specs.Reading.{front, behind, begins, is_not_colon, trimmed};
+ghost use Rattle.structured_fields.specs.Letters.{is_space, is_ows, is_digit, is_key_start, is_key_byte, is_token_start, is_token_byte, is_string_byte, is_quoted, is_unquoted, is_plain, is_shown};
+ghost use Rattle.structured_fields.specs.Reading.{front, behind, begins, is_not_colon, is_not_quote, trimmed};
 
 pub(crate) fn is_key_start(c: u8) -> bool
     ensures { result ≡ is_key_start c }
@@ -47,6 +47,13 @@ fn is_plain(c: u8) -> bool
     is_string_byte(c) && !is_quoted(c)
 }
 
+// It stands for itself in a display string.
+pub(crate) fn is_shown(c: u8) -> bool
+    ensures { result ≡ is_shown c }
+{
+    is_string_byte(c) && c != b'"' && c != b'%'
+}
+
 pub(crate) fn unquoted_run(bytes: &[u8]) -> usize
     ensures len { result ≡ prefix_len is_unquoted bytes.now }
     ensures within { result ≤ length bytes.now }
@@ -80,6 +87,13 @@ pub(crate) fn colon_run(bytes: &[u8]) -> usize
     ensures within { result ≤ length bytes.now }
 {
     bytes.iter().take_while(|b| **b != b':').count()
+}
+
+pub(crate) fn not_quote_run(bytes: &[u8]) -> usize
+    ensures len { result ≡ prefix_len is_not_quote bytes.now }
+    ensures within { result ≤ length bytes.now }
+{
+    bytes.iter().take_while(|b| **b != b'"').count()
 }
 
 fn digit_run(bytes: &[u8]) -> usize

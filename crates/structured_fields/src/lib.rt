@@ -1,4 +1,4 @@
-//! Structured fields of HTTP (RFC 8941): items, lists and dictionaries, read from texts and written in their canonical form.
+//! Structured fields of HTTP (RFC 9651): items, lists and dictionaries, read from texts and written in their canonical form.
 //!
 //! The contracts speak of a relation between whole texts and values, with one definition for each production of the RFC (`specs/Grammar.antt`), and of one canonical text for each value in range (`specs/Canonical.antt`).
 //! A reader answers v exactly where the text is a text of v, and `NotInGrammar` exactly where it is a text of no value; a text has one value at most. A writer gives the canonical text of a value in range, which every reader's value is, and reading it gives that value again (`laws`).
@@ -10,6 +10,7 @@
 
 mod bare;
 mod bare_reading;
+mod display_reading;
 mod fault;
 mod item;
 mod item_reading;

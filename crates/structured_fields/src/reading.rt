@@ -91,7 +91,7 @@ fn whole_dictionary(alloc: Global, text: &[u8]) -> Result<Dictionary, FieldFault
     entries_in(alloc, bytes)
 }
 
-/// Reads an item (RFC 8941, section 4.2.3). NotInGrammar comes exactly where the text has no value.
+/// Reads an item (RFC 9651, section 4.2.3). NotInGrammar comes exactly where the text has no value.
 pub fn read_item(alloc: Global, text: &[u8]) -> Result<Item, FieldFault>
     // What is read is a value of the text.
     ensures found { IfOk result (λ v. IsItemText text.now v) }
@@ -104,7 +104,7 @@ pub fn read_item(alloc: Global, text: &[u8]) -> Result<Item, FieldFault>
     whole_item(alloc, text)
 }
 
-/// Reads a list (RFC 8941, section 4.2.1). NotInGrammar comes exactly where the text has no value.
+/// Reads a list (RFC 9651, section 4.2.1). NotInGrammar comes exactly where the text has no value.
 pub fn read_list(alloc: Global, text: &[u8]) -> Result<item::List, FieldFault>
     // What is read is a value of the text.
     ensures found { IfOk result (λ v. IsListText text.now v) }
@@ -117,7 +117,7 @@ pub fn read_list(alloc: Global, text: &[u8]) -> Result<item::List, FieldFault>
     whole_list(alloc, text)
 }
 
-/// Reads a dictionary (RFC 8941, section 4.2.2). NotInGrammar comes exactly where the text has no value.
+/// Reads a dictionary (RFC 9651, section 4.2.2). NotInGrammar comes exactly where the text has no value.
 pub fn read_dictionary(alloc: Global, text: &[u8]) -> Result<Dictionary, FieldFault>
     // What is read is a value of the text.
     ensures found { IfOk result (λ v. IsDictionaryText text.now v) }

@@ -2,12 +2,13 @@
 ghost use Rattle.std.specs.Prelude.{◌≡◌, ◌++◌, ◌<◌, ◌==◌, if◌then◌else◌, [], ◌∷◌, IfOk, OnOk};
 ghost use Rattle.std.specs.List.{flat_map};
 ghost use Rattle.std.specs.Fmt.{decimal};
+ghost use Rattle.std.specs.Char.{digit_char};
 ghost use Rattle.structured_fields.specs.Grammar.{in_string, IsItemText, IsInner, IsListText, IsDictionaryText};
-ghost use Rattle.structured_fields.specs.Canonical.{part_text, integer_text, decimal_text, bare_text, value_text, params_text, item_text, separated_text, inner_text, member_text, single_text, entry_text, list_text, dictionary_text, IsItemInRange, IsInnerInRange, IsListInRange, IsDictionaryInRange};
+ghost use Rattle.structured_fields.specs.Canonical.{part_text, shown, integer_text, decimal_text, bare_text, value_text, params_text, item_text, separated_text, inner_text, member_text, single_text, entry_text, list_text, dictionary_text, IsItemInRange, IsInnerInRange, IsListInRange, IsDictionaryInRange};
 
 use crate::bare::Bare;
 use crate::item::{Dictionary, InnerList, Item, Items, List, Member, Params};
-use crate::letters::unquoted_run;
+use crate::letters::{is_shown, unquoted_run};
 use base64::engine::general_purpose::STANDARD;
 use bytes_and_lists::bytes::Bytes;
 use bytes_and_lists::memory::Mem;
@@ -77,6 +78,30 @@ fn put_escaped(out: &mut Bytes, s: &[u8]) -> Result<(), Mem>
     put_each_escaped(out, rest)
 }
 
+fn hex_digit(value: u8) -> u8
+    requires { value < 16 }
+    ensures { result ≡ digit_char value }
+{
+    if value < 10 {
+        b'0' + value
+    } else {
+        b'a' + (value - 10)
+    }
+}
+
+fn put_shown(out: &mut Bytes, s: &[u8]) -> Result<(), Mem>
+    ensures { OnOk result (out.new ≡ out.old ++ flat_map shown s.now) }
+{
+    for c in s {
+        if is_shown(*c) {
+            out.push(*c)?;
+        } else {
+            out.extend(&[b'%', hex_digit(*c / 16), hex_digit(*c % 16)])?;
+        }
+    }
+    Ok(())
+}
+
 fn put_bare(alloc: Global, out: &mut Bytes, v: &Bare) -> Result<(), Mem>
     ensures { OnOk result (out.new ≡ out.old ++ bare_text v.now) }
 {
@@ -97,6 +122,15 @@ fn put_bare(alloc: Global, out: &mut Bytes, v: &Bare) -> Result<(), Mem>
         }
         Bare::Boolean(true) => out.extend(b"?1"),
         Bare::Boolean(false) => out.extend(b"?0"),
+        Bare::Date(seconds) => {
+            out.push(b'@')?;
+            put_integer(out, *seconds)
+        }
+        Bare::Display(s) => {
+            out.extend(b"%\"")?;
+            put_shown(out, s.as_slice())?;
+            out.push(b'"')
+        }
     }
 }
 
@@ -206,7 +240,7 @@ fn put_entries(alloc: Global, out: &mut Bytes, v: &Dictionary) -> Result<(), Mem
     Ok(())
 }
 
-/// The text with the canonical text of an item behind it (RFC 8941, section 4.1.3). At an `Err` it is let go.
+/// The text with the canonical text of an item behind it (RFC 9651, section 4.1.3). At an `Err` it is let go.
 pub fn append_item(alloc: Global, text: Bytes, v: &Item) -> Result<Bytes, Mem>
     ensures { IfOk result (λ b. b ≡ text ++ item_text v.now) }
 {
@@ -215,7 +249,7 @@ pub fn append_item(alloc: Global, text: Bytes, v: &Item) -> Result<Bytes, Mem>
     Ok(out)
 }
 
-/// The text with the canonical text of an inner list behind it (RFC 8941, section 4.1.1.1). At an `Err` it is let go.
+/// The text with the canonical text of an inner list behind it (RFC 9651, section 4.1.1.1). At an `Err` it is let go.
 pub fn append_inner(alloc: Global, text: Bytes, v: &InnerList) -> Result<Bytes, Mem>
     ensures { IfOk result (λ b. b ≡ text ++ inner_text v.now) }
 {
@@ -224,7 +258,7 @@ pub fn append_inner(alloc: Global, text: Bytes, v: &InnerList) -> Result<Bytes, 
     Ok(out)
 }
 
-/// The canonical text of an item (RFC 8941, section 4.1.3).
+/// The canonical text of an item (RFC 9651, section 4.1.3).
 pub fn write_item(alloc: Global, v: &Item) -> Result<Bytes, Mem>
     requires { IsItemInRange v.now }
     ensures canonical { IfOk result (λ b. b ≡ item_text v.now) }
@@ -235,7 +269,7 @@ pub fn write_item(alloc: Global, v: &Item) -> Result<Bytes, Mem>
     Ok(out)
 }
 
-/// The canonical text of an inner list (RFC 8941, section 4.1.1.1).
+/// The canonical text of an inner list (RFC 9651, section 4.1.1.1).
 pub fn write_inner(alloc: Global, v: &InnerList) -> Result<Bytes, Mem>
     requires { IsInnerInRange v.now }
     ensures canonical { IfOk result (λ b. b ≡ inner_text v.now) }
@@ -246,7 +280,7 @@ pub fn write_inner(alloc: Global, v: &InnerList) -> Result<Bytes, Mem>
     Ok(out)
 }
 
-/// The canonical text of a list (RFC 8941, section 4.1.1). That of an empty one is empty.
+/// The canonical text of a list (RFC 9651, section 4.1.1). That of an empty one is empty.
 pub fn write_list(alloc: Global, v: &List) -> Result<Bytes, Mem>
     requires { IsListInRange v.now }
     ensures canonical { IfOk result (λ b. b ≡ list_text v.now) }
@@ -257,7 +291,7 @@ pub fn write_list(alloc: Global, v: &List) -> Result<Bytes, Mem>
     Ok(out)
 }
 
-/// The canonical text of a dictionary (RFC 8941, section 4.1.2). That of an empty one is empty.
+/// The canonical text of a dictionary (RFC 9651, section 4.1.2). That of an empty one is empty.
 pub fn write_dictionary(alloc: Global, v: &Dictionary) -> Result<Bytes, Mem>
     requires { IsDictionaryInRange v.now }
     ensures canonical { IfOk result (λ b. b ≡ dictionary_text v.now) }

@@ -1,5 +1,5 @@
 //! The table of structured fields. A line is the kind of a field (`item`, `list` or `dictionary`) and, behind one space, its text. Told is the canonical
-//! text, or `not in the grammar`. What is expected was worked out from RFC 8941, section 4, beside this repository.
+//! text, or `not in the grammar`. What is expected was worked out from RFC 9651, section 4, beside this repository.
 
 use bytes_and_lists::bytes::Bytes;
 use bytes_and_lists::memory::Mem;

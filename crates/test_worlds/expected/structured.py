@@ -1,18 +1,20 @@
-"""Structured fields, written from RFC 8941 and docs/STRUCTURED_FIELDS.md alone: dictionaries read, inner lists printed.
+"""Structured fields, written from RFC 9651 and docs/STRUCTURED_FIELDS.md alone: dictionaries read, inner lists printed.
 
-A bare item is a pair of its kind and its value: an Integer, a Decimal (in thousandths), a String, a Token, a Binary or a Boolean. An item is a
-bare item and its parameters, an inner list ("list", items) and its parameters. Parameters and dictionaries keep their order.
+A bare item is a pair of its kind and its value: an Integer, a Decimal (in thousandths), a String, a Token, a Binary, a Boolean, a Date or a Display.
+An item is a bare item and its parameters, an inner list ("list", items) and its parameters. Parameters and dictionaries keep their order.
 """
 
 import base64
 import binascii
 import re
+from urllib.parse import unquote_to_bytes
 
 KEY = re.compile(r"[a-z*][a-z0-9_.*-]*")
 NUMBER = re.compile(r"-?(\d{1,12}\.\d{1,3}|\d{1,15})(?![\d.])")
 STRING = re.compile(r'"((?:[ !#-\[\]-~]|\\["\\])*)"')
 TOKEN = re.compile(r"[A-Za-z*][A-Za-z0-9!#$%&'*+.^_`|~:/-]*")
 BINARY = re.compile(r":([A-Za-z0-9+/]*)(=*):")
+DISPLAY = re.compile(r'"((?:[ !#$&-~]|%[0-9a-f]{2})*)"')
 
 
 class NotAField(Exception):
@@ -54,6 +56,13 @@ class Reader:
             return "Binary", read_binary(*self.match(BINARY).groups())
         if self.take("?"):
             return "Boolean", self.match(re.compile("[01]")).group() == "1"
+        if self.take("@"):
+            kind, seconds = read_number(self.match(NUMBER).group())
+            if kind != "Integer":
+                raise NotAField
+            return "Date", seconds
+        if self.take("%"):
+            return "Display", read_display(self.match(DISPLAY).group(1))
         return "Token", self.match(TOKEN).group()
 
     def parameters(self):
@@ -114,6 +123,14 @@ def read_binary(digits, padding):
     return read
 
 
+def read_display(shown):
+    """UTF-8, asked of all the bytes together."""
+    try:
+        return unquote_to_bytes(shown).decode()
+    except UnicodeDecodeError:
+        raise NotAField from None
+
+
 def read_dictionary(text):
     """The dictionary of a text, given as bytes."""
     try:
@@ -132,6 +149,10 @@ def print_bare(bare):
         return ":" + base64.b64encode(value).decode() + ":"
     if kind == "Boolean":
         return "?1" if value else "?0"
+    if kind == "Date":
+        return f"@{value}"
+    if kind == "Display":
+        return '%"' + "".join(chr(b) if 32 <= b <= 126 and b not in b'"%' else f"%{b:02x}" for b in value.encode()) + '"'
     if kind == "Decimal":
         digits = f"{abs(value) // 1_000}.{abs(value) % 1_000:03}".rstrip("0")
         return "-" * (value < 0) + digits + "0" * digits.endswith(".")

@@ -1,4 +1,4 @@
-"""Cases whose answers are written by hand: structured fields by RFC 8941, section 4; hashes; and what a person is told on standard error."""
+"""Cases whose answers are written by hand: structured fields by RFC 9651, section 4; hashes; and what a person is told on standard error."""
 
 from client_cases import CONFIG_TEXT
 from resource_cases import RS_TEXT
