@@ -1,17 +1,1 @@
 pub mod Lists
-pub mod GrantsAfter
-pub mod TokensAfter
-pub mod TablesAfter
-pub mod Bridges
-pub mod SweptTables
-pub mod TokenBridges
-pub mod RoundBridges
-pub mod ActionsAgree
-pub mod MoreCauses
-pub mod Known
-pub mod NotesOfAnswers
-pub mod WholePast
-pub mod TablesThroughCalls
-pub mod SerialsBelowNext
-pub mod NotesAsOneChange
-pub mod RowLimits

@@ -24,7 +24,7 @@ use Rattle.gnap_tables.specs.declared.rows.TokenRow.{TokenRow}
 use Rattle.gnap_tables.specs.Tables.{after_notes, change_grant, drop_tokens_of, new_token, with_approval, with_door, with_terms}
 use Rattle.gnap_tables.specs.RowSearches.{opening_of, token_of}
 use Rattle.gnap_tables.specs.ActionsByRows.{rows_of_grant}
-use Rattle.gnap_tables.proofs.NotesAsOneChange.{HaveOneSerial, all_issued, grant_dropped}
+use Rattle.table_laws.proofs.NotesAsOneChange.{HaveOneSerial, all_issued, grant_dropped}
 use Rattle.token_manager.specs.Tokens.{AreTokenRows}
 use Rattle.grant_states.proofs.Placed.{one_key}
 use Rattle.table_core.specs.CallEffects.{tables_in}

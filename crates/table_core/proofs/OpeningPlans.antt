@@ -22,7 +22,7 @@ use Rattle.gnap_laws.proofs.Serials.{grant_values, pend_values}
 use Rattle.gnap_tables.specs.declared.rows.GrantRow.{GrantRow}
 use Rattle.gnap_tables.specs.declared.rows.TokenRow.{TokenRow}
 use Rattle.gnap_tables.specs.Tables.{new_grant, new_token, with_door, with_round, with_terms}
-use Rattle.gnap_tables.proofs.NotesAsOneChange.{IsFree, opened_at_once, opened_asking}
+use Rattle.table_laws.proofs.NotesAsOneChange.{IsFree, opened_at_once, opened_asking}
 use Rattle.table_core.specs.CallEffects.{tables_in}
 use Rattle.table_core.specs.Entries.{supply, tables}
 use Rattle.table_core.specs.Plans.{Plans, rows_in, RiseFrom}

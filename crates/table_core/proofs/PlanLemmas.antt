@@ -31,7 +31,7 @@ use Rattle.gnap_tables.specs.declared.rows.TokenRow.{TokenRow}
 use Rattle.gnap_tables.specs.declared.rows.Round.{Round}
 use Rattle.gnap_tables.specs.Tables.{Tables, change_grant, drop_grant, drop_tokens_of, new_token, with_approval, with_door, with_wrong}
 use Rattle.gnap_tables.specs.RowSearches.{opening_of, round_of, terms_of_row}
-use Rattle.gnap_tables.proofs.NotesAsOneChange.{all_issued}
+use Rattle.table_laws.proofs.NotesAsOneChange.{all_issued}
 use Rattle.grant_rules.specs.Drawn.{finish_told}
 use Rattle.token_manager.specs.Tokens.{IsTokenRow}
 use Rattle.grant_states.specs.declared.changes.Change.TheVariants.{Decide}

@@ -28,12 +28,12 @@ use Rattle.gnap_tables.specs.declared.rows.GrantRow.{GrantRow}
 use Rattle.gnap_tables.specs.declared.rows.TokenRow.{TokenRow}
 use Rattle.gnap_tables.specs.Rows.{asks_of, grant_row, grant_row_in, grant_rows}
 use Rattle.gnap_tables.specs.StandsFor.{Kept, kept_of}
-use Rattle.gnap_tables.specs.Laws.{HasFewWrongs}
-use Rattle.gnap_tables.proofs.Known.{KnownAt, AreKnown}
+use Rattle.table_laws.specs.Laws.{HasFewWrongs}
+use Rattle.table_laws.proofs.Known.{KnownAt, AreKnown}
 use Rattle.gnap_tables.proofs.Lists.{HasItem}
-use Rattle.gnap_tables.proofs.RowLimits.{rows_within}
-use Rattle.gnap_tables.proofs.SerialsBelowNext.{item-reverse, item_in, rows_below, few_serials}
-use Rattle.gnap_tables.proofs.TablesThroughCalls.{legal_notes}
+use Rattle.table_laws.proofs.RowLimits.{rows_within}
+use Rattle.table_laws.proofs.SerialsBelowNext.{item-reverse, item_in, rows_below, few_serials}
+use Rattle.table_laws.proofs.TablesThroughCalls.{legal_notes}
 use Rattle.table_core.specs.CallEffects.{HasFewAsked}
 
 -- ---- each row is that of a grant that was opened

@@ -12,7 +12,7 @@ use Rattle.gnap_model.specs.Standing.{is_opening}
 use Rattle.gnap_tables.specs.Tables.{Tables, sweep, after_notes}
 use Rattle.gnap_tables.specs.ActionsByRows.{row_action, row_supply}
 use Rattle.gnap_tables.specs.StandsFor.{Kept, kept_of, machine_of, StandsByRows, at_moment, row_answer, with_notes}
-use Rattle.gnap_tables.proofs.TablesThroughCalls.{swept_is, FitFew, answers-by_rows, lapses-by_rows, unswept}
+use Rattle.table_laws.proofs.TablesThroughCalls.{swept_is, FitFew, answers-by_rows, lapses-by_rows, unswept}
 use Rattle.grant_machine.specs.Gnap.{GnapFits}
 use Rattle.grant_machine.proofs.Weaker.{grant_legal}
 use Rattle.grant_states.specs.Grants.{StoredGrants}

@@ -12,7 +12,7 @@ use Rattle.gnap_tables.specs.declared.rows.TokenRow.{TokenRow}
 use Rattle.gnap_tables.specs.Tables.{Tables, after_notes, sweep}
 use Rattle.gnap_tables.specs.ActionsByRows.{row_action, row_supply}
 use Rattle.gnap_tables.specs.StandsFor.{Kept}
-use Rattle.gnap_tables.specs.Laws.{HasFewWrongs}
+use Rattle.table_laws.specs.Laws.{HasFewWrongs}
 use Rattle.grant_rules.specs.declared.supply.Supply.{Supply as EntrySupply}
 use Rattle.grant_states.specs.Grants.{StoredGrants}
 use Rattle.token_manager.specs.Tokens.{StoredTokens}

@@ -3,7 +3,7 @@ use Rattle.std.specs.Prelude.{ℕ, List}
 use Rattle.histories.specs.History.{Renumbered}
 use Rattle.gnap_model.specs.declared.objects.Setup.{Setup}
 use Rattle.gnap_model.specs.Notes.{Event}
-use Rattle.gnap_tables.proofs.TablesThroughCalls.{rows-renumbered}
+use Rattle.table_laws.proofs.TablesThroughCalls.{rows-renumbered}
 use Rattle.grant_machine.specs.Gnap.{GnapFits}
 use Rattle.grant_states.specs.Grants.{StoredGrants}
 use Rattle.token_manager.specs.Tokens.{StoredTokens}

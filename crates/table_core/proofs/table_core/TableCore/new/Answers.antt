@@ -1,6 +1,6 @@
 use Rattle.std.proofs.Common.{arith}
 use Rattle.grant_machine.specs.Gnap.{GnapFits}
-use Rattle.gnap_tables.proofs.TablesThroughCalls.{stands-nothing}
+use Rattle.table_laws.proofs.TablesThroughCalls.{stands-nothing}
 use Rattle.table_core.proofs.table_core.TableCore.new.Goals as goal
 
 pub returns-clause-empty : goal.returns-clause-empty

@@ -1,5 +1,5 @@
 //! What the rows tell of the notes that they stand for. These functions do nothing; their contracts are laws, for every legal history.
-ghost use Rattle.gnap_tables.specs.Laws.{RowsAnswer, RowsChange, RowsEnd, RowsKeepLimits};
+ghost use Rattle.table_laws.specs.Laws.{RowsAnswer, RowsChange, RowsEnd, RowsKeepLimits};
 
 /// The answer to a call by the rows is the machine's.
 pub fn rows_answer()

@@ -21,11 +21,11 @@ use Rattle.gnap_model.specs.Actions.Action.{OpenAtOnce, OpenAsking, TakeDecision
 use Rattle.gnap_laws.proofs.Causes.{Cause}
 use Rattle.gnap_model.proofs.TrailNotes.{opening_noted, managed_issued}
 use Rattle.gnap_laws.proofs.Sound.{IsSound, AreSound, SoundAt, SerialsBelow, sound_note, modified_below}
-use Rattle.gnap_tables.specs.AddableNotes.{IsNew, GoesOn, CanAllFollow}
-use Rattle.gnap_tables.proofs.TokensAfter.{finalized_same}
-use Rattle.gnap_tables.proofs.ActionsAgree.{named_goes}
-use Rattle.gnap_tables.proofs.Known.{AreKnown, below_not, is_new}
-use Rattle.gnap_tables.proofs.MoreCauses.{MoreCause}
+use Rattle.table_laws.specs.AddableNotes.{IsNew, GoesOn, CanAllFollow}
+use Rattle.table_laws.proofs.TokensAfter.{finalized_same}
+use Rattle.table_laws.proofs.ActionsAgree.{named_goes}
+use Rattle.table_laws.proofs.Known.{AreKnown, below_not, is_new}
+use Rattle.table_laws.proofs.MoreCauses.{MoreCause}
 
 -- no serial from the first one on was retired
 abbrev pub AreFresh : ℕ → List Note → Type 0

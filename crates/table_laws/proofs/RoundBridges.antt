@@ -13,11 +13,13 @@ use Rattle.gnap_model.specs.Standing.{GrantState, grant_state, is_finalized, dec
 use Rattle.gnap_model.specs.Standing.GrantState.{IsPending, IsApproved, IsFinalized}
 use Rattle.gnap_model.proofs.TrailNotes.{HasNote, first_noted, pending_grant}
 use Rattle.gnap_model.proofs.LookUps.{some_if_some}
-use Rattle.gnap_tables.specs.Rows.{GrantRow, Round, decision_row, grant_row, grant_row_in, grant_rows}
+use Rattle.gnap_tables.specs.declared.rows.Round.{Round}
+use Rattle.gnap_tables.specs.declared.rows.GrantRow.{GrantRow}
+use Rattle.gnap_tables.specs.Rows.{decision_row, grant_row, grant_row_in, grant_rows}
 use Rattle.gnap_tables.specs.RowSearches.{newest, round_of, is_open_round, open_round, open_rounds, Interaction, interaction_where, interaction_by_handle, interaction_by_code}
 use Rattle.gnap_tables.proofs.Lists.{filter_map-filter_map}
-use Rattle.gnap_tables.proofs.Bridges.{in_grants, option_map-first_of, first_of-filter_map}
-use Rattle.gnap_tables.proofs.TokenBridges.{pass_same, first_same}
+use Rattle.table_laws.proofs.Bridges.{in_grants, option_map-first_of, first_of-filter_map}
+use Rattle.table_laws.proofs.TokenBridges.{pass_same, first_same}
 
 some_mapped : {A B : Type 0} (f : A → B) (x : Option A) → is_some (option_map f x) ≡ is_some x
 some_mapped f None = refl

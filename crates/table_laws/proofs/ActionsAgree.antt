@@ -40,14 +40,16 @@ use Rattle.gnap_model.specs.Actions.Action.{Refuse, OpenAtOnce, ShowRound, ShowH
 use Rattle.gnap_model.specs.Answer.{action_of}
 use Rattle.gnap_model.proofs.TrailNotes.{HasNote, first_noted, grant_named, terms_noted, token_found}
 use Rattle.gnap_model.proofs.LookUps.{some_if_some}
-use Rattle.gnap_tables.specs.Rows.{GrantRow, TokenRow, decision_row, round_row, round_in, grant_row, grant_rows, token_row, token_rows}
+use Rattle.gnap_tables.specs.declared.rows.GrantRow.{GrantRow}
+use Rattle.gnap_tables.specs.declared.rows.TokenRow.{TokenRow}
+use Rattle.gnap_tables.specs.Rows.{decision_row, round_row, round_in, grant_row, grant_rows, token_row, token_rows}
 use Rattle.gnap_tables.specs.Tables.{tables_of}
 use Rattle.gnap_tables.specs.RowSearches.{newest, opening_of, terms_of_row, decision_of_row, token_of, row_by_door, row_by_manage, is_live_row, live_rows, Interaction, interaction_where}
 use Rattle.gnap_tables.specs.ActionsByRows.{pass_live, begin_rows, with_row, collect_rows, collect_or_renew_rows, continue_round_rows, continue_by, continue_rows, rows_of_grant, rows_of_others, modify_rows, on_row, row_action}
-use Rattle.gnap_tables.proofs.SweptTables.{IsOpenedOnce, HaveGrants}
-use Rattle.gnap_tables.proofs.Bridges.{HaveDoors, number_is, approved_is, door_is, grants_counted}
-use Rattle.gnap_tables.proofs.TokenBridges.{manage_is, live_is, live_tokens_are, tokens_of_are, other_tokens_are}
-use Rattle.gnap_tables.proofs.RoundBridges.{handle_is, code_is, found_row, IsFound}
+use Rattle.table_laws.proofs.SweptTables.{IsOpenedOnce, HaveGrants}
+use Rattle.table_laws.proofs.Bridges.{HaveDoors, number_is, approved_is, door_is, grants_counted}
+use Rattle.table_laws.proofs.TokenBridges.{manage_is, live_is, live_tokens_are, tokens_of_are, other_tokens_are}
+use Rattle.table_laws.proofs.RoundBridges.{handle_is, code_is, found_row, IsFound}
 
 -- What holds of the notes of a legal history, after each entry.
 pub record IsWhole (trail : List Note) : Type 0 where

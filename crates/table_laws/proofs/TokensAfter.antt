@@ -17,9 +17,10 @@ use Rattle.gnap_model.specs.Standing.GrantState.{IsPending, IsFinalized}
 use Rattle.gnap_model.specs.Standing.StateChange.{ToPending, ToApproved}
 use Rattle.gnap_model.proofs.TrailNotes.{HasNote}
 use Rattle.gnap_laws.proofs.AliveTokens.{not_replaced}
-use Rattle.gnap_tables.specs.Rows.{TokenRow, token_row_in, token_rows}
+use Rattle.gnap_tables.specs.declared.rows.TokenRow.{TokenRow}
+use Rattle.gnap_tables.specs.Rows.{token_row_in, token_rows}
 use Rattle.gnap_tables.specs.Tables.{new_token, with_retirement, tokens_after}
-use Rattle.gnap_tables.specs.AddableNotes.{IsNew, GoesOn, CanFollow}
+use Rattle.table_laws.specs.AddableNotes.{IsNew, GoesOn, CanFollow}
 use Rattle.gnap_tables.proofs.Lists.{filter_map-reverse, map_is, filter_is, reverse-cons, HasItem, all_kept, item_noted, parts_changed}
 
 -- ---- which grants are finalized

@@ -19,9 +19,11 @@ use Rattle.gnap_model.specs.Standing.GrantState.{IsPending, IsApproved, IsFinali
 use Rattle.gnap_model.specs.Standing.StateChange.{ToPending, ToApproved}
 use Rattle.gnap_model.specs.Actions.{or_zeros}
 use Rattle.gnap_model.proofs.TrailNotes.{opened_found, HasNote}
-use Rattle.gnap_tables.specs.Rows.{Round, GrantRow, asks_of, single_of, subject_of, round_row, round_in, grant_row_in, grant_rows}
+use Rattle.gnap_tables.specs.declared.rows.Round.{Round}
+use Rattle.gnap_tables.specs.declared.rows.GrantRow.{GrantRow}
+use Rattle.gnap_tables.specs.Rows.{asks_of, single_of, subject_of, round_row, round_in, grant_row_in, grant_rows}
 use Rattle.gnap_tables.specs.Tables.{new_grant, with_terms, with_approval, with_round, with_decision, with_wrong, with_door, grants_after}
-use Rattle.gnap_tables.specs.AddableNotes.{IsNew, GoesOn, CanFollow}
+use Rattle.table_laws.specs.AddableNotes.{IsNew, GoesOn, CanFollow}
 use Rattle.gnap_tables.proofs.Lists.{filter_map-reverse, map_is, filter_is, reverse-cons, HasItem, all_kept, item_noted, parts_changed}
 
 -- ---- what a note does to one row

@@ -24,16 +24,16 @@ use Rattle.gnap_laws.proofs.Came.{note_cases}
 use Rattle.gnap_laws.proofs.Opened.{past_origins, opened_terms, issued_opened}
 use Rattle.gnap_laws.proofs.Sound.{past_sound}
 use Rattle.gnap_tables.specs.Tables.{tables_of, after_notes}
-use Rattle.gnap_tables.specs.AddableNotes.{CanFollow, CanAllFollow}
+use Rattle.table_laws.specs.AddableNotes.{CanFollow, CanAllFollow}
 use Rattle.gnap_tables.proofs.Lists.{reverse-cons}
-use Rattle.gnap_tables.proofs.GrantsAfter.{is_another}
-use Rattle.gnap_tables.proofs.TablesAfter.{tables_after}
-use Rattle.gnap_tables.proofs.SweptTables.{IsOpenedOnce, HaveGrants}
-use Rattle.gnap_tables.proofs.Bridges.{HaveDoors}
-use Rattle.gnap_tables.proofs.ActionsAgree.{IsWhole}
-use Rattle.gnap_tables.proofs.Known.{past_known}
-use Rattle.gnap_tables.proofs.MoreCauses.{more_cause}
-use Rattle.gnap_tables.proofs.NotesOfAnswers.{action_follows}
+use Rattle.table_laws.proofs.GrantsAfter.{is_another}
+use Rattle.table_laws.proofs.TablesAfter.{tables_after}
+use Rattle.table_laws.proofs.SweptTables.{IsOpenedOnce, HaveGrants}
+use Rattle.table_laws.proofs.Bridges.{HaveDoors}
+use Rattle.table_laws.proofs.ActionsAgree.{IsWhole}
+use Rattle.table_laws.proofs.Known.{past_known}
+use Rattle.table_laws.proofs.MoreCauses.{more_cause}
+use Rattle.table_laws.proofs.NotesOfAnswers.{action_follows}
 
 -- the notes of an entry may be added
 pub entry_follows : (rules : Setup) (past : List Event) (e : Event) → IsLegalPast rules past → IsNext rules past e → CanAllFollow (now_at past e.moment) (trail_of past) e.notes

@@ -14,11 +14,12 @@ use Rattle.gnap_model.specs.Standing.GrantState.{IsPending, IsApproved, IsFinali
 use Rattle.gnap_model.specs.Change.{tokens_of, other_live_tokens}
 use Rattle.gnap_model.proofs.TrailNotes.{HasNote}
 use Rattle.gnap_laws.proofs.AliveTokens.{not_replaced}
-use Rattle.gnap_tables.specs.Rows.{TokenRow, grant_rows, token_row, token_row_in, token_rows}
+use Rattle.gnap_tables.specs.declared.rows.TokenRow.{TokenRow}
+use Rattle.gnap_tables.specs.Rows.{grant_rows, token_row, token_row_in, token_rows}
 use Rattle.gnap_tables.specs.RowSearches.{token_of, row_by_manage, is_live_row, live_row, live_rows}
 use Rattle.gnap_tables.proofs.Lists.{filter_map-filter_map, filter_map-reverse, filter_is, map_is}
-use Rattle.gnap_tables.proofs.SweptTables.{HaveGrants}
-use Rattle.gnap_tables.proofs.Bridges.{in_tokens, option_map-first_of, approved_is}
+use Rattle.table_laws.proofs.SweptTables.{HaveGrants}
+use Rattle.table_laws.proofs.Bridges.{in_tokens, option_map-first_of, approved_is}
 
 abbrev IsNoIssue : Note → Type 0
 IsNoIssue (Issued t) = ⊥

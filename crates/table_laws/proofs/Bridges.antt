@@ -14,9 +14,11 @@ use Rattle.gnap_model.specs.Standing.{GrantState, grant_state, is_finalized, is_
 use Rattle.gnap_model.specs.Standing.GrantState.{IsPending, IsApproved, IsFinalized}
 use Rattle.gnap_model.specs.Actions.{or_zeros}
 use Rattle.gnap_model.proofs.TrailNotes.{HasNote, opening_noted}
-use Rattle.gnap_tables.specs.Rows.{GrantRow, TokenRow, grant_row, grant_row_in, grant_rows, token_row_in, token_rows}
+use Rattle.gnap_tables.specs.declared.rows.GrantRow.{GrantRow}
+use Rattle.gnap_tables.specs.declared.rows.TokenRow.{TokenRow}
+use Rattle.gnap_tables.specs.Rows.{grant_row, grant_row_in, grant_rows, token_row_in, token_rows}
 use Rattle.gnap_tables.specs.RowSearches.{newest, row_by_number, row_by_door, approved_in, is_approved_grant}
-use Rattle.gnap_tables.proofs.GrantsAfter.{IsNoOpening}
+use Rattle.table_laws.proofs.GrantsAfter.{IsNoOpening}
 
 -- ---- look-ups in lists
 

@@ -16,12 +16,14 @@ use Rattle.gnap_model.specs.Standing.StateChange.{ToPending, ToApproved}
 use Rattle.gnap_model.proofs.LookUps.{any-reverse}
 use Rattle.gnap_model.proofs.TrailNotes.{HasNote}
 use Rattle.gnap_laws.proofs.States.{finalized_later}
-use Rattle.gnap_tables.specs.Rows.{GrantRow, TokenRow, row_at, grant_row, grant_row_in, grant_rows, token_row, token_row_in, token_rows}
+use Rattle.gnap_tables.specs.declared.rows.GrantRow.{GrantRow}
+use Rattle.gnap_tables.specs.declared.rows.TokenRow.{TokenRow}
+use Rattle.gnap_tables.specs.Rows.{row_at, grant_row, grant_row_in, grant_rows, token_row, token_row_in, token_rows}
 use Rattle.gnap_tables.specs.Tables.{tables_of, is_row_over, sweep_grants, has_grant, sweep_tokens, sweep}
 use Rattle.gnap_tables.proofs.Lists.{any_found, filter_is}
-use Rattle.gnap_tables.proofs.GrantsAfter.{grants_changed}
-use Rattle.gnap_tables.proofs.TokensAfter.{tokens_changed}
-use Rattle.gnap_tables.proofs.Bridges.{number_is}
+use Rattle.table_laws.proofs.GrantsAfter.{grants_changed}
+use Rattle.table_laws.proofs.TokensAfter.{tokens_changed}
+use Rattle.table_laws.proofs.Bridges.{number_is}
 
 -- Each grant was opened once.
 abbrev pub IsOpenedOnce : List Note → Type 0

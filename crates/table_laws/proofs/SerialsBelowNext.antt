@@ -19,10 +19,11 @@ use Rattle.gnap_model.proofs.TrailNotes.{HasNote}
 use Rattle.gnap_laws.proofs.Bound.{few_values}
 use Rattle.gnap_laws.proofs.NewestFirst.{legal_past, trail-back}
 use Rattle.gnap_laws.proofs.Sound.{IsSound, sound_note}
-use Rattle.gnap_tables.specs.Rows.{TokenRow, token_row, token_row_in, token_rows}
+use Rattle.gnap_tables.specs.declared.rows.TokenRow.{TokenRow}
+use Rattle.gnap_tables.specs.Rows.{token_row, token_row_in, token_rows}
 use Rattle.gnap_tables.specs.StandsFor.{machine_of}
 use Rattle.gnap_tables.proofs.Lists.{HasItem, reverse-cons}
-use Rattle.gnap_tables.proofs.TablesThroughCalls.{FitFew}
+use Rattle.table_laws.proofs.TablesThroughCalls.{FitFew}
 
 item-append : {A : Type 0} (xs ys : List A) (z : A) → HasItem (xs ++ ys) z → HasItem xs z ⊎ HasItem ys z
 item-append [] ys z h = inr h

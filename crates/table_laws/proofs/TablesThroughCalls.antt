@@ -20,17 +20,17 @@ use Rattle.gnap_laws.proofs.NewestFirst.{legal_past, trail-back}
 use Rattle.gnap_laws.proofs.NoteCounts.{count-append, count-reverse}
 use Rattle.gnap_laws.proofs.Serials.{trail-onto}
 use Rattle.gnap_tables.specs.Tables.{Tables, tables_of, after_notes}
-use Rattle.gnap_tables.specs.AddableNotes.{CanAllFollow}
+use Rattle.table_laws.specs.AddableNotes.{CanAllFollow}
 use Rattle.gnap_tables.specs.ActionsByRows.{row_action, row_supply}
 use Rattle.gnap_tables.specs.StandsFor.{Kept, kept_of, machine_of, StandsByRows, at_moment, row_answer, with_notes}
-use Rattle.gnap_tables.proofs.TablesAfter.{tables_after}
-use Rattle.gnap_tables.proofs.SweptTables.{tables_swept}
-use Rattle.gnap_tables.proofs.RoundBridges.{codes_are}
-use Rattle.gnap_tables.proofs.ActionsAgree.{IsWhole, action_is}
-use Rattle.gnap_tables.proofs.WholePast.{past_whole}
-use Rattle.gnap_tables.proofs.Known.{AreKnown, past_known}
-use Rattle.gnap_tables.proofs.MoreCauses.{more_cause}
-use Rattle.gnap_tables.proofs.NotesOfAnswers.{action_follows}
+use Rattle.table_laws.proofs.TablesAfter.{tables_after}
+use Rattle.table_laws.proofs.SweptTables.{tables_swept}
+use Rattle.table_laws.proofs.RoundBridges.{codes_are}
+use Rattle.table_laws.proofs.ActionsAgree.{IsWhole, action_is}
+use Rattle.table_laws.proofs.WholePast.{past_whole}
+use Rattle.table_laws.proofs.Known.{AreKnown, past_known}
+use Rattle.table_laws.proofs.MoreCauses.{more_cause}
+use Rattle.table_laws.proofs.NotesOfAnswers.{action_follows}
 use Rattle.gnap_laws.proofs.Causes.{cause_of}
 use Rattle.gnap_laws.proofs.Sound.{IsSound, past_sound}
 

@@ -8,7 +8,8 @@ use Rattle.gnap_model.specs.declared.calls.Call.{Call}
 use Rattle.gnap_model.specs.Notes.{Event}
 use Rattle.gnap_model.specs.Answer.{gnap_answer}
 use Rattle.gnap_model.specs.Legal.{grant_law}
-use Rattle.gnap_tables.specs.Rows.{GrantRow, Round}
+use Rattle.gnap_tables.specs.declared.rows.Round.{Round}
+use Rattle.gnap_tables.specs.declared.rows.GrantRow.{GrantRow}
 use Rattle.gnap_tables.specs.Tables.{Tables}
 use Rattle.gnap_tables.specs.RowSearches.{live_rows}
 use Rattle.gnap_tables.specs.StandsFor.{kept_of, at_moment, row_answer, with_notes}

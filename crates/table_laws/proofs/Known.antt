@@ -24,11 +24,11 @@ use Rattle.gnap_model.specs.Legal.{IsLegalPast}
 use Rattle.gnap_laws.proofs.Causes.{Cause, cause_of}
 use Rattle.gnap_model.proofs.TrailNotes.{HasNote, EachNote, each-append, each-reverse, each_more, opening_noted, managed_issued}
 use Rattle.gnap_laws.proofs.Sound.{IsSound, past_sound, names_known, old_known, new_known, sound_note}
-use Rattle.gnap_tables.specs.AddableNotes.{IsNew}
+use Rattle.table_laws.specs.AddableNotes.{IsNew}
 use Rattle.gnap_tables.specs.Rows.{grant_rows}
 use Rattle.gnap_tables.specs.RowSearches.{Interaction, interaction_by_handle}
-use Rattle.gnap_tables.proofs.RoundBridges.{handle_is, found_row}
-use Rattle.gnap_tables.proofs.MoreCauses.{MoreCause, more_cause}
+use Rattle.table_laws.proofs.RoundBridges.{handle_is, found_row}
+use Rattle.table_laws.proofs.MoreCauses.{MoreCause, more_cause}
 
 -- the note speaks of a grant below g
 abbrev pub KnownAt : ℕ → Note → Type 0

@@ -1,12 +1,14 @@
 -- What notes do to the tables.
 use Rattle.std.proofs.Common.{ℕ, ◌≡◌, List, [], ◌∷◌, ◌++◌, reverse, refl, ◌∙◌, ap, append_assoc}
 use Rattle.gnap_model.specs.declared.notes.Note.{Note}
-use Rattle.gnap_tables.specs.Rows.{GrantRow, TokenRow, grant_rows, token_rows}
+use Rattle.gnap_tables.specs.declared.rows.GrantRow.{GrantRow}
+use Rattle.gnap_tables.specs.declared.rows.TokenRow.{TokenRow}
+use Rattle.gnap_tables.specs.Rows.{grant_rows, token_rows}
 use Rattle.gnap_tables.specs.Tables.{tables_of, after_note, after_notes, grants_after}
-use Rattle.gnap_tables.specs.AddableNotes.{CanFollow, CanAllFollow}
+use Rattle.table_laws.specs.AddableNotes.{CanFollow, CanAllFollow}
 use Rattle.gnap_tables.proofs.Lists.{reverse-cons}
-use Rattle.gnap_tables.proofs.GrantsAfter.{grants_next}
-use Rattle.gnap_tables.proofs.TokensAfter.{tokens_next}
+use Rattle.table_laws.proofs.GrantsAfter.{grants_next}
+use Rattle.table_laws.proofs.TokensAfter.{tokens_next}
 
 -- One more note changes the tables as `after_note` says.
 pub tables_next : (note : Note) (trail : List Note) (now : ℕ) → CanFollow now trail note → tables_of (note ∷ trail) now ≡ after_note note (tables_of trail now)

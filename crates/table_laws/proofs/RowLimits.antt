@@ -18,15 +18,18 @@ use Rattle.gnap_model.specs.Standing.GrantState.{IsPending, IsApproved, IsFinali
 use Rattle.gnap_model.specs.Legal.{grant_law, HasFewAsks}
 use Rattle.gnap_laws.proofs.WithinLimits.{history_within}
 use Rattle.gnap_laws.proofs.WrongReferences.{history_few}
-use Rattle.gnap_tables.specs.Rows.{Round, GrantRow, TokenRow, round_in, grant_row, grant_row_in, grant_rows, token_rows}
+use Rattle.gnap_tables.specs.declared.rows.Round.{Round}
+use Rattle.gnap_tables.specs.declared.rows.GrantRow.{GrantRow}
+use Rattle.gnap_tables.specs.declared.rows.TokenRow.{TokenRow}
+use Rattle.gnap_tables.specs.Rows.{round_in, grant_row, grant_row_in, grant_rows, token_rows}
 use Rattle.gnap_tables.specs.RowSearches.{live_rows, token_of}
 use Rattle.gnap_tables.specs.StandsFor.{kept_of}
-use Rattle.gnap_tables.specs.Laws.{HasFewRows, HasFewWrongs}
+use Rattle.table_laws.specs.Laws.{HasFewRows, HasFewWrongs}
 use Rattle.gnap_tables.proofs.Lists.{HasItem}
-use Rattle.gnap_tables.proofs.Bridges.{grants_counted}
-use Rattle.gnap_tables.proofs.TokenBridges.{live_tokens_are}
-use Rattle.gnap_tables.proofs.TablesThroughCalls.{legal_notes}
-use Rattle.gnap_tables.proofs.SerialsBelowNext.{item-reverse, item_in}
+use Rattle.table_laws.proofs.Bridges.{grants_counted}
+use Rattle.table_laws.proofs.TokenBridges.{live_tokens_are}
+use Rattle.table_laws.proofs.TablesThroughCalls.{legal_notes}
+use Rattle.table_laws.proofs.SerialsBelowNext.{item-reverse, item_in}
 
 -- a row is that of an opened grant
 row_opened : (trail : List Note) (now : ℕ) (ns : List Note) (row : GrantRow) → HasItem (filter_map (grant_row_in trail now) ns) row → (o : OpeningNote) × (row ≡ grant_row trail now o)

@@ -1,0 +1,2 @@
+pub mod AddableNotes
+pub mod Laws
