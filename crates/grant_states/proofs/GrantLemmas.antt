@@ -20,7 +20,7 @@ use Rattle.gnap_tables.specs.RowSearches.{row_by_number, row_by_door}
 use Rattle.gnap_tables.proofs.Lists.{HasItem}
 use Rattle.ordered_search.specs.Order.{IsAscending, IsPlaceOf}
 use Rattle.grant_states.specs.declared.changes.Change.{Change}
-use Rattle.grant_states.specs.declared.changes.Change.TheVariants.{Terms, Pend, Approve, Decide, Wrong}
+use Rattle.grant_states.specs.declared.changes.Change.TheVariants.{Terms, Approve, Decide, Wrong}
 use Rattle.grant_states.specs.declared.grant_table.GrantPlace.{GrantPlace}
 use Rattle.grant_states.specs.declared.grant_table.DoorPlace.{DoorPlace}
 use Rattle.grant_states.specs.Grants.{BeginsWith, grant_in, door_place, IsGrantPlace, AreGrantPlaces, is_current_door, is_door_of, where_some, Changes, ChangesAll, changed_by}
@@ -194,7 +194,7 @@ kept_grants test row_test places doors bound are same =
     )
 
 -- the numbers of the places ascend
-place_pairs : (places : List GrantPlace) (doors : List DoorPlace) (bound : ℕ) → AreGrantPlaces places doors bound → AllPairs (λ (a b : GrantPlace). a.number < b.number) places
+pub place_pairs : (places : List GrantPlace) (doors : List DoorPlace) (bound : ℕ) → AreGrantPlaces places doors bound → AllPairs (λ (a b : GrantPlace). a.number < b.number) places
 place_pairs places doors bound are i j d lt jn =
     let many = length-map places grant_in in
     let pair = are.ascending i j d.row.value lt (omega (arith, many, jn)) in
@@ -336,7 +336,7 @@ place_pushed places doors bound new are fresh keyed small begins above =
 
 -- ---- continuation values that are left out of the index
 
-item_filtered : {A : Type 0} (test : A → Bool) (xs : List A) (z : A) → HasItem xs z → test z ≡ true → HasItem (filter test xs) z
+pub item_filtered : {A : Type 0} (test : A → Bool) (xs : List A) (z : A) → HasItem xs z → test z ≡ true → HasItem (filter test xs) z
 item_filtered test [] z h t = absurd h
 item_filtered {A} test (x ∷ xs) z (inl e) t = at (test x) (ap test (sym e) ∙ t)
   where
@@ -400,14 +400,16 @@ current_at places at door ascending place =
 
 pub changes_keep : (change : Change) → KeepsNumber (changed_by change)
 changes_keep (Terms asks single subject) row = refl
-changes_keep (Pend round) row = refl
 changes_keep (Approve consent) row = refl
 changes_keep (Decide decision) row = refl
 changes_keep Wrong row = refl
 
-door_kept : (change : Change) (row : GrantRow) → (changed_by change row).door ≡ row.door
+-- the change leaves the continuation value
+abbrev pub KeepsDoor : (GrantRow → GrantRow) → Type 0
+KeepsDoor f = (row : GrantRow) → (f row).door ≡ row.door
+
+pub door_kept : (change : Change) → KeepsDoor (changed_by change)
 door_kept (Terms asks single subject) row = refl
-door_kept (Pend round) row = refl
 door_kept (Approve consent) row = refl
 door_kept (Decide decision) row = refl
 door_kept Wrong row = refl
@@ -417,11 +419,11 @@ number_after number f doors old new keeps is changes =
     changes.number_kept ∙ is.number ∙ sym (ap (λ (r : GrantRow). r.number) changes.row ∙ kept_number number f keeps old.row.value (number == old.number))
 
 -- the place that was changed has the continuation value that it had
-pub changed_one : (doors : List DoorPlace) (number : ℕ) (change : Change) (old new : GrantPlace) → IsGrantPlace doors old → ChangesAll number old.door_serial (changed_by change) old new → IsGrantPlace doors new
-changed_one doors number change old new is all =
+pub changed_one : (doors : List DoorPlace) (number : ℕ) (f : GrantRow → GrantRow) (old new : GrantPlace) → KeepsNumber f → KeepsDoor f → IsGrantPlace doors old → ChangesAll number old.door_serial f old new → IsGrantPlace doors new
+changed_one doors number f old new keeps door_stays is all =
     let serial : new.door_serial ≡ old.door_serial = all.door_serial ∙ either (number == old.number) in
     let door : new.row.value.door ≡ old.row.value.door = ap (λ (r : GrantRow). r.door) all.changes.row ∙ left (number == old.number) in record {
-      number = number_after number (changed_by change) doors old new (changes_keep change) is all.changes;
+      number = number_after number f doors old new keeps is all.changes;
       small = rw serial is.small;
       door = (is.door.0, is.door.1, door ∙ is.door.2 ∙ ap (λ n. value_text n is.door.0 is.door.1) (sym serial));
       listed = subst (λ n. HasItem doors (door_place n new.number)) (sym serial) (subst (λ n. HasItem doors (door_place old.door_serial n)) (sym all.changes.number_kept) is.listed);
@@ -431,8 +433,8 @@ changed_one doors number change old new is all =
     either true = refl
     either false = refl
 
-    left : (b : Bool) → (if b then changed_by change old.row.value else old.row.value).door ≡ old.row.value.door
-    left true = door_kept change old.row.value
+    left : (b : Bool) → (if b then f old.row.value else old.row.value).door ≡ old.row.value.door
+    left true = door_stays old.row.value
     left false = refl
 
 pub door_keeps : (value : Text) (earliest : ℕ) → KeepsNumber (with_door value earliest)

@@ -1,28 +1,15 @@
--- The row with an interaction, found among rows as they are stored.
+-- The row with an interaction, by what its round says.
 use Rattle.std.proofs.Common.{ℕ, ◌≡◌, Bool, true, false, List, [], ◌∷◌, ◌++◌, map, reverse, refl, sym, ◌∙◌, ap, Option, Some, None}
 use Rattle.std.specs.Prelude.{option_map, not, ◌&&◌, nat_lt, is_some}
 use Rattle.std.specs.Option.{option_or, option_and_then}
-use Rattle.std.proofs.lemmas.List.{map-append}
 use Rattle.gnap_model.specs.Common.{first_of, some_if}
 use Rattle.gnap_model.specs.declared.notes.RoundNote.{RoundNote}
 use Rattle.gnap_tables.specs.declared.rows.GrantRow.{GrantRow}
 use Rattle.gnap_tables.specs.declared.rows.Round.{Round}
 use Rattle.gnap_tables.specs.RowSearches.{Interaction, interaction_where, is_open_round, newest, round_of}
-use Rattle.gnap_tables.proofs.Lists.{reverse-cons}
-use Rattle.grant_states.specs.declared.grant_table.GrantPlace.{GrantPlace}
 use Rattle.grant_states.specs.declared.interactions.InteractionName.{InteractionName}
 use Rattle.grant_states.specs.declared.interactions.InteractionName.TheVariants.{Handle, Code}
-use Rattle.grant_states.specs.Grants.{grant_in}
 use Rattle.grant_states.specs.Interactions.{goes_by, is_called, is_open_by}
-
-first_of-map : {A B C : Type 0} (look : B → Option C) (f : A → B) (xs : List A) → first_of look (map f xs) ≡ first_of (λ x. look (f x)) xs
-first_of-map look f [] = refl
-first_of-map {A} {B} {C} look f (x ∷ xs) = ap (option_or (look (f x))) (first_of-map look f xs)
-
-reverse-map : {A B : Type 0} (f : A → B) (xs : List A) → reverse (map f xs) ≡ map f (reverse xs)
-reverse-map f [] = refl
-reverse-map {A} {B} f (x ∷ xs) =
-    reverse-cons (f x) (map f xs) ∙ ap (λ (ys : List B). ys ++ f x ∷ []) (reverse-map f xs) ∙ sym (map-append f (reverse xs) (x ∷ [])) ∙ ap (map f) (sym (reverse-cons x xs))
 
 option_map-or : {A B : Type 0} (f : A → B) (a b : Option A) → option_map f (option_or a b) ≡ option_or (option_map f a) (option_map f b)
 option_map-or f None b = refl
@@ -59,10 +46,8 @@ row_open name now row = by row.round
         at true false = refl
         at false b = refl
 
-pub interaction_found : (places : List GrantPlace) (rows : List GrantRow) (name : InteractionName) (now : ℕ) → map grant_in places ≡ rows
-    → newest (λ (place : GrantPlace). some_if (is_open_by name now (grant_in place).round) (grant_in place)) places ≡ option_map (λ (i : Interaction). i.row) (newest (interaction_where (goes_by name) now) rows)
-interaction_found places rows name now view =
-    sym (ap (λ (rs : List GrantRow). option_map (λ (i : Interaction). i.row) (newest (interaction_where (goes_by name) now) rs)) (sym view)
-    ∙ found_parts (λ (i : Interaction). i.row) (interaction_where (goes_by name) now) (λ (row : GrantRow). some_if (is_open_by name now row.round) row) (reverse (map grant_in places)) (row_open name now)
-    ∙ ap (first_of (λ (row : GrantRow). some_if (is_open_by name now row.round) row)) (reverse-map grant_in places)
-    ∙ first_of-map (λ (row : GrantRow). some_if (is_open_by name now row.round) row) grant_in (reverse places))
+-- the last row of an interaction that goes by the name is the last row that is open by it
+pub open_rows : (name : InteractionName) (now : ℕ) (rows : List GrantRow)
+    → option_map (λ (i : Interaction). i.row) (newest (interaction_where (goes_by name) now) rows) ≡ newest (λ (row : GrantRow). some_if (is_open_by name now row.round) row) rows
+open_rows name now rows =
+    found_parts (λ (i : Interaction). i.row) (interaction_where (goes_by name) now) (λ (row : GrantRow). some_if (is_open_by name now row.round) row) (reverse rows) (row_open name now)

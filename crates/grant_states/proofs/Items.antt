@@ -151,7 +151,7 @@ same_place {A} xs i x y inside is also =
     let e : Some (get_or xs i x) ≡ Some (get_or xs i y) = sym (get_at xs i x inside) ∙ get_at xs i y inside in
     let k : get_or xs i x ≡ get_or xs i y = cc e in is ∙ k ∙ sym also
 
-item_mapped : {A B : Type 0} (f : A → B) (xs : List A) (x : A) → HasItem xs x → HasItem (map f xs) (f x)
+pub item_mapped : {A B : Type 0} (f : A → B) (xs : List A) (x : A) → HasItem xs x → HasItem (map f xs) (f x)
 item_mapped f [] x h = absurd h
 item_mapped f (y ∷ ys) x (inl e) = inl (ap f e)
 item_mapped f (y ∷ ys) x (inr h) = inr (item_mapped f ys x h)

@@ -1,7 +1,8 @@
 pub mod Decoding
 pub mod Items
 pub mod Placed
+pub mod ListedNumbers
 pub mod Changed
 pub mod GrantLemmas
 pub mod InteractionLemmas
-pub mod OpenCodes
+pub mod NamedRounds

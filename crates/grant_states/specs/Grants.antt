@@ -1,18 +1,25 @@
 -- Rows of grants in the order of their numbers, and the index of their continuation values.
-use Rattle.std.specs.Prelude.{ℕ, ◌≡◌, ◌^◌, ◌<◌, ◌==◌, Bool, true, false, ◌&&◌, List, map, option_map, if◌then◌else◌, IfSome}
+use Rattle.std.specs.Prelude.{ℕ, ◌≡◌, ◌^◌, ◌<◌, ◌≤◌, ◌==◌, nat_lt, Bool, true, false, ◌&&◌, List, map, option_map, if◌then◌else◌, IfSome}
+use Rattle.std.specs.Option.{option_and_then}
 use Rattle.std.specs.List.{All, AllPairs, list_any}
 use Rattle.std.specs.declared.option.Option.{Option}
 use Rattle.std.specs.declared.option.Option.TheVariants.{None, Some}
-use Rattle.gnap_model.specs.Common.{Text}
+use Rattle.gnap_model.specs.Common.{Text, some_if}
 use Rattle.gnap_model.specs.Values.{value_text}
 use Rattle.gnap_tables.specs.declared.rows.GrantRow.{GrantRow}
 use Rattle.gnap_tables.specs.declared.rows.Round.{Round}
 use Rattle.gnap_tables.specs.Tables.{with_wrong}
+use Rattle.gnap_tables.specs.RowSearches.{newest}
 use Rattle.gnap_tables.proofs.Lists.{HasItem}
 use Rattle.grant_states.specs.declared.changes.Change.{Change}
-use Rattle.grant_states.specs.declared.changes.Change.TheVariants.{Terms, Pend, Approve, Decide, Wrong}
+use Rattle.grant_states.specs.declared.changes.Change.TheVariants.{Terms, Approve, Decide, Wrong}
 use Rattle.grant_states.specs.declared.grant_table.GrantPlace.{GrantPlace}
 use Rattle.grant_states.specs.declared.grant_table.DoorPlace.{DoorPlace}
+use Rattle.grant_states.specs.declared.interactions.InteractionName.{InteractionName}
+use Rattle.grant_states.specs.declared.numbers_by_key.Listed.{Listed}
+use Rattle.grant_states.specs.declared.round_names.RoundNames.{RoundNames}
+use Rattle.grant_states.specs.Interactions.{is_open_by}
+use Rattle.grant_states.specs.RoundNames.{IsRoundListed, handle_key, code_key}
 
 -- What contracts see of a table of grants: its rows, room for so many changes that take room, and a number above the serials of all continuation values that
 -- it was given.
@@ -29,10 +36,13 @@ BeginsWith serial value = (a : ℕ) × (b : ℕ) × (value ≡ value_text serial
 
 abbrev pub changed_by : Change → GrantRow → GrantRow
 changed_by (Terms asks single subject) row = record row { asks = asks; single = single; subject = subject }
-changed_by (Pend round) row = record row { approved = false; round = Some round }
 changed_by (Approve consent) row = record row { consent = consent; approved = true; round = None }
 changed_by (Decide decision) row = record row { round = option_map (λ (round : Round). record round { decision = Some decision }) row.round }
 changed_by Wrong row = with_wrong row
+
+-- the row is pending in this round
+abbrev pub in_round : Round → GrantRow → GrantRow
+in_round round row = record row { approved = false; round = Some round }
 
 -- wrong references are counted to 255 at most
 abbrev pub CanChange : Change → GrantRow → Type 0
@@ -64,6 +74,10 @@ pub record AreGrantPlaces (places : List GrantPlace) (doors : List DoorPlace) (d
 abbrev pub is_door_of : DoorPlace → GrantPlace → Bool
 is_door_of door place = (place.number == door.grant) && (place.door_serial == door.serial)
 
+-- the names of the rounds of all rows are listed
+abbrev pub AreRoundsListed : RoundNames → List GrantPlace → Type 0
+AreRoundsListed names places = All (λ (place : GrantPlace). IfSome place.row.value.round (IsRoundListed names place.number)) places
+
 -- the test of what is there, and false where nothing is
 abbrev pub where_some : {A : Type 0} → (A → Bool) → Option A → Bool
 where_some test None = false
@@ -72,6 +86,38 @@ where_some test (Some x) = test x
 -- the continuation value with this serial is that of a row
 abbrev pub is_current_door : List GrantPlace → DoorPlace → Bool
 is_current_door places door = list_any (is_door_of door) places
+
+-- ---- how the names of rounds are looked up
+
+abbrev pub place_numbered : ℕ → List GrantPlace → Option GrantPlace
+place_numbered number places = newest (λ (place : GrantPlace). some_if (place.number == number) place) places
+
+abbrev pub round_numbered : ℕ → List GrantPlace → Option Round
+round_numbered number places = option_and_then (λ (place : GrantPlace). place.row.value.round) (place_numbered number places)
+
+-- the grant that is listed has a round with this handle, or this user code
+abbrev pub is_handle_listed : List GrantPlace → Listed → Bool
+is_handle_listed places one = where_some (λ (round : Round). handle_key round.handle == one.key) (round_numbered one.number places)
+
+abbrev pub is_code_listed : List GrantPlace → Listed → Bool
+is_code_listed places one = where_some (λ (round : Round). where_some (λ (code : Text). code_key code == one.key) round.code) (round_numbered one.number places)
+
+-- the grant with this number, where the user may still decide in a round of this name
+abbrev pub open_numbered : List GrantPlace → ℕ → InteractionName → ℕ → Option GrantRow
+open_numbered places now name number =
+    option_and_then (λ (place : GrantPlace). some_if (is_open_by name now place.row.value.round) place.row.value) (place_numbered number places)
+
+abbrev pub later_of : Option GrantRow → Option GrantRow → Option GrantRow
+later_of None next = next
+later_of (Some before) None = Some before
+later_of (Some before) (Some next) = if nat_lt before.number next.number then Some next else Some before
+
+-- of the grants that are found by what is listed, the one with the greatest number
+pub record IsLatest (look : ℕ → Option GrantRow) (listed : List Listed) (found : Option GrantRow) : Type 0 where
+  pub is : IfSome found (λ (row : GrantRow). (one : Listed) × HasItem listed one × (look one.number ≡ Some row))
+  pub last : (one : Listed) (row : GrantRow) → HasItem listed one → look one.number ≡ Some row → (latest : GrantRow) × (found ≡ Some latest) × (row.number ≤ latest.number)
+
+-- ---- one place
 
 -- the row of this number is changed, and what stands beside it stays
 pub record Changes (number : ℕ) (change : GrantRow → GrantRow) (old new : GrantPlace) : Type 0 where

@@ -1,5 +1,5 @@
 -- By what an interaction is found (RFC 9635, section 4.1).
-use Rattle.std.specs.Prelude.{ℕ, Bool, false, not, ◌&&◌, nat_lt, is_some, if◌then◌else◌}
+use Rattle.std.specs.Prelude.{ℕ, Bool, false, not, ◌&&◌, nat_lt, is_some}
 use Rattle.std.specs.declared.option.Option.{Option}
 use Rattle.std.specs.declared.option.Option.TheVariants.{None, Some}
 use Rattle.gnap_model.specs.Common.{Text, same_text, is_text}
@@ -22,8 +22,3 @@ is_called (Code code) round = is_text code.now round.code
 abbrev pub is_open_by : InteractionName → ℕ → Option Round → Bool
 is_open_by name now None = false
 is_open_by name now (Some round) = not (is_some round.decision) && nat_lt now round.until && is_called name round
-
--- the user code of the round, where the user may still decide
-abbrev pub open_code_in : ℕ → Option Round → Option Text
-open_code_in now None = None
-open_code_in now (Some round) = if not (is_some round.decision) && nat_lt now round.until then round.code else None

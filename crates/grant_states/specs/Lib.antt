@@ -1,2 +1,5 @@
-pub mod Grants
+pub mod Serials
+pub mod Listed
+pub mod RoundNames
 pub mod Interactions
+pub mod Grants

@@ -2,7 +2,7 @@
 ghost use Rattle.std.specs.Prelude.{◌≡◌};
 ghost use Rattle.grant_states.specs.Grants.{changed_by, CanChange};
 
-use gnap_tables::rows::{Decision, GrantRow, KeptRound};
+use gnap_tables::rows::{Decision, GrantRow};
 use kept_rights::{KeptAsks, KeptRights};
 
 /// A change of the row of a grant.
@@ -17,8 +17,6 @@ pub enum Change {
         /// An identifier of the user.
         subject: bool,
     },
-    /// It is pending in a new round.
-    Pend(KeptRound),
     /// It is approved, and the user granted these rights so far.
     Approve(KeptRights),
     /// The user decided.
@@ -41,10 +39,6 @@ pub fn apply(row: &mut GrantRow, change: Change)
             row.asks = asks;
             row.single = single;
             row.subject = subject;
-        }
-        Change::Pend(round) => {
-            row.approved = false;
-            row.round = Some(round);
         }
         Change::Approve(consent) => {
             row.consent = consent;

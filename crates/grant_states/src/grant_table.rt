@@ -1,24 +1,28 @@
 //! The rows of grants.
-ghost use Rattle.std.specs.Prelude.{◌≡◌, ◌+◌, ◌-◌, ◌*◌, ◌^◌, ◌<◌, ◌≤◌, [], ◌∷◌, ◌++◌, length, map, filter, reverse, option_map, slice_get, IfOk, OnOk, not, ◌==◌};
+ghost use Rattle.std.specs.Prelude.{◌≡◌, ◌+◌, ◌-◌, ◌*◌, ◌^◌, ◌<◌, ◌≤◌, [], ◌∷◌, ◌++◌, length, map, filter, option_map, slice_get, IfSome, OnOk, not, ◌==◌};
 ghost use Rattle.std.specs.Option.{option_and_then};
-ghost use Rattle.std.specs.List.{All, filter_map};
+ghost use Rattle.std.specs.List.{All};
 ghost use Rattle.gnap_model.specs.Common.{same_text, some_if};
-ghost use Rattle.gnap_model.specs.Standing.{code_in};
 ghost use Rattle.gnap_tables.specs.declared.rows.GrantRow.{GrantRow};
 ghost use Rattle.gnap_tables.specs.Tables.{is_row_over as over, is_round_over as round_over, sweep_grants, drop_grant, has_grant, change_grant, with_door};
-ghost use Rattle.gnap_tables.specs.RowSearches.{Interaction, interaction_where, open_rounds, newest, row_by_door, row_by_number, is_approved_grant};
+ghost use Rattle.gnap_tables.specs.RowSearches.{Interaction, interaction_where, newest, row_by_door, row_by_number, is_approved_grant};
 ghost use Rattle.ordered_search.specs.Order.{IsAscending};
-ghost use Rattle.grant_states.specs.Grants.{BeginsWith, changed_by, CanChange, ChangesAll, is_door_of, where_some, is_current_door, grant_in};
-ghost use Rattle.grant_states.specs.Interactions.{goes_by, is_open_by, open_code_in};
+ghost use Rattle.grant_states.specs.Grants.{BeginsWith, changed_by, in_round, CanChange, ChangesAll, is_door_of, where_some, is_current_door, grant_in};
+ghost use Rattle.grant_states.specs.Grants.{round_numbered, is_handle_listed, is_code_listed, open_numbered, later_of, IsLatest};
+ghost use Rattle.grant_states.specs.Interactions.{goes_by, is_open_by};
+ghost use Rattle.grant_states.specs.RoundNames.{IsRoundListed, code_key as code_key_of};
+ghost use Rattle.gnap_tables.proofs.Lists.{HasItem};
+ghost use Rattle.grant_states.specs.declared.numbers_by_key.Listed.{Listed};
 ghost use Rattle.grant_states.specs.declared.grant_table.GrantPlace.{GrantPlace};
 ghost use Rattle.grant_states.specs.declared.grant_table.DoorPlace.{DoorPlace};
 
 use crate::changes::{Change, apply};
-use crate::interactions::{InteractionName, is_open, open_code};
+use crate::interactions::{InteractionName, is_open};
+use crate::numbers_by_key::Listed;
+use crate::round_names::{RoundNames, code_key, handle_key};
 use crate::serials::serial_in_value;
 use bytes_and_lists::memory::Mem;
-use bytes_and_lists::seq::Seq;
-use gnap_tables::rows::{GrantRow, KeptRound};
+use gnap_tables::rows::{GrantRow, KeptRound, Round};
 use ordered_search::{Keyed, Steps, place, place_of};
 use std::alloc::Global;
 use std::marker::Model;
@@ -55,27 +59,28 @@ impl Keyed for DoorPlace {
     }
 }
 
-/// The rows of the grants that aren't finalized, in order of their numbers, with an index of their continuation values.
+/// The rows of the grants that aren't finalized, in order of their numbers, with indexes of their continuation values and of the names of their rounds.
 #[derive(Drop)]
 pub struct GrantTable {
     places: Vec<GrantPlace>,
     doors: Vec<DoorPlace>,
     doors_below: u64,
+    names: RoundNames,
 }
 
 impl Model for GrantTable {
     ghost use Rattle.std.specs.Prelude.{map, ◌-◌, min, vec_len, vec_capacity};
-    ghost use Rattle.grant_states.specs.Grants.{StoredGrants, AreGrantPlaces, grant_in};
+    ghost use Rattle.grant_states.specs.Grants.{StoredGrants, AreGrantPlaces, AreRoundsListed, grant_in};
 
     ghost Value = { StoredGrants };
 
     ghost view = { λ s. record {
       rows = map grant_in s.places.items;
-      spare = min (vec_capacity s.places - vec_len s.places) (vec_capacity s.doors - vec_len s.doors);
+      spare = min (min (vec_capacity s.places - vec_len s.places) (vec_capacity s.doors - vec_len s.doors)) (min s.names.handles.spare s.names.codes.spare);
       doors_below = s.doors_below;
     } };
 
-    ghost invariant = { λ s. AreGrantPlaces s.places.items s.doors.items s.doors_below };
+    ghost invariant = { λ s. AreGrantPlaces s.places.items s.doors.items s.doors_below × AreRoundsListed s.names s.places.items };
 }
 
 // The row at a place, where it has this number.
@@ -117,30 +122,147 @@ fn with_door<'a>(row: Option<&'a GrantRow>, value: &[u8]) -> Option<&'a GrantRow
     row.filter(|row| row.door.as_slice() == value)
 }
 
-// The last row with the interaction of this name.
-fn last_named<'a>(places: &'a [GrantPlace], now: u64, name: InteractionName) -> Option<&'a GrantRow>
-    ensures { option_map (λ row. row.now) result ≡ newest (λ place. some_if (is_open_by name.entry now (grant_in place).round) (grant_in place)) places.now }
+// The row, where it has an interaction of this name in which the user may still decide.
+fn open_by<'a>(row: Option<&'a GrantRow>, now: u64, name: InteractionName) -> Option<&'a GrantRow>
+    ensures { option_map (λ row. row.now) result ≡ option_and_then (λ (row : GrantRow). some_if (is_open_by name.entry now row.round) row) (option_map (λ row. row.now) row.entry) }
+{
+    match row {
+        Some(row) => {
+            if is_open(&row.round, now, name) {
+                Some(row)
+            } else {
+                None
+            }
+        }
+        None => None,
+    }
+}
+
+// The grant with this number, where it has an interaction of this name in which the user may still decide.
+fn open_at<'a>(
+    places: &'a [GrantPlace],
+    number: u64,
+    now: u64,
+    name: InteractionName,
+) -> Option<&'a GrantRow>
+    requires { IsAscending (map (λ (place : GrantPlace). place.number) places.now) }
+    ensures { option_map (λ row. row.now) result ≡ open_numbered places.now now name.entry number }
+{
+    open_by(
+        numbered(places, place_of(places, number), number),
+        now,
+        name,
+    )
+}
+
+// The one of both that has the greater number.
+fn later<'a>(found: Option<&'a GrantRow>, next: Option<&'a GrantRow>) -> Option<&'a GrantRow>
+    ensures { option_map (λ row. row.now) result ≡ later_of (option_map (λ row. row.now) found.entry) (option_map (λ row. row.now) next.entry) }
+{
+    match (found, next) {
+        (Some(before), Some(row)) => {
+            if before.number < row.number {
+                Some(row)
+            } else {
+                Some(before)
+            }
+        }
+        (None, _) => next,
+        (_, None) => found,
+    }
+}
+
+// The last of the listed grants that has an interaction of this name in which the user may still decide.
+fn last_open<'a>(
+    places: &'a [GrantPlace],
+    listed: &[Listed],
+    now: u64,
+    name: InteractionName,
+) -> Option<&'a GrantRow>
+    requires { IsAscending (map (λ (place : GrantPlace). place.number) places.now) }
+    ensures { IsLatest (open_numbered places.now now name.entry) listed.now (option_map (λ row. row.now) result) }
 {
     let mut found = None;
-    for place in places {
-        if is_open(&place.row.as_ref().round, now, name) {
-            found = Some(place.row.as_ref());
-        }
+    for one in listed {
+        found = later(found, open_at(places, one.number, now, name));
     }
     found
 }
 
-// The user codes of the interactions in which the user may still decide.
-fn codes_at(alloc: Global, places: &[GrantPlace], now: u64) -> Result<Seq<[u8; 8]>, Mem>
-    ensures { IfOk result (λ codes. codes ≡ filter_map (λ place. open_code_in now (grant_in place).round) places.now) }
+// The round of the row.
+fn round_of(row: Option<&GrantRow>) -> Option<&Round>
+    ensures { option_map (λ round. round.now) result ≡ option_and_then (λ (row : GrantRow). row.round) (option_map (λ row. row.now) row.entry) }
 {
-    let mut codes = Seq::new(alloc);
-    for place in places {
-        if let Some(code) = open_code(&place.row.as_ref().round, now) {
-            codes.push(code)?;
-        }
+    match row {
+        Some(row) => match &row.round {
+            Some(kept) => Some(kept.round()),
+            None => None,
+        },
+        None => None,
     }
-    Ok(codes)
+}
+
+// The round of the grant with this number.
+fn round_at(places: &[GrantPlace], number: u64) -> Option<&Round>
+    requires { IsAscending (map (λ (place : GrantPlace). place.number) places.now) }
+    ensures { option_map (λ round. round.now) result ≡ round_numbered number places.now }
+{
+    round_of(numbered(places, place_of(places, number), number))
+}
+
+// The grant that is listed has a round with this handle.
+fn has_handle(places: &[GrantPlace], one: &Listed) -> bool
+    requires { IsAscending (map (λ (place : GrantPlace). place.number) places.now) }
+    ensures { result ≡ is_handle_listed places.now one.now }
+{
+    match round_at(places, one.number) {
+        Some(round) => handle_key(&round.handle) == one.key,
+        None => false,
+    }
+}
+
+// The round has this user code.
+fn is_code_of(round: &Round, key: u64) -> bool
+    ensures { result ≡ where_some (λ code. code_key_of code == key) round.now.code }
+{
+    match &round.code {
+        Some(code) => code_key(code) == key,
+        None => false,
+    }
+}
+
+// The grant that is listed has a round with this user code.
+fn has_code(places: &[GrantPlace], one: &Listed) -> bool
+    requires { IsAscending (map (λ (place : GrantPlace). place.number) places.now) }
+    ensures { result ≡ is_code_listed places.now one.now }
+{
+    match round_at(places, one.number) {
+        Some(round) => is_code_of(round, one.key),
+        None => false,
+    }
+}
+
+// Lists a grant under the names of its round, where it has one.
+fn list_round(names: &mut RoundNames, number: u64, round: &Option<KeptRound>)
+    requires handle_room { 0 < names.old.handles.spare }
+    requires code_room { 0 < names.old.codes.spare }
+    ensures listed { IfSome round.now (IsRoundListed names.new number) }
+    ensures handles { (one : Listed) → HasItem names.old.handles.listed one → HasItem names.new.handles.listed one }
+    ensures codes { (one : Listed) → HasItem names.old.codes.listed one → HasItem names.new.codes.listed one }
+{
+    if let Some(kept) = round {
+        names.list(number, kept.round());
+    }
+}
+
+// Leaves out the names of rounds that grants had before.
+fn drop_unnamed(names: &mut RoundNames, places: &[GrantPlace])
+    requires { IsAscending (map (λ (place : GrantPlace). place.number) places.now) }
+    ensures handles { names.new.handles.listed ≡ filter (is_handle_listed places.now) names.old.handles.listed }
+    ensures codes { names.new.codes.listed ≡ filter (is_code_listed places.now) names.old.codes.listed }
+{
+    names.handles.keep(|one| has_handle(places, one));
+    names.codes.keep(|one| has_code(places, one));
 }
 
 /// The end of the round has come.
@@ -174,6 +296,23 @@ fn change_place(place: &mut GrantPlace, number: u64, change: Change)
 {
     if place.number == number {
         apply(place.row.as_mut(), change);
+    }
+}
+
+// The row is pending in this round.
+fn put_round(row: &mut GrantRow, round: KeptRound)
+    ensures { row.new ≡ in_round round row.old }
+{
+    row.approved = false;
+    row.round = Some(round);
+}
+
+// The row is pending in this round, where it has this number.
+fn pend_place(place: &mut GrantPlace, number: u64, round: KeptRound)
+    ensures { ChangesAll number place.old.door_serial (in_round round) place.old place.new }
+{
+    if place.number == number {
+        put_round(place.row.as_mut(), round);
     }
 }
 
@@ -239,6 +378,7 @@ impl GrantTable {
             places: Vec::new(alloc),
             doors: Vec::new(alloc),
             doors_below: 0,
+            names: RoundNames::new(alloc),
         }
     }
 
@@ -302,21 +442,14 @@ impl GrantTable {
         }
     }
 
-    /// The grant with the interaction of this name in which the user may still decide. A pass over all rows.
+    /// The grant with the interaction of this name in which the user may still decide.
     pub fn by_interaction(&self, now: u64, name: InteractionName) -> Option<&GrantRow>
         ensures { option_map (λ row. row.now) result ≡ option_map (λ (i : Interaction). i.row) (newest (interaction_where (goes_by name.entry) now) self.now.rows) }
     {
-        last_named(self.places.as_slice(), now, name)
+        last_open(self.places.as_slice(), self.names.of(name), now, name)
     }
 
-    /// The user codes of the interactions in which the user may still decide, that of the oldest grant first. A pass over all rows.
-    pub fn open_codes(&self, alloc: Global, now: u64) -> Result<Seq<[u8; 8]>, Mem>
-        ensures { IfOk result (λ codes. codes ≡ reverse (filter_map code_in (open_rounds now self.now.rows))) }
-    {
-        codes_at(alloc, self.places.as_slice(), now)
-    }
-
-    // Leaves out of the index what grants had before, where that is more than there are rows.
+    // Leaves out of the index of continuation values what grants had before, where that is more than there are rows.
     fn drop_former(&mut self)
         ensures rows { self.new.rows ≡ self.old.rows }
         ensures doors { self.new.doors_below ≡ self.old.doors_below }
@@ -326,20 +459,31 @@ impl GrantTable {
         }
     }
 
-    /// Takes memory for one row more and for one new continuation value. An `Err` changes no row.
+    // Leaves out the names of rounds that grants had before, where they are more than there are rows.
+    fn drop_former_names(&mut self)
+        ensures rows { self.new.rows ≡ self.old.rows }
+        ensures doors { self.new.doors_below ≡ self.old.doors_below }
+    {
+        if self.names.handles.len() / 2 > self.places.len() {
+            drop_unnamed(&mut self.names, self.places.as_slice());
+        }
+    }
+
+    /// Takes memory for two changes that take room: a new continuation value, and a row or a round. An `Err` changes no row.
     pub fn reserve(&mut self) -> Result<(), Mem>
         ensures rows { self.new.rows ≡ self.old.rows }
         ensures doors { self.new.doors_below ≡ self.old.doors_below }
-        ensures ok { OnOk result (0 < self.new.spare) }
+        ensures ok { OnOk result (2 ≤ self.new.spare) }
     {
         self.drop_former();
-        if self.places.reserve(1).is_err() {
+        self.drop_former_names();
+        if self.places.reserve(2).is_err() {
             return Err(Mem);
         }
-        if self.doors.reserve(1).is_err() {
+        if self.doors.reserve(2).is_err() {
             return Err(Mem);
         }
-        Ok(())
+        self.names.reserve(2)
     }
 
     /// Appends a row, which has a greater number than all, with a continuation value that begins with this serial. Takes no memory.
@@ -352,14 +496,16 @@ impl GrantTable {
         ensures rows { self.new.rows ≡ self.old.rows ++ row.value ∷ [] }
         ensures doors { self.new.doors_below ≡ serial + 1 }
     {
+        let number = row.number;
+        list_round(&mut self.names, number, &row.as_ref().round);
         let place = GrantPlace {
-            number: row.number,
+            number,
             door_serial: serial,
             row,
         };
         let door = DoorPlace {
             serial,
-            grant: place.number,
+            grant: number,
         };
         self.doors.push_reserved(door);
         self.doors_below = serial + 1;
@@ -386,6 +532,7 @@ impl GrantTable {
         requires fresh { self.old.doors_below ≤ serial }
         requires small { serial < 2 ^ 64 - 1 }
         ensures rows { self.new.rows ≡ change_grant number (with_door value earliest) self.old.rows }
+        ensures spare { self.old.spare ≤ self.new.spare + 1 }
         ensures doors { self.new.doors_below ≡ serial + 1 }
     {
         let door = DoorPlace {
@@ -397,6 +544,19 @@ impl GrantTable {
         let at = place_of(self.places.as_slice(), number);
         if at < self.places.len() {
             renew_place(&mut self.places[at], number, value, serial, earliest);
+        }
+    }
+
+    /// A grant is pending in a new round. Takes no memory.
+    pub fn pend(&mut self, number: u64, round: KeptRound)
+        requires room { 0 < self.old.spare }
+        ensures rows { self.new.rows ≡ change_grant number (in_round round) self.old.rows }
+        ensures doors { self.new.doors_below ≡ self.old.doors_below }
+    {
+        self.names.list(number, round.round());
+        let at = place_of(self.places.as_slice(), number);
+        if at < self.places.len() {
+            pend_place(&mut self.places[at], number, round);
         }
     }
 

@@ -1,6 +1,6 @@
 //! By what an interaction is found (RFC 9635, section 4.1).
 ghost use Rattle.std.specs.Prelude.{◌≡◌};
-ghost use Rattle.grant_states.specs.Interactions.{is_called, is_open_by, open_code_in};
+ghost use Rattle.grant_states.specs.Interactions.{is_called, is_open_by};
 
 use gnap_tables::rows::{KeptRound, Round};
 
@@ -36,22 +36,5 @@ pub fn is_open(round: &Option<KeptRound>, now: u64, name: InteractionName) -> bo
             round.decision.is_none() && now < round.until && has_name(round, name)
         }
         None => false,
-    }
-}
-
-/// The user code of a round in which the user may still decide, where one was asked for.
-pub fn open_code(round: &Option<KeptRound>, now: u64) -> Option<[u8; 8]>
-    ensures { result ≡ open_code_in now round.now }
-{
-    match round {
-        Some(kept) => {
-            let round = kept.round();
-            if round.decision.is_none() && now < round.until {
-                round.code
-            } else {
-                None
-            }
-        }
-        None => None,
     }
 }

@@ -7,10 +7,13 @@
 pub mod changes;
 pub mod grant_table;
 pub mod interactions;
+pub mod numbers_by_key;
+mod round_names;
 pub mod serials;
 
 pub use changes::Change;
 pub use gnap_tables::rows::{Decision, GrantRow, Round};
 pub use grant_table::GrantTable;
 pub use interactions::InteractionName;
+pub use numbers_by_key::{Listed, NumbersByKey};
 pub use serials::serial_in_value;

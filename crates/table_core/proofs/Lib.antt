@@ -11,3 +11,4 @@ pub mod SettledRequests
 pub mod Stepping
 pub mod ToldTokens
 pub mod Undrawn
+pub mod TakenCodes

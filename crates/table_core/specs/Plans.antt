@@ -15,7 +15,7 @@ use Rattle.gnap_tables.specs.declared.rows.GrantRow.{GrantRow}
 use Rattle.gnap_tables.specs.declared.rows.Round.{Round}
 use Rattle.gnap_tables.specs.declared.rows.TokenRow.{TokenRow}
 use Rattle.gnap_tables.specs.Tables.{Tables, after_notes, change_grant, drop_grant, drop_tokens_of, with_approval, with_door, with_terms}
-use Rattle.grant_states.specs.Grants.{BeginsWith, changed_by}
+use Rattle.grant_states.specs.Grants.{BeginsWith, changed_by, in_round}
 use Rattle.token_manager.specs.Tokens.{IsTokenRow}
 use Rattle.table_core.specs.CallEffects.{tables_in}
 use Rattle.table_core.specs.Entries.{supply, tables}
@@ -49,10 +49,6 @@ abbrev pub renewed : Renewal → Tables → Tables
 renewed renewal tables = tables_in
     (change_grant renewal.number (with_door renewal.door renewal.earliest) (approved renewal.number renewal.consent (retermed renewal.number renewal.terms tables.grants)))
     (unretired renewal.retires renewal.number tables.tokens ++ rows_in renewal.tokens)
-
--- the row is pending in this round
-abbrev pub in_round : Round → GrantRow → GrantRow
-in_round round row = record row { approved = false; round = Some round }
 
 abbrev pub pended : TermsNote → Round → Text → ℕ → List GrantRow → List GrantRow
 pended terms round door earliest rows =

@@ -1,7 +1,8 @@
 //! The user is asked: a grant is pending in a new round of interaction (RFC 9635, section 3.3).
 ghost use Rattle.std.specs.Prelude.{◌≡◌, IfOk};
+ghost use Rattle.std.specs.List.{list_any};
 ghost use Rattle.std.specs.declared.option.Option.TheVariants.{None};
-ghost use Rattle.gnap_model.specs.Common.{some_if};
+ghost use Rattle.gnap_model.specs.Common.{same_text, some_if};
 ghost use Rattle.gnap_model.specs.Asked.{wants_code};
 ghost use Rattle.gnap_model.specs.Actions.{drawn_value};
 ghost use Rattle.gnap_tables.specs.Rows.{round_row};
@@ -17,7 +18,9 @@ use gnap_model::calls::Reply;
 use gnap_model::objects::Modes;
 use gnap_tables::rows::KeptRound;
 use grant_rules::drawing::pending_reply;
-use grant_rules::user_codes::free_code;
+use grant_rules::user_codes::CODE_COUNT;
+use grant_rules::values::code_text;
+use grant_states::InteractionName;
 use std::alloc::Global;
 
 /// The user is asked in a new round.
@@ -33,20 +36,41 @@ pub struct Asking {
     pub round: KeptRound,
 }
 
-// The user code that the entry draws: that of no live interaction (RFC 9635, section 3.3.3).
-fn user_code(alloc: Global, entering: &Entering) -> Result<[u8; 8], Mem>
+// A live interaction has this user code.
+fn is_taken(entering: &Entering, code: &[u8; 8]) -> bool
+    ensures { result ≡ list_any (same_text code.now) (supply entering.now).taken }
+{
+    entering
+        .grants
+        .by_interaction(entering.supply.moment, InteractionName::Code(code))
+        .is_some()
+}
+
+// The user code that the entry draws: that of no live interaction (RFC 9635, section 3.3.3). No memory holds so many grants that all codes could be taken.
+fn user_code(entering: &Entering) -> Result<[u8; 8], Mem>
     ensures { IfOk result (λ code. code ≡ code_for (supply entering.now)) }
 {
-    let taken = entering.grants.open_codes(alloc, entering.supply.moment)?;
-    Ok(free_code(entering.supply.words[47], taken.as_slice()))
+    let grants = entering.grants.len();
+    if CODE_COUNT <= grants as u64 {
+        return Err(Mem);
+    }
+    let mut tried = entering.supply.words[47] % CODE_COUNT;
+    for _ in 0..grants {
+        let code = code_text(tried);
+        if !is_taken(entering, &code) {
+            return Ok(code);
+        }
+        tried = (tried + 1) % CODE_COUNT;
+    }
+    Ok(code_text(tried))
 }
 
 // The user code, where the client can show one.
-fn wanted_code(alloc: Global, entering: &Entering, modes: &Modes) -> Result<Option<[u8; 8]>, Mem>
+fn wanted_code(entering: &Entering, modes: &Modes) -> Result<Option<[u8; 8]>, Mem>
     ensures { IfOk result (λ code. code ≡ some_if (wants_code modes.now) (code_for (supply entering.now))) }
 {
     if modes.user_code || modes.user_code_uri {
-        Ok(Some(user_code(alloc, entering)?))
+        Ok(Some(user_code(entering)?))
     } else {
         Ok(None)
     }
@@ -73,7 +97,7 @@ pub fn ask(
     ensures door { IfOk result (λ asking. asking.door ≡ drawn_value (supply entering.now) 0) }
     ensures round { IfOk result (λ asking. asking.round ≡ round_row 0 None (begun_round entering.now number end modes.now)) }
 {
-    let code = wanted_code(alloc, entering, modes)?;
+    let code = wanted_code(entering, modes)?;
     let round = entering.supply.round(number, end, modes, code)?;
     let door = entering.supply.value(0);
     Ok(Asking {

@@ -7,8 +7,9 @@ ghost use Rattle.gnap_model.specs.declared.calls.Call.TheVariants.{Begin};
 ghost use Rattle.gnap_tables.specs.declared.rows.GrantRow.{GrantRow};
 ghost use Rattle.gnap_tables.specs.Tables.{new_grant, with_terms, with_door};
 ghost use Rattle.gnap_tables.specs.ActionsByRows.{begin_rows, row_action};
+ghost use Rattle.grant_states.specs.Grants.{in_round};
 ghost use Rattle.table_core.specs.Entries.{tables};
-ghost use Rattle.table_core.specs.Plans.{Plans, in_round};
+ghost use Rattle.table_core.specs.Plans.{Plans};
 
 use crate::asking::ask;
 use crate::entering::{Entering, Plan, TableChange, refused};

@@ -105,7 +105,7 @@ fn pend(
     serial: u64,
     earliest: u64,
 )
-    requires room { 0 < grants.old.spare }
+    requires room { 2 ≤ grants.old.spare }
     requires door { BeginsWith serial door }
     requires fresh { grants.old.doors_below ≤ serial }
     requires small { serial < 2 ^ 64 - 1 }
@@ -115,15 +115,15 @@ fn pend(
     let number = terms.grant;
     put_terms(grants, number, Some(terms));
     grants.renew_door(number, door, serial, earliest);
-    grants.change(number, Change::Pend(round));
+    grants.pend(number, round);
 }
 
-// Takes memory for a row and a continuation value of a grant, and for so many rows of tokens.
+// Takes memory for a continuation value and a row or a round of a grant, and for so many rows of tokens.
 fn take_room(grants: &mut GrantTable, tokens: &mut TokenTable, more: usize) -> Result<(), Mem>
     ensures grants { grants.new.rows ≡ grants.old.rows }
     ensures doors { grants.new.doors_below ≡ grants.old.doors_below }
     ensures tokens { tokens.new.rows ≡ tokens.old.rows }
-    ensures room { OnOk result (0 < grants.new.spare) }
+    ensures room { OnOk result (2 ≤ grants.new.spare) }
     ensures token_room { OnOk result (more ≤ tokens.new.spare) }
 {
     tokens.reserve(more)?;

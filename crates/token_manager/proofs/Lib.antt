@@ -1,3 +1,2 @@
-pub mod SerialLemmas
 pub mod TokenLemmas
 pub mod LiveRows

@@ -1,6 +1,6 @@
 -- Rows of tokens, as they are stored.
 use Rattle.std.proofs.Common.{ℕ, ◌≡◌, ◌⊎◌, ◌<◌, ◌≤◌, ◌+◌, ◌-◌, ◌^◌, Bool, true, false, cond, List, [], ◌∷◌, ◌++◌, length, get_or, map, refl, sym, ◌∙◌, ap, subst, inl, inr, arith, Option, Some, None}
-use Rattle.std.specs.Prelude.{slice_get, nat_lt, not, ◌&&◌, ◌||◌, filter, ◌==◌, if◌then◌else◌, option_map}
+use Rattle.std.specs.Prelude.{slice_get, is_some, nat_lt, not, ◌&&◌, ◌||◌, filter, ◌==◌, if◌then◌else◌, option_map}
 use Rattle.std.specs.Option.{option_and_then}
 use Rattle.std.specs.List.{All, AllPairs, remove, count_by, list_any}
 use Rattle.std.proofs.Math.ListN.{set}
@@ -23,12 +23,14 @@ use Rattle.gnap_tables.specs.RowSearches.{newest, row_by_manage, is_live_row, li
 use Rattle.gnap_tables.specs.ActionsByRows.{rows_of_others}
 use Rattle.gnap_tables.proofs.Lists.{HasItem, filter_is, filter_map_same, all_kept}
 use Rattle.ordered_search.specs.Order.{IsAscending, IsPlaceOf}
-use Rattle.token_manager.specs.declared.serials_by_grant.OwnedSerial.{OwnedSerial}
+use Rattle.grant_states.specs.declared.numbers_by_key.Listed.{Listed}
+use Rattle.grant_states.specs.Listed.{under}
 use Rattle.token_manager.specs.declared.token_table.TokenPlace.{TokenPlace}
-use Rattle.token_manager.specs.Tokens.{IsTokenRow, AreTokenRows, row_by_value, token_in, IsTokenPlace, AreTokenPlaces, AreListed, owned_serial, is_among, Marks, is_live_place, is_live_elsewhere}
+use Rattle.token_manager.specs.Tokens.{IsTokenRow, AreTokenRows, row_by_value, token_in, IsTokenPlace, AreTokenPlaces, AreListed, is_among, Marks, is_live_place, is_live_elsewhere}
+use Rattle.grant_states.specs.Grants.{where_some}
 use Rattle.grant_states.proofs.Decoding.{Tells, no_number}
-use Rattle.grant_states.proofs.Items.{item_all, item_in, item_of_map, get_at, get_past, newest_none}
-use Rattle.grant_states.proofs.Placed.{ascending_keys, at_place, one_key, placed, eqb-self}
+use Rattle.grant_states.proofs.Items.{any_newest, item_all, item_in, item_of_map, get_at, get_past, newest_none}
+use Rattle.grant_states.proofs.Placed.{ascending_keys, at_place, one_key, placed, placed_key, eqb-self}
 use Rattle.grant_states.proofs.Changed.{changed_at, changed_past, removed_at, all_left, map-filter}
 
 abbrev pub place_serials : List TokenPlace → List ℕ
@@ -311,11 +313,11 @@ none_out slice places at grant serial same order place other = all_stay (is_this
     inside q mine its there (inr le) = let k : None ≡ Some q = sym (get_past places at le) ∙ there in cc k
 
 -- one serial more
-pub one_more : (places : List TokenPlace) (grant : ℕ) (owned : List OwnedSerial) (one : OwnedSerial)
-    → filter (λ (p : TokenPlace). not (is_this grant one.serial p)) (filter (λ (p : TokenPlace). not (is_among grant owned p)) places) ≡ filter (λ (p : TokenPlace). not (is_among grant (owned ++ one ∷ []) p)) places
+pub one_more : (places : List TokenPlace) (grant : ℕ) (owned : List Listed) (one : Listed)
+    → filter (λ (p : TokenPlace). not (is_this grant one.number p)) (filter (λ (p : TokenPlace). not (is_among grant owned p)) places) ≡ filter (λ (p : TokenPlace). not (is_among grant (owned ++ one ∷ []) p)) places
 one_more places grant owned one =
-    filter-filter (λ (p : TokenPlace). not (is_this grant one.serial p)) (λ (p : TokenPlace). not (is_among grant owned p)) places
-    ∙ filter_agrees _ _ places (λ p h. joined (grant == p.grant) (one.serial == p.serial) (list_any (λ (o : OwnedSerial). o.serial == p.serial) owned) ∙ ap (λ b. not ((grant == p.grant) && b)) (sym (any_appended p)))
+    filter-filter (λ (p : TokenPlace). not (is_this grant one.number p)) (λ (p : TokenPlace). not (is_among grant owned p)) places
+    ∙ filter_agrees _ _ places (λ p h. joined (grant == p.grant) (one.number == p.serial) (list_any (λ (o : Listed). o.number == p.serial) owned) ∙ ap (λ b. not ((grant == p.grant) && b)) (sym (any_appended p)))
   where
     joined : (g s a : Bool) → (not (g && s) && not (g && a)) ≡ not (g && (a || s))
     joined true true true = refl
@@ -328,8 +330,8 @@ one_more places grant owned one =
     last true = refl
     last false = refl
 
-    any_appended : (p : TokenPlace) → list_any (λ (o : OwnedSerial). o.serial == p.serial) (owned ++ one ∷ []) ≡ (list_any (λ (o : OwnedSerial). o.serial == p.serial) owned || (one.serial == p.serial))
-    any_appended p = list_any-append (λ (o : OwnedSerial). o.serial == p.serial) owned (one ∷ []) ∙ ap (λ b. list_any (λ (o : OwnedSerial). o.serial == p.serial) owned || b) (last (one.serial == p.serial))
+    any_appended : (p : TokenPlace) → list_any (λ (o : Listed). o.number == p.serial) (owned ++ one ∷ []) ≡ (list_any (λ (o : Listed). o.number == p.serial) owned || (one.number == p.serial))
+    any_appended p = list_any-append (λ (o : Listed). o.number == p.serial) owned (one ∷ []) ∙ ap (λ b. list_any (λ (o : Listed). o.number == p.serial) owned || b) (last (one.number == p.serial))
 
 pub none_yet : (places : List TokenPlace) (grant : ℕ) → places ≡ filter (λ (p : TokenPlace). not (is_among grant [] p)) places
 none_yet places grant = all_stay (is_among grant []) places (λ p h e. let both = both_true (grant == p.grant) false e in cc both.1)
@@ -345,49 +347,49 @@ any_with_key {A} key (x ∷ xs) z (inr h) = either (key x == key z) (any_with_ke
     either false e = e
 
 -- What stands under the grant are all tokens of it.
-pub all_of_grant : (places : List TokenPlace) (owned run : List OwnedSerial) (grant : ℕ) → AreListed owned places → ((one : OwnedSerial) → HasItem owned one → one.grant ≡ grant → HasItem run one)
+pub all_of_grant : (places : List TokenPlace) (owned run : List Listed) (grant : ℕ) → AreListed owned places → ((one : Listed) → HasItem owned one → one.key ≡ grant → HasItem run one)
     → filter (λ (p : TokenPlace). not (is_among grant run p)) places ≡ filter (λ (p : TokenPlace). not (grant == p.grant)) places
 all_of_grant places owned run grant listed all =
     filter_agrees (λ (p : TokenPlace). not (is_among grant run p)) (λ (p : TokenPlace). not (grant == p.grant)) places (λ p h. ap not (same p h (grant == p.grant) refl))
   where
-    same : (p : TokenPlace) → HasItem places p → (b : Bool) → (grant == p.grant) ≡ b → (b && list_any (λ (o : OwnedSerial). o.serial == p.serial) run) ≡ b
-    same p h true e = any_with_key (λ (o : OwnedSerial). o.serial) run (owned_serial p.grant p.serial) (all (owned_serial p.grant p.serial) (item_all (λ (q : TokenPlace). HasItem owned (owned_serial q.grant q.serial)) places p listed h) (sym (eqb-true grant p.grant e)))
+    same : (p : TokenPlace) → HasItem places p → (b : Bool) → (grant == p.grant) ≡ b → (b && list_any (λ (o : Listed). o.number == p.serial) run) ≡ b
+    same p h true e = any_with_key (λ (o : Listed). o.number) run (under p.grant p.serial) (all (under p.grant p.serial) (item_all (λ (q : TokenPlace). HasItem owned (under q.grant q.serial)) places p listed h) (sym (eqb-true grant p.grant e)))
     same p h false e = refl
 
 -- what is left is listed
-pub listed_left : (test : TokenPlace → Bool) (owned : List OwnedSerial) (places : List TokenPlace) → AreListed owned places → AreListed owned (filter test places)
-listed_left test owned places listed = All-filter test (λ (p : TokenPlace). HasItem owned (owned_serial p.grant p.serial)) places listed
+pub listed_left : (test : TokenPlace → Bool) (owned : List Listed) (places : List TokenPlace) → AreListed owned places → AreListed owned (filter test places)
+listed_left test owned places listed = All-filter test (λ (p : TokenPlace). HasItem owned (under p.grant p.serial)) places listed
 
-pub listed_removed : (owned : List OwnedSerial) (places : List TokenPlace) (at serial : ℕ) (old : TokenPlace) → AreTokenPlaces places → AreListed owned places → at < length places → old ≡ get_or places at old → old.serial ≡ serial
+pub listed_removed : (owned : List Listed) (places : List TokenPlace) (at serial : ℕ) (old : TokenPlace) → AreTokenPlaces places → AreListed owned places → at < length places → old ≡ get_or places at old → old.serial ≡ serial
     → AreListed owned (remove places at)
 listed_removed owned places at serial old are listed inside is mine =
     subst (AreListed owned) (sym (removed_at (λ (p : TokenPlace). p.serial) places at serial old (place_pairs places are) inside (ap (λ (p : TokenPlace). p.serial) (sym is) ∙ mine)))
     (listed_left (λ (p : TokenPlace). not (serial == p.serial)) owned places listed)
 
-pub listed_marked : (owned : List OwnedSerial) (places : List TokenPlace) (at serial : ℕ) (old new : TokenPlace) → AreListed owned places → at < length places → old ≡ get_or places at old → Marks serial old new
+pub listed_marked : (owned : List Listed) (places : List TokenPlace) (at serial : ℕ) (old new : TokenPlace) → AreListed owned places → at < length places → old ≡ get_or places at old → Marks serial old new
     → AreListed owned (set places at new)
 listed_marked owned places at serial old new listed inside is marks =
-    All-set (λ (p : TokenPlace). HasItem owned (owned_serial p.grant p.serial)) places at new (rw (marks.serial_kept, marks.grant_kept) (subst (λ (p : TokenPlace). HasItem owned (owned_serial p.grant p.serial)) (sym is) (listed at old inside))) listed
+    All-set (λ (p : TokenPlace). HasItem owned (under p.grant p.serial)) places at new (rw (marks.serial_kept, marks.grant_kept) (subst (λ (p : TokenPlace). HasItem owned (under p.grant p.serial)) (sym is) (listed at old inside))) listed
 
-pub listed_pushed : (before after : List OwnedSerial) (places : List TokenPlace) (new : TokenPlace) → AreListed before places → ((one : OwnedSerial) → HasItem before one → HasItem after one) → HasItem after (owned_serial new.grant new.serial)
+pub listed_pushed : (before after : List Listed) (places : List TokenPlace) (new : TokenPlace) → AreListed before places → ((one : Listed) → HasItem before one → HasItem after one) → HasItem after (under new.grant new.serial)
     → AreListed after (places ++ new ∷ [])
 listed_pushed before after places new listed kept has =
-    All-push (λ (p : TokenPlace). HasItem after (owned_serial p.grant p.serial)) places new (λ k d inside. kept (owned_serial (get_or places k d).grant (get_or places k d).serial) (listed k d inside)) has
+    All-push (λ (p : TokenPlace). HasItem after (under p.grant p.serial)) places new (λ k d inside. kept (under (get_or places k d).grant (get_or places k d).serial) (listed k d inside)) has
 
 -- a serial of a row stays in the index
-pub listed_still : (owned : List OwnedSerial) (slice places : List TokenPlace) → slice ≡ places → AreListed owned places
-    → AreListed (filter (λ (one : OwnedSerial). list_any (λ (p : TokenPlace). p.serial == one.serial) slice) owned) places
+pub listed_still : (owned : List Listed) (slice places : List TokenPlace) → slice ≡ places → AreListed owned places
+    → AreListed (filter (λ (one : Listed). list_any (λ (p : TokenPlace). p.serial == one.number) slice) owned) places
 listed_still owned slice places same listed k d inside =
     kept owned (get_or places k d) (item_in places k d inside) (listed k d inside)
   where
-    kept : (os : List OwnedSerial) (p : TokenPlace) → HasItem places p → HasItem os (owned_serial p.grant p.serial) → HasItem (filter (λ (one : OwnedSerial). list_any (λ (q : TokenPlace). q.serial == one.serial) slice) os) (owned_serial p.grant p.serial)
+    kept : (os : List Listed) (p : TokenPlace) → HasItem places p → HasItem os (under p.grant p.serial) → HasItem (filter (λ (one : Listed). list_any (λ (q : TokenPlace). q.serial == one.number) slice) os) (under p.grant p.serial)
     kept [] p h l = absurd l
-    kept (o ∷ os) p h (inl e) = subst (λ b. HasItem (cond b (o ∷ filter (λ (one : OwnedSerial). list_any (λ (q : TokenPlace). q.serial == one.serial) slice) os) (filter (λ (one : OwnedSerial). list_any (λ (q : TokenPlace). q.serial == one.serial) slice) os)) (owned_serial p.grant p.serial))
-        (sym (subst (λ (x : OwnedSerial). list_any (λ (q : TokenPlace). q.serial == x.serial) slice ≡ true) e (any_with_key (λ (q : TokenPlace). q.serial) slice p (subst (λ (ps : List TokenPlace). HasItem ps p) (sym same) h)))) (inl e)
-    kept (o ∷ os) p h (inr l) = either (list_any (λ (q : TokenPlace). q.serial == o.serial) slice) (kept os p h l)
+    kept (o ∷ os) p h (inl e) = subst (λ b. HasItem (cond b (o ∷ filter (λ (one : Listed). list_any (λ (q : TokenPlace). q.serial == one.number) slice) os) (filter (λ (one : Listed). list_any (λ (q : TokenPlace). q.serial == one.number) slice) os)) (under p.grant p.serial))
+        (sym (subst (λ (x : Listed). list_any (λ (q : TokenPlace). q.serial == x.number) slice ≡ true) e (any_with_key (λ (q : TokenPlace). q.serial) slice p (subst (λ (ps : List TokenPlace). HasItem ps p) (sym same) h)))) (inl e)
+    kept (o ∷ os) p h (inr l) = either (list_any (λ (q : TokenPlace). q.serial == o.number) slice) (kept os p h l)
       where
-        either : (b : Bool) → HasItem (filter (λ (one : OwnedSerial). list_any (λ (q : TokenPlace). q.serial == one.serial) slice) os) (owned_serial p.grant p.serial)
-            → HasItem (cond b (o ∷ filter (λ (one : OwnedSerial). list_any (λ (q : TokenPlace). q.serial == one.serial) slice) os) (filter (λ (one : OwnedSerial). list_any (λ (q : TokenPlace). q.serial == one.serial) slice) os)) (owned_serial p.grant p.serial)
+        either : (b : Bool) → HasItem (filter (λ (one : Listed). list_any (λ (q : TokenPlace). q.serial == one.number) slice) os) (under p.grant p.serial)
+            → HasItem (cond b (o ∷ filter (λ (one : Listed). list_any (λ (q : TokenPlace). q.serial == one.number) slice) os) (filter (λ (one : Listed). list_any (λ (q : TokenPlace). q.serial == one.number) slice) os)) (under p.grant p.serial)
         either true i = inr i
         either false i = i
 
@@ -451,3 +453,19 @@ limit_far rows live more le few small = by (nat_lt 65536 (live + more)) refl
     by : (b : Bool) → nat_lt 65536 (live + more) ≡ b → false ≡ b
     by true e = absurd (grind (arith, nat_tests, e, le, few, small))
     by false e = refl
+
+-- ---- an item with a key
+
+-- the test of the key at the place of a key
+pub key_found : {A : Type 0} (key : A → ℕ) (xs : List A) (i k : ℕ) → IsAscending (map key xs) → IsPlaceOf k (map key xs) i
+    → (o : Option ℕ) → o ≡ option_map key (slice_get xs i) → where_some (λ n. n == k) o ≡ list_any (λ x. key x == k) xs
+key_found {A} key xs i k ascending place o e =
+    ap (where_some (λ n. n == k)) e ∙ by (slice_get xs i) ∙ ap is_some (placed_key key xs i k ascending place) ∙ any_newest (λ x. key x == k) xs
+  where
+    tested : (b : Bool) (z : A) → b ≡ is_some (some_if b z)
+    tested true z = refl
+    tested false z = refl
+
+    by : (p : Option A) → where_some (λ n. n == k) (option_map key p) ≡ is_some (option_and_then (λ (x : A). some_if (key x == k) x) p)
+    by None = refl
+    by (Some z) = tested (key z == k) z

@@ -9,7 +9,8 @@ use Rattle.gnap_tables.specs.declared.rows.TokenRow.{TokenRow}
 use Rattle.gnap_tables.specs.Tables.{with_retirement}
 use Rattle.gnap_tables.specs.RowSearches.{newest, is_live_row}
 use Rattle.gnap_tables.proofs.Lists.{HasItem}
-use Rattle.token_manager.specs.declared.serials_by_grant.OwnedSerial.{OwnedSerial}
+use Rattle.grant_states.specs.declared.numbers_by_key.Listed.{Listed}
+use Rattle.grant_states.specs.Listed.{under}
 use Rattle.token_manager.specs.declared.token_table.TokenPlace.{TokenPlace}
 
 -- what contracts see of a table of tokens: its rows, and room for so many more
@@ -47,24 +48,13 @@ pub record AreTokenPlaces (places : List TokenPlace) : Type 0 where
 
 -- ---- serials by grants
 
--- what contracts see of serials that are listed by grants, and room for so many more
-pub record ListedSerials : Type 0 where
-  pub owned : List OwnedSerial
-  pub spare : ℕ
-
-abbrev pub owned_serial : ℕ → ℕ → OwnedSerial
-owned_serial grant serial = record { grant = grant; serial = serial }
-
-abbrev pub owner : OwnedSerial → ℕ
-owner one = one.grant
-
 -- each place is listed under its grant
-abbrev pub AreListed : List OwnedSerial → List TokenPlace → Type 0
-AreListed owned places = All (λ (place : TokenPlace). HasItem owned (owned_serial place.grant place.serial)) places
+abbrev pub AreListed : List Listed → List TokenPlace → Type 0
+AreListed owned places = All (λ (place : TokenPlace). HasItem owned (under place.grant place.serial)) places
 
 -- the place is the grant's, and its serial is among these
-abbrev pub is_among : ℕ → List OwnedSerial → TokenPlace → Bool
-is_among grant owned place = (grant == place.grant) && list_any (λ (one : OwnedSerial). one.serial == place.serial) owned
+abbrev pub is_among : ℕ → List Listed → TokenPlace → Bool
+is_among grant owned place = (grant == place.grant) && list_any (λ (one : Listed). one.number == place.serial) owned
 
 -- ---- changes
 

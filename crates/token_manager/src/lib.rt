@@ -4,7 +4,6 @@
 //! values begin, and by their grants. A token is live where its grant's row says so, which stands in `grant_states`.
 #![tactic(auto)]
 
-mod serials_by_grant;
 pub mod token_table;
 
 pub use gnap_tables::rows::TokenRow;

@@ -1,19 +1,20 @@
 //! The rows of tokens.
-ghost use Rattle.std.specs.Prelude.{◌≡◌, ◌+◌, ◌-◌, ◌*◌, ◌^◌, ◌<◌, ◌≤◌, [], ◌∷◌, ◌++◌, length, filter, option_map, slice_get, vec_len, vec_capacity, OnOk, not, ◌&&◌, ◌==◌};
+ghost use Rattle.std.specs.Prelude.{◌≡◌, ◌+◌, ◌-◌, ◌*◌, ◌^◌, ◌<◌, ◌≤◌, [], ◌∷◌, ◌++◌, length, map, filter, option_map, slice_get, vec_len, vec_capacity, OnOk, not, ◌&&◌, ◌==◌};
 ghost use Rattle.std.specs.Option.{option_and_then};
-ghost use Rattle.std.specs.List.{All, AllPairs, count_by};
+ghost use Rattle.std.specs.List.{All, AllPairs, count_by, list_any};
 ghost use Rattle.gnap_model.specs.Common.{same_text, some_if};
 ghost use Rattle.gnap_tables.specs.declared.rows.TokenRow.{TokenRow};
 ghost use Rattle.gnap_tables.specs.Tables.{sweep_tokens, drop_tokens_of, drop_token, change_token, with_retirement};
 ghost use Rattle.gnap_tables.specs.RowSearches.{row_by_manage, is_live_row, live_rows};
 ghost use Rattle.gnap_tables.specs.ActionsByRows.{pass_live, rows_of_others};
+ghost use Rattle.ordered_search.specs.Order.{IsAscending};
+ghost use Rattle.grant_states.specs.declared.numbers_by_key.Listed.{Listed};
 ghost use Rattle.token_manager.specs.Tokens.{AreTokenRows, IsTokenRow, row_by_value, token_in, is_live_place, is_live_elsewhere, is_among, Marks};
 ghost use Rattle.token_manager.specs.declared.token_table.TokenPlace.{TokenPlace};
 
-use crate::serials_by_grant::{OwnedSerial, SerialsByGrant};
 use bytes_and_lists::memory::Mem;
 use gnap_tables::rows::TokenRow;
-use grant_states::{GrantTable, serial_in_value};
+use grant_states::{GrantTable, Listed, NumbersByKey, serial_in_value};
 use ordered_search::{Keyed, Steps, place, place_of};
 use std::alloc::Global;
 use std::marker::{Brand, Model};
@@ -42,7 +43,7 @@ impl Keyed for TokenPlace {
 #[derive(Drop)]
 pub struct TokenTable {
     places: Vec<TokenPlace>,
-    serials: SerialsByGrant,
+    serials: NumbersByKey,
 }
 
 impl Model for TokenTable {
@@ -53,7 +54,7 @@ impl Model for TokenTable {
 
     ghost view = { λ s. record { rows = map token_in s.places.items; spare = min (vec_capacity s.places - vec_len s.places) s.serials.spare } };
 
-    ghost invariant = { λ s. AreTokenPlaces s.places.items × AreListed s.serials.owned s.places.items };
+    ghost invariant = { λ s. AreTokenPlaces s.places.items × AreListed s.serials.listed s.places.items };
 }
 
 // The row at a place.
@@ -136,15 +137,44 @@ fn take_out(places: &mut Vec<TokenPlace>, grant: u64, serial: u64)
 }
 
 // Takes out the tokens with these serials, where they are the grant's.
-fn take_out_all(places: &mut Vec<TokenPlace>, grant: u64, owned: &[OwnedSerial])
+fn take_out_all(places: &mut Vec<TokenPlace>, grant: u64, owned: &[Listed])
     requires { AllPairs (λ (a b : TokenPlace). a.serial < b.serial) places.old.items }
     ensures items { places.new.items ≡ filter (λ (place : TokenPlace). not (is_among grant owned.now place)) places.old.items }
     ensures fewer { vec_len places.new ≤ vec_len places.old }
     ensures capacity { vec_capacity places.new ≡ vec_capacity places.old }
 {
     for one in owned {
-        take_out(places, grant, one.serial);
+        take_out(places, grant, one.number);
     }
+}
+
+// The key of the item at a place.
+fn key_at<T: Keyed>(items: &[T], at: usize) -> Option<u64>
+    ensures { result ≡ option_map T.key_of (slice_get items.now at) }
+{
+    match items.get(at) {
+        Some(item) => Some(item.key()),
+        None => None,
+    }
+}
+
+// An item has this key.
+fn has_key<T: Keyed>(items: &[T], key: u64) -> bool
+    requires { IsAscending (map T.key_of items.now) }
+    ensures { result ≡ list_any (λ item. T.key_of item == key) items.now }
+{
+    match key_at(items, place_of(items, key)) {
+        Some(found) => found == key,
+        None => false,
+    }
+}
+
+// Leaves out the serials that no row has.
+fn drop_missing(serials: &mut NumbersByKey, places: &[TokenPlace])
+    requires { IsAscending (map (λ (place : TokenPlace). place.serial) places.now) }
+    ensures { serials.new.listed ≡ filter (λ (one : Listed). list_any (λ (place : TokenPlace). place.serial == one.number) places.now) serials.old.listed }
+{
+    serials.keep(|one| has_key(places, one.number));
 }
 
 // The same search with a ledger of its own.
@@ -184,7 +214,7 @@ impl TokenTable {
     {
         TokenTable {
             places: Vec::new(alloc),
-            serials: SerialsByGrant::new(alloc),
+            serials: NumbersByKey::new(alloc),
         }
     }
 
@@ -201,7 +231,7 @@ impl TokenTable {
         ensures { self.new.rows ≡ self.old.rows }
     {
         if self.serials.len() / 2 > self.places.len() {
-            self.serials.drop_missing(self.places.as_slice());
+            drop_missing(&mut self.serials, self.places.as_slice());
         }
     }
 

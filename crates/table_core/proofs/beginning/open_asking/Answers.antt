@@ -5,7 +5,7 @@ use Rattle.gnap_model.specs.declared.notes.TermsNote.{TermsNote}
 use Rattle.gnap_tables.specs.declared.rows.Round.{Round}
 use Rattle.gnap_tables.specs.Tables.{new_grant, with_door, with_terms}
 use Rattle.table_core.specs.Askings.{begun_round, asking_reply}
-use Rattle.table_core.specs.Plans.{in_round}
+use Rattle.grant_states.specs.Grants.{in_round}
 use Rattle.table_core.proofs.OpeningPlans.{opened_row, asking_is}
 use Rattle.table_core.proofs.beginning.open_asking.Goals as goal
 

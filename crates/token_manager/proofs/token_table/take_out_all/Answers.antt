@@ -2,7 +2,7 @@ use Rattle.std.proofs.Common.{List, take, get_or, refl, ap, sym, subst, ◌∙�
 use Rattle.std.specs.Prelude.{not, filter}
 use Rattle.std.proofs.lemmas.List.{take_all, take_more}
 use Rattle.std.proofs.lemmas.List.Kept.{AllPairs-filter}
-use Rattle.token_manager.specs.declared.serials_by_grant.OwnedSerial.{OwnedSerial}
+use Rattle.grant_states.specs.declared.numbers_by_key.Listed.{Listed}
 use Rattle.token_manager.specs.declared.token_table.TokenPlace.{TokenPlace}
 use Rattle.token_manager.specs.Tokens.{is_among}
 use Rattle.token_manager.proofs.TokenLemmas.{AreInOrder, one_more, none_yet}
@@ -21,13 +21,13 @@ loop-one-preserved c =
     let k = c.loop-one.one-index in
     let owned = c.args.owned.now in (
       c.take_out.ensures.items ∙ ap (filter _) c.loop-one.invariant.0 ∙ one_more places c.args.grant (take k owned) (get_or owned k _)
-          ∙ ap (λ (os : List OwnedSerial). filter (λ (place : TokenPlace). not (is_among c.args.grant os place)) places) (sym (take_more owned k _ c.loop-one-test.true)),
+          ∙ ap (λ (os : List Listed). filter (λ (place : TokenPlace). not (is_among c.args.grant os place)) places) (sym (take_more owned k _ c.loop-one-test.true)),
       omega (arith, c.take_out.ensures.fewer, c.loop-one.invariant.1),
       c.take_out.ensures.capacity ∙ c.loop-one.invariant.2,
     )
 
 pub returns-clause-items : goal.returns-clause-items
-returns-clause-items c = c.loop-one.invariant.0 ∙ ap (λ (os : List OwnedSerial). filter (λ (place : TokenPlace). not (is_among c.args.grant os place)) c.args.places.now.items)
+returns-clause-items c = c.loop-one.invariant.0 ∙ ap (λ (os : List Listed). filter (λ (place : TokenPlace). not (is_among c.args.grant os place)) c.args.places.now.items)
     (take_all c.loop-one.one-index c.args.owned.now (omega (arith, c.loop-one-test.false)))
 
 pub returns-clause-fewer : goal.returns-clause-fewer

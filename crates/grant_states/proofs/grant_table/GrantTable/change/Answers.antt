@@ -1,28 +1,33 @@
 use Rattle.std.proofs.Common.{ap, sym, subst, arith}
 use Rattle.grant_states.specs.Grants.{StoredGrants, IsGrantPlace, CanChange, changed_by, grant_in}
 use Rattle.grant_states.proofs.Items.{all_mapped}
-use Rattle.grant_states.proofs.GrantLemmas.{ascending_places, changes_keep, changed_one, place_changed, places_changed, place_past}
+use Rattle.grant_states.proofs.NamedRounds.{named_after, named_set, round_after, IsNamed}
+use Rattle.grant_states.proofs.GrantLemmas.{ascending_places, changes_keep, changed_one, door_kept, place_changed, places_changed, place_past}
 use Rattle.grant_states.proofs.grant_table.GrantTable.change.Goals as goal
 
 pub place_of-at-requires : goal.place_of-at-requires
-place_of-at-requires c = ascending_places c.as_slice.result.now c.self.inside.places.items c.self.inside.doors.items c.self.inside.doors_below c.as_slice.ensures.value c.self.invariant
+place_of-at-requires c = ascending_places c.as_slice.result.now c.self.inside.places.items c.self.inside.doors.items c.self.inside.doors_below c.as_slice.ensures.value c.self.invariant.0
 
 pub change_place-requires : goal.change_place-requires
 change_place-requires c = all_mapped (CanChange c.args.change) grant_in c.self.inside.places.items c.args.self.now.rows c.place_of-at.result c.index_mut.result.now (ap (λ (s : StoredGrants). s.rows) c.self.view_is) c.requires (omega (arith, c.if-at-len.true, c.len.ensures)) c.index_mut.ensures.value
 
 pub invariant_of-self : goal.invariant_of-self
 invariant_of-self c =
-    let old = subst (IsGrantPlace c.self.inside.doors.items) (sym c.index_mut.ensures.value) (c.self.invariant.each c.place_of-at.result c.index_mut.result.now (omega (arith, c.if-at-len.true, c.len.ensures))) in
-    places_changed c.as_slice.result.now c.self.inside.places.items c.self.inside.doors.items c.self.inside.doors.items c.self.inside.doors_below c.self.inside.doors_below c.place_of-at.result c.args.number (changed_by c.args.change) c.index_mut.result.now c.change_place.new.place
-    c.as_slice.ensures.value c.self.invariant c.place_of-at.ensures (omega (arith, c.if-at-len.true, c.len.ensures)) c.index_mut.ensures.value c.change_place.ensures.changes (changes_keep c.args.change)
-    c.self.invariant.each (changed_one c.self.inside.doors.items c.args.number c.args.change c.index_mut.result.now c.change_place.new.place old c.change_place.ensures) c.self.invariant.doors_ascend c.self.invariant.doors_low
+    let named = subst (IsNamed c.self.inside.names) (sym c.index_mut.ensures.value) (c.self.invariant.1 c.place_of-at.result c.index_mut.result.now (omega (arith, c.if-at-len.true, c.len.ensures))) in
+    let old = subst (IsGrantPlace c.self.inside.doors.items) (sym c.index_mut.ensures.value) (c.self.invariant.0.each c.place_of-at.result c.index_mut.result.now (omega (arith, c.if-at-len.true, c.len.ensures))) in (
+      places_changed c.as_slice.result.now c.self.inside.places.items c.self.inside.doors.items c.self.inside.doors.items c.self.inside.doors_below c.self.inside.doors_below c.place_of-at.result c.args.number (changed_by c.args.change) c.index_mut.result.now c.change_place.new.place
+          c.as_slice.ensures.value c.self.invariant.0 c.place_of-at.ensures (omega (arith, c.if-at-len.true, c.len.ensures)) c.index_mut.ensures.value c.change_place.ensures.changes (changes_keep c.args.change)
+          c.self.invariant.0.each (changed_one c.self.inside.doors.items c.args.number (changed_by c.args.change) c.index_mut.result.now c.change_place.new.place (changes_keep c.args.change) (door_kept c.args.change) old c.change_place.ensures) c.self.invariant.0.doors_ascend c.self.invariant.0.doors_low,
+      named_set c.self.inside.names c.self.inside.places.items c.place_of-at.result c.change_place.new.place c.self.invariant.1
+          (named_after c.self.inside.names c.args.number (changed_by c.args.change) c.index_mut.result.now c.change_place.new.place c.change_place.ensures.changes named (λ e. round_after c.self.inside.names c.index_mut.result.now.number c.args.change c.index_mut.result.now.row.value named)),
+    )
 
 pub returns-then-at-len-clause-rows : goal.returns-then-at-len-clause-rows
 returns-then-at-len-clause-rows c =
     place_changed c.as_slice.result.now c.self.inside.places.items c.self.inside.doors.items c.self.inside.doors_below c.args.self.now.rows c.place_of-at.result c.args.number (changed_by c.args.change) c.index_mut.result.now c.change_place.new.place
-    c.as_slice.ensures.value (ap (λ (s : StoredGrants). s.rows) c.self.view_is) c.self.invariant c.place_of-at.ensures (omega (arith, c.if-at-len.true, c.len.ensures)) c.index_mut.ensures.value c.change_place.ensures.changes
+    c.as_slice.ensures.value (ap (λ (s : StoredGrants). s.rows) c.self.view_is) c.self.invariant.0 c.place_of-at.ensures (omega (arith, c.if-at-len.true, c.len.ensures)) c.index_mut.ensures.value c.change_place.ensures.changes
 
 pub returns-else-at-len-clause-rows : goal.returns-else-at-len-clause-rows
 returns-else-at-len-clause-rows c =
-    place_past c.as_slice.result.now c.self.inside.places.items c.self.inside.doors.items c.self.inside.doors_below c.args.self.now.rows c.place_of-at.result c.args.number (changed_by c.args.change) c.as_slice.ensures.value (ap (λ (s : StoredGrants). s.rows) c.self.view_is) c.self.invariant c.place_of-at.ensures
+    place_past c.as_slice.result.now c.self.inside.places.items c.self.inside.doors.items c.self.inside.doors_below c.args.self.now.rows c.place_of-at.result c.args.number (changed_by c.args.change) c.as_slice.ensures.value (ap (λ (s : StoredGrants). s.rows) c.self.view_is) c.self.invariant.0 c.place_of-at.ensures
     (omega (arith, c.if-at-len.false, c.len.ensures))

@@ -1,5 +1,5 @@
 use Rattle.std.proofs.Common.{subst, sym, List}
-use Rattle.token_manager.specs.declared.serials_by_grant.OwnedSerial.{OwnedSerial}
+use Rattle.grant_states.specs.declared.numbers_by_key.Listed.{Listed}
 use Rattle.token_manager.specs.Tokens.{AreListed}
 use Rattle.token_manager.proofs.TokenLemmas.{ascending_slice, listed_still}
 use Rattle.token_manager.proofs.token_table.TokenTable.drop_former.Goals as goal
@@ -10,5 +10,5 @@ drop_missing-requires c = ascending_slice c.as_slice.result.now c.self.inside.pl
 pub invariant_of-self : goal.invariant_of-self
 invariant_of-self c = (
   c.self.invariant.0,
-  subst (λ (os : List OwnedSerial). AreListed os c.self.inside.places.items) (sym c.drop_missing.ensures) (listed_still c.self.inside.serials.owned c.as_slice.result.now c.self.inside.places.items c.as_slice.ensures.value c.self.invariant.1),
+  subst (λ (os : List Listed). AreListed os c.self.inside.places.items) (sym c.drop_missing.ensures) (listed_still c.self.inside.serials.listed c.as_slice.result.now c.self.inside.places.items c.as_slice.ensures.value c.self.invariant.1),
 )

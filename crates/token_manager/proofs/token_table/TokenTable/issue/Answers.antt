@@ -12,5 +12,5 @@ invariant_of-self c =
     let held = place_pushed c.self.inside.places.items new c.self.invariant.0 (record { serial = ap (λ (r : TokenRow). r.serial) c.deref.ensures; grant = ap (λ (r : TokenRow). r.grant) c.deref-2.ensures }) c.requires.is
     (subst (λ (rs : List TokenRow). All (λ (other : TokenRow). other.serial < c.args.row.value.serial) rs) (sym (ap (λ (s : StoredTokens). s.rows) c.self.view_is)) c.requires.above) in (
       subst AreTokenPlaces (sym c.push_reserved.ensures.items) held.1,
-      subst (AreListed c.list.new.self.owned) (sym c.push_reserved.ensures.items) (listed_pushed c.self.inside.serials.owned c.list.new.self.owned c.self.inside.places.items new c.self.invariant.1 c.list.ensures.kept c.list.ensures.listed),
+      subst (AreListed c.list.new.self.listed) (sym c.push_reserved.ensures.items) (listed_pushed c.self.inside.serials.listed c.list.new.self.listed c.self.inside.places.items new c.self.invariant.1 c.list.ensures.kept c.list.ensures.listed),
     )

@@ -14,8 +14,8 @@ pub invariant_of-self : goal.invariant_of-self
 invariant_of-self c =
     let held = place_removed c.as_slice.result.now c.self.inside.places.items c.place_of-at.result c.args.serial c.index.result.now c.as_slice.ensures.value c.self.invariant.0 (omega (arith, c.if-at-len.true, c.len.ensures)) c.index.ensures c.if-index-serial.true in (
       subst (λ (ps : List TokenPlace). AreTokenPlaces ps) (sym c.remove-gone.ensures.items) held.1,
-      subst (AreListed c.self.inside.serials.owned) (sym c.remove-gone.ensures.items)
-          (listed_removed c.self.inside.serials.owned c.self.inside.places.items c.place_of-at.result c.args.serial c.index.result.now c.self.invariant.0 c.self.invariant.1 (omega (arith, c.if-at-len.true, c.len.ensures)) c.index.ensures c.if-index-serial.true),
+      subst (AreListed c.self.inside.serials.listed) (sym c.remove-gone.ensures.items)
+          (listed_removed c.self.inside.serials.listed c.self.inside.places.items c.place_of-at.result c.args.serial c.index.result.now c.self.invariant.0 c.self.invariant.1 (omega (arith, c.if-at-len.true, c.len.ensures)) c.index.ensures c.if-index-serial.true),
     )
 
 pub returns-then-index-serial-clause-rows : goal.returns-then-index-serial-clause-rows

@@ -11,7 +11,7 @@ pub take_out_all-requires : goal.take_out_all-requires
 take_out_all-requires c = place_pairs c.self.inside.places.items c.self.invariant.0
 
 left : (c : goal.After-take_out_all) → c.take_out_all.new.places.items ≡ filter (λ (place : TokenPlace). not (c.args.grant == place.grant)) c.self.inside.places.items
-left c = c.take_out_all.ensures.items ∙ all_of_grant c.self.inside.places.items c.self.inside.serials.owned c.of.result.now c.args.grant c.self.invariant.1 c.of.ensures
+left c = c.take_out_all.ensures.items ∙ all_of_grant c.self.inside.places.items c.self.inside.serials.listed c.of.result.now c.args.grant c.self.invariant.1 c.of.ensures
 
 held : (c : goal.After-take_out_all) → HoldRows (filter (λ (place : TokenPlace). not (c.args.grant == place.grant)) c.self.inside.places.items) (drop_tokens_of c.args.grant (map token_in c.self.inside.places.items))
 held c = kept_places (λ (place : TokenPlace). not (c.args.grant == place.grant)) (λ (row : TokenRow). not (c.args.grant == row.grant)) c.self.inside.places.items c.self.invariant.0 (λ p is. ap (λ n. not (c.args.grant == n)) is.grant)
@@ -22,5 +22,5 @@ returns-clause-rows c = ap (map token_in) (left c) ∙ (held c).0 ∙ ap (drop_t
 pub invariant_of-self : goal.invariant_of-self
 invariant_of-self c = (
   subst AreTokenPlaces (sym (left c)) (held c).1,
-  subst (AreListed c.self.inside.serials.owned) (sym (left c)) (listed_left (λ (place : TokenPlace). not (c.args.grant == place.grant)) c.self.inside.serials.owned c.self.inside.places.items c.self.invariant.1),
+  subst (AreListed c.self.inside.serials.listed) (sym (left c)) (listed_left (λ (place : TokenPlace). not (c.args.grant == place.grant)) c.self.inside.serials.listed c.self.inside.places.items c.self.invariant.1),
 )

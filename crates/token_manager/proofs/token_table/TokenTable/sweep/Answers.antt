@@ -20,5 +20,5 @@ returns-clause-rows c = ap (map token_in) (left c) ∙ (held c).0 ∙ ap (sweep_
 pub invariant_of-self : goal.invariant_of-self
 invariant_of-self c = (
   subst AreTokenPlaces (sym (left c)) (held c).1,
-  subst (AreListed c.self.inside.serials.owned) (sym (left c)) (listed_left (λ (place : TokenPlace). has_grant place.grant c.args.grants.now.rows) c.self.inside.serials.owned c.self.inside.places.items c.self.invariant.1),
+  subst (AreListed c.self.inside.serials.listed) (sym (left c)) (listed_left (λ (place : TokenPlace). has_grant place.grant c.args.grants.now.rows) c.self.inside.serials.listed c.self.inside.places.items c.self.invariant.1),
 )

@@ -1,0 +1,21 @@
+-- The serial with which a drawn value begins.
+use Rattle.std.specs.Prelude.{ℕ, ◌++◌, drop, length, replicate, Result, Ok, Err}
+use Rattle.std.specs.Int.{from_be_bytes, w64}
+use Rattle.std.specs.declared.option.Option.{Option}
+use Rattle.std.specs.declared.option.Option.TheVariants.{None, Some}
+use Rattle.base64.specs.declared.DecodeSliceError.{DecodeSliceError}
+use Rattle.base64.specs.Engines.{url_safe_no_pad}
+use Rattle.base64.specs.GeneralPurpose.{decode_slice_of, decoded_bytes_of}
+use Rattle.gnap_model.specs.Common.{Text}
+
+-- the number of the first 8 bytes of the 24 into which a text decodes, zeros after those that it has
+abbrev pub first_word : Text → ℕ
+first_word text = from_be_bytes w64 (decoded_bytes_of url_safe_no_pad text ++ drop (length (decoded_bytes_of url_safe_no_pad text)) (replicate 24 0))
+
+abbrev pub serial_where : Result ℕ DecodeSliceError → ℕ → Option ℕ
+serial_where (Ok count) word = Some word
+serial_where (Err e) word = None
+
+-- the serial of a text that decodes
+unfoldable pub serial_of : Text → Option ℕ
+serial_of text = serial_where (decode_slice_of url_safe_no_pad text 24) (first_word text)
