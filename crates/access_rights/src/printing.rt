@@ -1,5 +1,5 @@
 //! Rights as JSON (RFC 9635, section 8).
-ghost use Rattle.std.specs.Prelude.{◌≡◌, ◌++◌, IfOk, OnOk, option_map, map};
+ghost use Rattle.std.specs.Prelude.{◌≡◌, ◌++◌, IfOk, OnOk, OnErr, length, option_map, map, take};
 ghost use Rattle.std.specs.List.{AllByRecursion};
 ghost use Rattle.serde_json.specs.Read.{read};
 ghost use Rattle.serde_json.specs.View.{view, members_view};
@@ -74,11 +74,13 @@ fn right_value(alloc: Global, right: &Right) -> Result<Value, Mem>
     }
 }
 
-/// Appends the JSON values of the rights.
+/// Appends the JSON values of the rights. At an `Err` some of them may stand behind those that were there.
+#[tactic(auto, using(crate::proofs::Kept::all_kept, crate::proofs::Kept::kept_behind))]
 pub fn push_rights(alloc: Global, items: &mut Vec<Value>, rights: &Rights) -> Result<(), Mem>
     requires { AllByRecursion Fits rights.now }
-    ensures { OnOk result (map view items.new.items
+    ensures ok { OnOk result (map view items.new.items
         ≡ map view items.old.items ++ map right_data rights.now) }
+    ensures err { OnErr result (take (length items.old.items) items.new.items ≡ items.old.items) }
 {
     for right in rights.as_slice() {
         items.push(right_value(alloc, right)?)?;

@@ -1,11 +1,15 @@
 -- Bytes that come behind those that are held.
 use Rattle.std.proofs.Common.{◌≡◌, ℕ, ◌+◌, ◌-◌, ◌<◌, ◌≤◌, ◌⊎◌, List, [], ◌++◌, length, take, drop, sym, ap, ◌∙◌, subst, arith, append_assoc, append-nil, length-append, inl, inr, Bool, true}
-use Rattle.std.specs.Prelude.{Err}
+use Rattle.std.specs.Prelude.{Some, None, Ok, Err}
+use Rattle.bytes_and_lists.specs.declared.message.Message.{Message}
 use Rattle.gnap_io.specs.Outside.{Told, Takes, Reads, IsAtEnd}
 use Rattle.gnap_io.proofs.Devices.{takes_none, takes_then}
 use Rattle.http_edge.specs.declared.fault.EdgeFault.{EdgeFault}
 use Rattle.http_edge.specs.declared.fault.EdgeFault.TheVariants as faults
-use Rattle.http_edge.specs.Streams.{IsOpen}
+use Rattle.http_edge.specs.declared.places.LinePlace.{LinePlace}
+use Rattle.http_edge.specs.declared.places.LinePlace.TheVariants.{BlankLines}
+use Rattle.http_edge.specs.Limits.{message_limit}
+use Rattle.http_edge.specs.Streams.{IsMessage, IsOpen}
 use Rattle.http_edge.specs.Reads.{HasFault, IsNextMessage, CountsReadFault}
 use Rattle.std.proofs.lemmas.List.{nil_from_length, length-take, take_rest, drop_at}
 use Rattle.std.specs.List.{fold}
@@ -60,11 +64,26 @@ progress_fault b ended after faults.Truncated end s = (s.1, s.2, end s.0)
 progress_fault b ended after faults.ReadFault end s = tt
 progress_fault b ended after faults.OutOfMemory end s = tt
 
-pub next_progress : (old b rest : List ℕ) (ended : Bool) (before after : Told) (fault : EdgeFault) → Grows old b before after
+-- the bytes that were held, and those that came
+module _ (old b : List ℕ) (before after : Told) (grows : Grows old b before after) (few : length b ≤ message_limit) where
+  few_in_all : length (old ++ grows.came) ≤ message_limit
+  few_in_all = subst (λ (t : List ℕ). length t ≤ message_limit) grows.behind few
+
+  pub next_whole : (rest : List ℕ) (m : Message) → IsMessage b m rest → IsNextMessage old rest before after (Ok (Some m))
+  next_whole rest m is = record { came = grows.came; takes = grows.takes; few = few_in_all; answers = subst (λ (t : List ℕ). IsMessage t m rest) grows.behind is }
+
+  pub next_none : (rest : List ℕ) → b ≡ [] → rest ≡ [] → IsAtEnd after → IsNextMessage old rest before after (Ok None)
+  next_none rest none left end = record { came = grows.came; takes = grows.takes; few = few_in_all; answers = (sym grows.behind ∙ none, left, end) }
+
+  pub next_failed : (fault : EdgeFault) → ((t : List ℕ) → HasFault t after fault) → IsNextMessage old b before after (Err fault)
+  next_failed fault has = record { came = grows.came; takes = grows.takes; few = few_in_all; answers = (grows.behind, has _) }
+
+pub next_progress : (old b rest : List ℕ) (ended : Bool) (before after : Told) (fault : EdgeFault) → Grows old b before after → length b ≤ message_limit
     → (ended ≡ true → IsAtEnd after) → IsProgress b ended rest (Err fault) → IsNextMessage old rest before after (Err fault)
-next_progress old b rest ended before after fault grows end s = record {
+next_progress old b rest ended before after fault grows few end s = record {
   came = grows.came;
   takes = grows.takes;
+  few = few_in_all old b before after grows few;
   answers = (s.0 ∙ grows.behind, subst (λ (t : List ℕ). HasFault t after fault) grows.behind (progress_fault b ended after fault end s.1));
 }
 
@@ -90,9 +109,9 @@ open_first held first now before (inr waits) _ = waits
 -- ---- the lines of a head
 
 -- the place behind all of the bytes, from the place behind those that were seen
-pub place_more : (held came all : List ℕ) (seen place : ℕ) → all ≡ held ++ came → seen ≡ length held → place ≡ fold next_line_place 0 held
-    → fold next_line_place place (take (length all - seen) (drop seen all)) ≡ fold next_line_place 0 all
+pub place_more : (held came all : List ℕ) (seen : ℕ) (place : LinePlace) → all ≡ held ++ came → seen ≡ length held → place ≡ fold next_line_place BlankLines held
+    → fold next_line_place place (take (length all - seen) (drop seen all)) ≡ fold next_line_place BlankLines all
 place_more held came all seen place whole count e =
     let rest : take (length all - seen) (drop seen all) ≡ came = take_rest all seen ∙ ap (drop seen) whole ∙ drop_at held came seen (sym count) in
-    ap (fold next_line_place place) rest ∙ ap (λ (p : ℕ). fold next_line_place p came) e
-    ∙ sym (fold-append next_line_place 0 held came) ∙ ap (fold next_line_place 0) (sym whole)
+    ap (fold next_line_place place) rest ∙ ap (λ (p : LinePlace). fold next_line_place p came) e
+    ∙ sym (fold-append next_line_place BlankLines held came) ∙ ap (fold next_line_place BlankLines) (sym whole)

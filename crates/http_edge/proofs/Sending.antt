@@ -55,8 +55,8 @@ pieces_split i ps d inside =
     ∙ ap (λ (l : List (Bor (List ℕ))). bytes_of_pieces (take i ps) ++ bytes_of_pieces l) (drop-cons ps i d inside)
     ∙ sym (append_assoc (bytes_of_pieces (take i ps)) (get_or ps i d).now (bytes_of_pieces (drop (suc i) ps)))
 
--- the twelve pieces of a reply
-pub reply_pieces : (a b c d e f g h i j k l : List ℕ)
-    → a ++ (b ++ (c ++ (d ++ (e ++ (f ++ (g ++ (h ++ (i ++ (j ++ (k ++ (l ++ [])))))))))))
-    ≡ (a ++ (b ++ (c ++ ((d ++ (e ++ f)) ++ (g ++ ((h ++ (i ++ j)) ++ k)))))) ++ l
-reply_pieces a b c d e f g h i j k l = simp (append_assoc, append-nil)
+-- the sixteen pieces of a reply
+pub reply_pieces : (v s t p e b c d f g h i j k n l : List ℕ)
+    → v ++ (s ++ (t ++ (p ++ (e ++ (b ++ (c ++ (d ++ (f ++ (g ++ (h ++ (i ++ (j ++ (k ++ (n ++ (l ++ [])))))))))))))))
+    ≡ ((v ++ (s ++ (t ++ (p ++ e)))) ++ (b ++ (c ++ ((d ++ (f ++ g)) ++ (h ++ ((i ++ (j ++ k)) ++ n)))))) ++ l
+reply_pieces v s t p e b c d f g h i j k n l = simp (append_assoc, append-nil)

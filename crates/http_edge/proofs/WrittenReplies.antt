@@ -1,6 +1,6 @@
 -- A reply that was written is read.
 use Rattle.std.proofs.Common.{◌≡◌, ◌∙◌, ℕ, ◌+◌, ◌<◌, ◌≤◌, ◌^◌, List, [], ◌∷◌, ◌++◌, length, reverse, map, take, drop, Bool, true, false, cond, refl, sym, ap, subst, arith, append_assoc, append-nil}
-use Rattle.std.specs.Prelude.{Option, Some, None, All, ◌||◌, ◌==◌, nat_le, nat_lt, not, decimal, codes, unwrap_or}
+use Rattle.std.specs.Prelude.{Option, Some, None, All, ◌||◌, ◌==◌, nat_le, nat_lt, not, decimal, codes}
 use Rattle.std.specs.List.{list_all, flat_map}
 use Rattle.std.specs.Char.{is_ascii_digit, digit_value}
 use Rattle.std.specs.Str.Parse.{digits_value, AllDigits}
@@ -14,12 +14,13 @@ use Rattle.httparse.proofs.GrammarLemmas.{print_response-append, cons-append}
 use Rattle.httparse.specs.Grammar.{Field, crlf, IsField, AllPass, is_token_byte, is_value_byte, is_ows, skip_ows, trim_ows, print_field, print_response, ResponseHead, IsResponseHead}
 use Rattle.httparse.specs.Spans.{name_and_value}
 use Rattle.httparse.proofs.TrimLemmas.{trim_ows_space, AllPass-reverse}
+use Rattle.http.specs.StatusCode.{IsStatusCode, code_digits}
 use Rattle.http1.specs.Text.{eq_ignore_case}
 use Rattle.http_edge.specs.declared.reply.HttpReply.{HttpReply}
 use Rattle.http_edge.specs.declared.reply.Extra.{Extra}
 use Rattle.http_edge.specs.declared.reply.Extra.TheVariants.{Nothing, Allow, Challenge}
 use Rattle.http_edge.specs.ReadReplies.{says_length, frames, fits_body}
-use Rattle.http_edge.specs.Replies.{status_text, is_used, type_line, extra_line, close_line, length_line, body_bytes, head_bytes, reply_bytes, is_method_byte, HasMethods, MayWrite}
+use Rattle.http_edge.specs.Replies.{is_used, phrase_of, type_line, extra_line, close_line, length_line, body_bytes, head_bytes, reply_bytes, is_method_byte, HasMethods, MayWrite}
 use Rattle.http_edge.specs.Laws.{WrittenIsRead}
 use Rattle.http_edge.proofs.Targets.{eqb-eq}
 
@@ -53,34 +54,26 @@ used_from s e =
     pick s 405 (s == 405) refl not_allowed (λ h. pick s 413 (s == 413) refl too_large (λ i. pick s 501 (s == 501) refl not_implemented (λ j.
     pick s 502 (s == 502) refl bad_gateway (λ k. pick s 503 (s == 503) refl unavailable (λ l. absurd (none_left s e a b c d f g h i j k l))))))))))))
 
-text_of : ℕ → List ℕ
-text_of s = unwrap_or (status_text s) []
-
-digits_of : ℕ → List ℕ
-digits_of s = take 3 (text_of s)
-
-phrase_of : ℕ → List ℕ
-phrase_of s = drop 4 (text_of s)
-
-text_parts : (s : ℕ) → Used s → unwrap_or (status_text s) [] ≡ digits_of s ++ 32 ∷ phrase_of s
-unfolding text_of digits_of phrase_of
-text_parts _ ok = refl
-text_parts _ no_content = refl
-text_parts _ bad_request = refl
-text_parts _ unauthorized = refl
-text_parts _ forbidden = refl
-text_parts _ not_found = refl
-text_parts _ not_allowed = refl
-text_parts _ too_large = refl
-text_parts _ not_implemented = refl
-text_parts _ bad_gateway = refl
-text_parts _ unavailable = refl
+pub used_code : (s : ℕ) → is_used s ≡ true → IsStatusCode s
+used_code s e = by s (used_from s e)
+  where
+    by : (s : ℕ) → Used s → IsStatusCode s
+    by _ ok = (omega arith, omega arith)
+    by _ no_content = (omega arith, omega arith)
+    by _ bad_request = (omega arith, omega arith)
+    by _ unauthorized = (omega arith, omega arith)
+    by _ forbidden = (omega arith, omega arith)
+    by _ not_found = (omega arith, omega arith)
+    by _ not_allowed = (omega arith, omega arith)
+    by _ too_large = (omega arith, omega arith)
+    by _ not_implemented = (omega arith, omega arith)
+    by _ bad_gateway = (omega arith, omega arith)
+    by _ unavailable = (omega arith, omega arith)
 
 passes : (test : ℕ → Bool) (xs : List ℕ) → list_all test xs ≡ true → AllPass test xs
 passes test xs e = AllPass-from_list_all test xs e
 
 good_phrase : (s : ℕ) → Used s → list_all is_value_byte (phrase_of s) ≡ true
-unfolding text_of phrase_of
 good_phrase _ ok = refl
 good_phrase _ no_content = refl
 good_phrase _ bad_request = refl
@@ -93,8 +86,7 @@ good_phrase _ not_implemented = refl
 good_phrase _ bad_gateway = refl
 good_phrase _ unavailable = refl
 
-good_digits : (s : ℕ) → Used s → (list_all is_ascii_digit (digits_of s) ≡ true) × (length (digits_of s) ≡ 3)
-unfolding text_of digits_of
+good_digits : (s : ℕ) → Used s → (list_all is_ascii_digit (code_digits s) ≡ true) × (length (code_digits s) ≡ 3)
 good_digits _ ok = (refl, refl)
 good_digits _ no_content = (refl, refl)
 good_digits _ bad_request = (refl, refl)
@@ -107,8 +99,7 @@ good_digits _ not_implemented = (refl, refl)
 good_digits _ bad_gateway = (refl, refl)
 good_digits _ unavailable = (refl, refl)
 
-same_status : (s : ℕ) → Used s → digits_value 10 (digits_of s) ≡ s
-unfolding text_of digits_of
+same_status : (s : ℕ) → Used s → digits_value 10 (code_digits s) ≡ s
 same_status _ ok = refl
 same_status _ no_content = refl
 same_status _ bad_request = refl
@@ -154,7 +145,7 @@ head_of : HttpReply → ResponseHead
 head_of r = record {
   blank = [];
   minor = 1;
-  digits = digits_of r.status;
+  digits = code_digits r.status;
   reason = Some (phrase_of r.status);
   line_end = crlf;
   fields = reply_fields r;
@@ -203,7 +194,7 @@ section_text body extra last none n = rw (
 regroup : (a b c d e x : List ℕ) → a ++ (b ++ (c ++ (d ++ (e ++ x)))) ≡ (a ++ (b ++ (c ++ (d ++ e)))) ++ x
 regroup a b c d e x = simp append_assoc
 
-first_line : (a b e x : List ℕ) → (a ++ 32 ∷ (b ++ e)) ++ x ≡ a ++ 32 ∷ (b ++ (e ++ x))
+first_line : (a b e x : List ℕ) → (a ++ (codes " " ++ (b ++ e))) ++ x ≡ a ++ 32 ∷ (b ++ (e ++ x))
 first_line a b e x = simp (append_assoc, cons-append)
 
 head_text : (r : HttpReply) → Used r.status → head_bytes r ≡ print_response (head_of r)
@@ -215,12 +206,10 @@ head_text r used =
     let fields : type_line r.body ++ (codes "Cache-Control: no-store\r\n" ++ (extra_line r.extra ++ (close_line r.last ++ (length_line r.status (decimal n) ++ e)))) ≡ section ++ e =
     regroup (type_line r.body) (codes "Cache-Control: no-store\r\n") (extra_line r.extra) (close_line r.last) (length_line r.status (decimal n)) e
     ∙ ap (λ (t : List ℕ). t ++ e) (sym (section_text r.body r.extra r.last (r.status == 204) n)) in
-    let first : unwrap_or (status_text r.status) [] ++ e ≡ digits_of r.status ++ 32 ∷ (phrase_of r.status ++ e) =
-    ap (λ (t : List ℕ). t ++ e) (text_parts r.status used) ∙ append_assoc (digits_of r.status) (32 ∷ phrase_of r.status) e in
     let later : List ℕ = type_line r.body ++ (codes "Cache-Control: no-store\r\n" ++ (extra_line r.extra ++ (close_line r.last ++ (length_line r.status (decimal n) ++ e)))) in
     ap (λ (t : List ℕ). codes "HTTP/1.1 " ++ t)
-    (ap (λ (t : List ℕ). t ++ later) first ∙ first_line (digits_of r.status) (phrase_of r.status) e later
-    ∙ ap (λ (t : List ℕ). digits_of r.status ++ 32 ∷ (phrase_of r.status ++ (e ++ t))) (fields ∙ sym (append-nil (section ++ e))))
+    (first_line (code_digits r.status) (phrase_of r.status) e later
+    ∙ ap (λ (t : List ℕ). code_digits r.status ++ 32 ∷ (phrase_of r.status ++ (e ++ t))) (fields ∙ sym (append-nil (section ++ e))))
     ∙ sym (print_response-append (head_of r) []) ∙ append-nil (print_response (head_of r))
 
 -- ---- numbers
@@ -340,7 +329,7 @@ good_head : (r : HttpReply) → MayWrite r → length (body_bytes r.body) < 2 ^ 
 unfolding head_of reply_fields
 good_head r may small = record {
   minor = omega arith;
-  digits = let digits = good_digits r.status (used_from r.status may.status) in (digits.1, passes is_ascii_digit (digits_of r.status) digits.0);
+  digits = let digits = good_digits r.status (used_from r.status may.status) in (digits.1, passes is_ascii_digit (code_digits r.status) digits.0);
   reason = passes is_value_byte (phrase_of r.status) (good_phrase r.status (used_from r.status may.status));
   fields = good_fields r.body r.extra r.last (r.status == 204) (length (body_bytes r.body)) may.methods small;
 }

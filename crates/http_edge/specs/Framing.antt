@@ -4,6 +4,7 @@ use Rattle.std.specs.List.{list_all, list_any}
 use Rattle.std.specs.Char.{is_ascii_digit}
 use Rattle.std.specs.Str.Parse.{digits_value}
 use Rattle.http1.specs.Fields.{Header, is_named, values_named, elements_named, has_option}
+use Rattle.http_edge.specs.Limits.{field_limit, body_limit}
 use Rattle.http_edge.specs.declared.fault.EdgeFault.TheVariants.{BadHead, TooLarge, Coded}
 use Rattle.http_edge.specs.declared.framing.Framing.{Framing}
 use Rattle.http_edge.specs.declared.framing.Framing.TheVariants.{Refused, Body}
@@ -24,7 +25,7 @@ is_digits v = nat_lt 0 (length v) && list_all is_ascii_digit v
 abbrev pub length_framing : List ℕ → Framing
 length_framing v =
     if not (is_digits v) then Refused BadHead
-    else (if nat_lt 65536 (digits_value 10 v) then Refused TooLarge else Body (digits_value 10 v))
+    else (if nat_lt body_limit (digits_value 10 v) then Refused TooLarge else Body (digits_value 10 v))
 
 -- the same of all of them: none is an empty body, and several are refused
 abbrev pub lengths_framing : List (List ℕ) → Framing
@@ -35,7 +36,7 @@ lengths_framing (v ∷ w ∷ more) = Refused BadHead
 -- what the fields of a request say of its body, the first fault first
 abbrev pub framing_of : List Header → Framing
 framing_of headers =
-    if nat_lt 64 (length headers) then Refused TooLarge
+    if nat_lt field_limit (length headers) then Refused TooLarge
     else (if list_any is_coded headers then Refused Coded else lengths_framing (lengths_of headers))
 
 -- `close` stands among the elements of the `Connection` fields, in any case (RFC 9112, section 9.6)

@@ -3,6 +3,7 @@ use Rattle.std.specs.Prelude.{◌≡◌, ◌<◌, ◌≤◌, ◌^◌, ℕ, List,
 use Rattle.bytes_and_lists.specs.declared.message.Message.{Message}
 use Rattle.http_edge.specs.declared.fault.EdgeFault.{EdgeFault}
 use Rattle.http_edge.specs.declared.reply.HttpReply.{HttpReply}
+use Rattle.http_edge.specs.Limits.{head_limit}
 use Rattle.http_edge.specs.Streams.{IsMessage, IsRefusedFor, IsOpen, HasNoMessage, Messages}
 use Rattle.http_edge.specs.Replies.{body_bytes, head_bytes, reply_bytes, MayWrite}
 use Rattle.http_edge.specs.ReadReplies.{IsHttpReply}
@@ -40,5 +41,5 @@ IsOneReply = (bytes : List ℕ) (status other : ℕ) (body text : List ℕ)
 
 -- what is written is read, with its status and its body, where its head is no longer than one that is read
 abbrev pub WrittenIsRead : Type 0
-WrittenIsRead = (r : HttpReply) → MayWrite r → length (body_bytes r.body) < 2 ^ 63 → length (head_bytes r) ≤ 16384
+WrittenIsRead = (r : HttpReply) → MayWrite r → length (body_bytes r.body) < 2 ^ 63 → length (head_bytes r) ≤ head_limit
     → IsHttpReply (reply_bytes r) r.status (body_bytes r.body)

@@ -1,5 +1,6 @@
 pub mod Framing
 pub mod Laws
+pub mod Limits
 pub mod Lines
 pub mod ReadReplies
 pub mod Reads

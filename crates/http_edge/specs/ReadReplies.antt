@@ -7,6 +7,7 @@ use Rattle.httparse.specs.Spans.{name_and_value}
 use Rattle.http1.specs.Fields.{Header}
 use Rattle.http_edge.specs.declared.reply_reading.ReplyFault.{ReplyFault}
 use Rattle.http_edge.specs.declared.reply_reading.ReplyFault.TheVariants as faults
+use Rattle.http_edge.specs.Limits.{head_limit, field_limit}
 use Rattle.http_edge.specs.Framing.{is_coded, is_digits, lengths_of}
 
 -- a body of n bytes is what the `Content-Length` fields say: none says nothing, and several are refused
@@ -22,7 +23,7 @@ frames headers n = not (list_any is_coded headers) && says_length (lengths_of he
 -- The head has so many bytes, these fields and this status, and a body of n bytes is behind it.
 abbrev pub fits_parts : ℕ → List Header → ℕ → ℕ → Bool
 fits_parts len headers status n =
-    nat_le len 16384 && nat_le (length headers) 64 && frames headers n && (not (status == 204) || n == 0)
+    nat_le len head_limit && nat_le (length headers) field_limit && frames headers n && (not (status == 204) || n == 0)
 
 -- The head has at most 16,384 bytes and 64 fields, and the bytes behind it are a body that it says.
 unfoldable pub fits_body : ResponseHead → List ℕ → Bool
@@ -47,4 +48,4 @@ GivesReply bytes (Err faults.OutOfMemory) = Unit {0}
 
 -- a head at the front has more than 64 fields
 abbrev pub HasNoRoom : List ℕ → Type 0
-HasNoRoom bytes = (head : ResponseHead) (rest : List ℕ) → ReadsResponse bytes head rest → 64 < length head.fields
+HasNoRoom bytes = (head : ResponseHead) (rest : List ℕ) → ReadsResponse bytes head rest → field_limit < length head.fields

@@ -1,6 +1,7 @@
 -- The bytes of a reply (RFC 9112, sections 4 to 6).
-use Rattle.std.specs.Prelude.{◌≡◌, ◌↔◌, ℕ, ◌==◌, nat_le, Bool, true, ◌&&◌, ◌||◌, List, [], ◌++◌, length, if◌then◌else◌, codes, decimal, unwrap_or, is_some, Option, Some, None}
-use Rattle.std.specs.List.{list_all}
+use Rattle.std.specs.Prelude.{◌≡◌, ◌↔◌, ℕ, ◌==◌, nat_le, Bool, true, ◌&&◌, ◌||◌, List, [], ◌∷◌, ◌++◌, length, if◌then◌else◌, codes, decimal, unwrap_or, Option, Some, None}
+use Rattle.std.specs.List.{list_all, list_any}
+use Rattle.http.specs.StatusCode.{code_digits, reason_phrase}
 use Rattle.http_edge.specs.declared.fault.EdgeFault.{EdgeFault}
 use Rattle.http_edge.specs.declared.fault.EdgeFault.TheVariants as faults
 use Rattle.http_edge.specs.declared.reply.HttpReply.{HttpReply}
@@ -9,26 +10,20 @@ use Rattle.http_edge.specs.declared.reply.Extra.TheVariants.{Nothing, Allow, Cha
 
 -- ---- the text
 
--- a status that is used, and its phrase (RFC 9110, section 15)
-abbrev pub status_text : ℕ → Option (List ℕ)
-status_text status =
-    if status == 200 then Some (codes "200 OK") else (
-    if status == 204 then Some (codes "204 No Content") else (
-    if status == 400 then Some (codes "400 Bad Request") else (
-    if status == 401 then Some (codes "401 Unauthorized") else (
-    if status == 403 then Some (codes "403 Forbidden") else (
-    if status == 404 then Some (codes "404 Not Found") else (
-    if status == 405 then Some (codes "405 Method Not Allowed") else (
-    if status == 413 then Some (codes "413 Payload Too Large") else (
-    if status == 501 then Some (codes "501 Not Implemented") else (
-    if status == 502 then Some (codes "502 Bad Gateway") else (
-    if status == 503 then Some (codes "503 Service Unavailable") else None))))))))))
+-- the statuses that are used (RFC 9110, section 15)
+abbrev pub used_statuses : List ℕ
+used_statuses = 200 ∷ 204 ∷ 400 ∷ 401 ∷ 403 ∷ 404 ∷ 405 ∷ 413 ∷ 501 ∷ 502 ∷ 503 ∷ []
 
 abbrev pub is_used : ℕ → Bool
-is_used status = is_some (status_text status)
+is_used status = list_any (λ used. status == used) used_statuses
 
+-- the phrase of a status, as Rust's crate `http` has it
+abbrev pub phrase_of : ℕ → List ℕ
+phrase_of status = unwrap_or (reason_phrase status) []
+
+-- the status line (RFC 9112, section 4)
 abbrev pub status_line : ℕ → List ℕ
-status_line status = codes "HTTP/1.1 " ++ (unwrap_or (status_text status) [] ++ codes "\r\n")
+status_line status = codes "HTTP/1.1 " ++ (code_digits status ++ (codes " " ++ (phrase_of status ++ codes "\r\n")))
 
 -- `Content-Type`, where there is a body
 abbrev pub type_line : Option (List ℕ) → List ℕ

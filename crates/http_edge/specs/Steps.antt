@@ -10,6 +10,10 @@ use Rattle.http_edge.specs.declared.framing.Framing.{Framing}
 use Rattle.http_edge.specs.declared.framing.Framing.TheVariants.{Refused, Body}
 use Rattle.http_edge.specs.declared.framing.LengthField.{LengthField}
 use Rattle.http_edge.specs.declared.framing.LengthField.TheVariants.{Absent, One, Several}
+use Rattle.http_edge.specs.declared.places.RequestPlace.{RequestPlace}
+use Rattle.http_edge.specs.declared.places.RequestPlace.TheVariants.{BlankLines, BehindCr, Method, Target, Elsewhere}
+use Rattle.http_edge.specs.declared.places.LinePlace.{LinePlace}
+use Rattle.http_edge.specs.declared.places.LinePlace.TheVariants as line
 use Rattle.http_edge.specs.declared.request_heads.LeadingHead.{LeadingHead}
 use Rattle.http_edge.specs.declared.request_heads.LeadingHead.TheVariants as heads
 use Rattle.http_edge.specs.declared.messages.Beginning.{Beginning}
@@ -20,6 +24,7 @@ use Rattle.http_edge.specs.declared.held.Arrival.{Arrival}
 use Rattle.http_edge.specs.declared.held.Arrival.TheVariants as arrival
 use Rattle.http_edge.specs.declared.reading.Progress.{Progress}
 use Rattle.http_edge.specs.declared.reading.Progress.TheVariants as progress
+use Rattle.http_edge.specs.Limits.{head_limit, field_limit, body_limit, message_limit}
 use Rattle.http_edge.specs.Framing.{framing_of}
 use Rattle.http_edge.specs.Streams.{is_inner, IsUndecided, IsNoHead, BeginsWith, headers_of, IsMessage, IsRefusedFor, IsOpen}
 
@@ -40,33 +45,47 @@ IsOfBytes _ = ⊥
 
 -- the length of a body is within the limit
 abbrev pub IsBounded : Framing → Type 0
-IsBounded (Body n) = n ≤ 65536
+IsBounded (Body n) = n ≤ body_limit
 IsBounded (Refused fault) = IsOfBytes fault
 
 -- ---- the head
 
--- where a byte leads: 0 between empty lines, 1 behind a CR there, 2 in the method, 3 in the target, 4 elsewhere
-abbrev pub next_place : ℕ → ℕ → ℕ
-next_place place c =
-    if place == 3 then (if is_inner c then 3 else 4) else (
-    if place == 2 then (if is_token_byte c then 2 else (if c == 32 then 3 else 4)) else (
-    if place == 1 then (if c == 10 then 0 else 4) else (
-    if place == 0 then (if c == 10 then 0 else (if c == 13 then 1 else (if is_token_byte c then 2 else 4))) else 4)))
+-- where a byte leads in front of a request target, and in it
+abbrev pub next_place : RequestPlace → ℕ → RequestPlace
+next_place BlankLines c = if c == 10 then BlankLines else (if c == 13 then BehindCr else (if is_token_byte c then Method else Elsewhere))
+next_place BehindCr c = if c == 10 then BlankLines else Elsewhere
+next_place Method c = if is_token_byte c then Method else (if c == 32 then Target else Elsewhere)
+next_place Target c = if is_inner c then Target else Elsewhere
+next_place Elsewhere c = Elsewhere
 
--- where a byte leads: 0 in empty lines before the first, 1 in a line, 2 at the start of a line, 3 behind a CR there, 4 behind an empty line
-abbrev pub next_line_place : ℕ → ℕ → ℕ
-next_line_place place c =
-    if place == 0 then (if c == 10 then 0 else (if c == 13 then 0 else 1)) else (
-    if place == 1 then (if c == 10 then 2 else 1) else (
-    if place == 2 then (if c == 10 then 4 else (if c == 13 then 3 else 1)) else (
-    if place == 3 then (if c == 10 then 4 else 1) else 4)))
+abbrev pub is_target : RequestPlace → Bool
+is_target BlankLines = false
+is_target BehindCr = false
+is_target Method = false
+is_target Target = true
+is_target Elsewhere = false
+
+-- where a byte leads among the lines of a head
+abbrev pub next_line_place : LinePlace → ℕ → LinePlace
+next_line_place line.BlankLines c = if c == 10 then line.BlankLines else (if c == 13 then line.BlankLines else line.InLine)
+next_line_place line.InLine c = if c == 10 then line.LineStart else line.InLine
+next_line_place line.LineStart c = if c == 10 then line.BehindHead else (if c == 13 then line.StartBehindCr else line.InLine)
+next_line_place line.StartBehindCr c = if c == 10 then line.BehindHead else line.InLine
+next_line_place line.BehindHead c = line.BehindHead
+
+abbrev pub is_behind_head : LinePlace → Bool
+is_behind_head line.BlankLines = false
+is_behind_head line.InLine = false
+is_behind_head line.LineStart = false
+is_behind_head line.StartBehindCr = false
+is_behind_head line.BehindHead = true
 
 -- w begins with a head that has more than 64 fields
 pub record HasManyFields (w : List ℕ) : Type 0 where
   pub head : RequestHead
   pub rest : List ℕ
   pub reads : ReadsRequest w head rest
-  pub many : 64 < length head.fields
+  pub many : field_limit < length head.fields
 
 -- what is said of a head at the front of w, with its fields in these spans
 abbrev pub IsLeadingHead : List ℕ → List HeaderSpan → LeadingHead → Type 0
@@ -93,8 +112,8 @@ pub record EndsAt (b : List ℕ) (end : ℕ) : Type 0 where
 
 -- b is less than a whole message, and this is what it wants
 abbrev pub IsWaiting : List ℕ → Want → Type 0
-IsWaiting b wants.MoreOfHead = IsOpen b × (length b < 16384)
-IsWaiting b (wants.UpTo end) = EndsAt b end × (length b < end) × (end ≤ 81920)
+IsWaiting b wants.MoreOfHead = IsOpen b × (length b < head_limit)
+IsWaiting b (wants.UpTo end) = EndsAt b end × (length b < end) × (end ≤ message_limit)
 
 -- what is said of the front of b
 abbrev pub IsBeginningOf : List ℕ → Beginning → Type 0

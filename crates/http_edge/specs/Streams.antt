@@ -9,11 +9,12 @@ use Rattle.bytes_and_lists.specs.declared.message.Message.{Message}
 use Rattle.http_edge.specs.declared.fault.EdgeFault.{EdgeFault}
 use Rattle.http_edge.specs.declared.fault.EdgeFault.TheVariants.{BadHead, TooLarge}
 use Rattle.http_edge.specs.declared.framing.Framing.TheVariants.{Refused, Body}
+use Rattle.http_edge.specs.Limits.{head_limit}
 use Rattle.http_edge.specs.Framing.{framing_of, asks_to_close}
 
 -- the bytes in which a head has to end
 unfoldable pub window : List ℕ → List ℕ
-window b = take 16384 b
+window b = take head_limit b
 
 -- ---- whether a head stands at the front
 
@@ -49,7 +50,7 @@ pub record IsNoHead (w : List ℕ) : Type 0 where
 -- b begins with the head h, and rest follows it
 pub record BeginsWith (b : List ℕ) (h : RequestHead) (rest : List ℕ) : Type 0 where
   pub reads : ReadsRequest b h rest
-  pub short : length (print_request h) ≤ 16384
+  pub short : length (print_request h) ≤ head_limit
 
 -- ---- what stands at the front
 
@@ -81,13 +82,13 @@ pub record IsMessage (b : List ℕ) (m : Message) (rest : List ℕ) : Type 0 whe
 -- b is refused, by the first rule that refuses it
 pub data IsRefusedFor (b : List ℕ) : EdgeFault → Type 0 where
   no_head : IsNoHead (window b) → IsRefusedFor b BadHead
-  too_long : IsUndecided (window b) → 16384 ≤ length b → IsRefusedFor b TooLarge
+  too_long : IsUndecided (window b) → head_limit ≤ length b → IsRefusedFor b TooLarge
   by_head : (fault : EdgeFault) (h : RequestHead) (rest : List ℕ) → BeginsWith b h rest
       → framing_of (headers_of h) ≡ Refused fault → IsRefusedFor b fault
 
 -- b is less than a whole message, and isn't refused
 pub data IsOpen (b : List ℕ) : Type 0 where
-  in_head : IsUndecided (window b) → length b < 16384 → IsOpen b
+  in_head : IsUndecided (window b) → length b < head_limit → IsOpen b
   in_body : (h : RequestHead) (rest : List ℕ) (n : ℕ) → BeginsWith b h rest
       → framing_of (headers_of h) ≡ Body n → length rest < n → IsOpen b
 

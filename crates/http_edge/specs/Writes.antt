@@ -4,6 +4,10 @@ use Rattle.std.specs.Borrow.{Bor}
 use Rattle.bytes_and_lists.specs.Prefixes.{IsPrefix}
 use Rattle.gnap_io.specs.Outside.{Told, Writes}
 
+-- so many bytes of a reply are written at once
+abbrev pub room : ℕ
+room = 4096
+
 -- the bytes of the pieces, one behind another
 abbrev pub bytes_of_pieces : List (Bor (List ℕ)) → List ℕ
 bytes_of_pieces pieces = flat_map (λ piece. piece.now) pieces

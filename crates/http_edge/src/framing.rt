@@ -5,6 +5,7 @@ ghost use Rattle.std.specs.Char.{to_ascii_lowercase};
 ghost use Rattle.std.specs.Str.Parse.{digits_value};
 ghost use Rattle.httparse.specs.Spans.{IsHeaderWithin, header_bytes};
 ghost use Rattle.http1.specs.Fields.{is_named};
+ghost use Rattle.http_edge.specs.Limits.{field_limit};
 ghost use Rattle.http_edge.specs.Framing.{is_coded, is_digits, lengths_of, length_framing, framing_of, asks_to_close};
 ghost use Rattle.http_edge.specs.Streams.{field_of};
 ghost use Rattle.http_edge.specs.Steps.{HasLengths, IsBounded};
@@ -120,7 +121,7 @@ fn length_framing(value: &[u8]) -> Framing
 /// What the fields of a request say of its body, of which there are at most 64.
 pub(crate) fn request_framing(head: &[u8], fields: &[HeaderSpan]) -> Framing
     requires within { All (IsHeaderWithin (length head.now)) fields.now }
-    requires few { length fields.now ≤ 64 }
+    requires few { length fields.now ≤ field_limit }
     ensures value { result ≡ framing_of (map (header_bytes head.now) fields.now) }
     ensures bound { IsBounded result }
 {

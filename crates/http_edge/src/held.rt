@@ -1,6 +1,7 @@
 //! Bytes that were read of a source and not used yet.
 ghost use Rattle.std.specs.Prelude.{◌≡◌, ◌↔◌, ℕ, IsTrue, ◌+◌, ◌-◌, ◌<◌, ◌≤◌, [], length, take, drop, slice_range, IfOk, OnOk, OnErr};
 ghost use Rattle.gnap_io.specs.Outside.{HasRead, HasCause};
+ghost use Rattle.http_edge.specs.Limits.{message_limit};
 ghost use Rattle.http_edge.specs.Streams.{HasNoMessage};
 ghost use Rattle.http_edge.specs.Steps.{HasArrived};
 
@@ -28,12 +29,13 @@ pub struct Held {
 
 impl Model for Held {
     ghost use Rattle.std.specs.Prelude.{ℕ, List, length, slice_range, ◌≤◌};
+    ghost use Rattle.http_edge.specs.Limits.{message_limit};
 
     ghost Value = { List ℕ };
 
     ghost view = { λ held. slice_range held.buffer.items held.start held.end };
 
-    ghost invariant = { λ held. (held.start ≤ held.end) × (held.end ≤ length held.buffer.items) × (length held.buffer.items ≤ 81920) };
+    ghost invariant = { λ held. (held.start ≤ held.end) × (held.end ≤ length held.buffer.items) × (length held.buffer.items ≤ message_limit) };
 }
 
 // Where the bytes from start to end begin, once there is room for more behind them, as far as the buffer has it. They may be moved to the front.
@@ -98,7 +100,7 @@ impl Held {
     /// How many bytes are held.
     pub fn len(&self) -> usize
         ensures value { result ≡ length self.now }
-        ensures bound { result ≤ 81920 }
+        ensures bound { result ≤ message_limit }
     {
         self.end - self.start
     }
@@ -113,7 +115,7 @@ impl Held {
     /// The bytes.
     pub(crate) fn as_slice(&self) -> &[u8]
         ensures value { result.now ≡ self.now }
-        ensures bound { length self.now ≤ 81920 }
+        ensures bound { length self.now ≤ message_limit }
     {
         &self.buffer[self.start..self.end]
     }
@@ -122,17 +124,17 @@ impl Held {
     pub(crate) fn skip(&mut self, count: usize)
         requires { count ≤ length self.old }
         ensures rest { self.new ≡ drop count self.old }
-        ensures bound { length self.new ≤ 81920 }
+        ensures bound { length self.new ≤ message_limit }
     {
         self.start += count;
     }
 
     /// Reads once, at most so many bytes.
     pub(crate) fn fill<S: Source>(&mut self, source: &mut S, room: usize) -> Arrival
-        requires room { (0 < room) × (length self.old + room ≤ 81920) }
+        requires room { (0 < room) × (length self.old + room ≤ message_limit) }
         requires waiting { HasNoMessage self.old }
         ensures arrived { HasArrived result self.old self.new (S.told source.old) (S.told source.new) (S.faults source.old) (S.faults source.new) }
-        ensures bound { length self.new ≤ 81920 }
+        ensures bound { length self.new ≤ message_limit }
     {
         let start = start_with_room(&mut self.buffer, self.start, self.end, room);
         self.end -= self.start - start;

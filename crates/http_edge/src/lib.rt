@@ -6,6 +6,7 @@ mod framing;
 mod held;
 pub mod laws;
 mod messages;
+mod places;
 mod reading;
 mod reply;
 mod reply_reading;

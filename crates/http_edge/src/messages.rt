@@ -1,6 +1,7 @@
 //! The message at the front of bytes.
 ghost use Rattle.std.specs.Prelude.{◌≡◌, ◌≤◌, length, take, IfOk};
 ghost use Rattle.httparse.specs.Spans.{IsRequestWithin, IsRequestOf};
+ghost use Rattle.http_edge.specs.Limits.{head_limit, field_limit};
 ghost use Rattle.http_edge.specs.Streams.{window};
 ghost use Rattle.http_edge.specs.Steps.{IsBeginningOf};
 
@@ -33,7 +34,7 @@ pub enum Beginning {
 // The bytes in which a head has to end.
 fn window(b: &[u8]) -> &[u8]
     ensures window { result.now ≡ window b.now }
-    ensures short { length result.now ≤ 16384 }
+    ensures short { length result.now ≤ head_limit }
 {
     if b.len() > HEAD_LIMIT {
         &b[..HEAD_LIMIT]
@@ -51,8 +52,8 @@ fn read_message(
     spans: RequestSpans,
 ) -> Result<Beginning, Mem>
     requires window { w.now ≡ window b.now }
-    requires short { length w.now ≤ 16384 }
-    requires room { length room.now ≡ 64 }
+    requires short { length w.now ≤ head_limit }
+    requires room { length room.now ≡ field_limit }
     requires within { IsRequestWithin w.now room.now spans }
     requires of { IsRequestOf w.now room.now spans }
     ensures { IfOk result (IsBeginningOf b.now) }

@@ -1,5 +1,6 @@
 //! The next message of a source.
 ghost use Rattle.std.specs.Prelude.{◌≡◌, ◌+◌, ◌<◌, ◌≤◌, ◌⊎◌, length, IfOk, IfSome};
+ghost use Rattle.http_edge.specs.Limits.{head_limit, message_limit};
 ghost use Rattle.http_edge.specs.Streams.{IsOpen};
 ghost use Rattle.http_edge.specs.Lines.{HasOneLineParts};
 ghost use Rattle.http_edge.specs.Reads.{IsNextMessage, CountsReadFault};
@@ -8,7 +9,8 @@ ghost use Rattle.http_edge.specs.Steps.{IsWaiting, IsProgress, HasArrived};
 use crate::fault::EdgeFault;
 use crate::held::{Arrival, Held};
 use crate::messages::{Beginning, Want, take_message};
-use crate::request_heads::{BEHIND_HEAD, HEAD_LIMIT, line_place};
+use crate::places::{LinePlace, is_behind_head, line_place};
+use crate::request_heads::HEAD_LIMIT;
 use bytes_and_lists::message::Message;
 use gnap_io::device::Source;
 use std::alloc::Global;
@@ -28,7 +30,8 @@ pub enum Progress {
 // Takes the message at the front of what is held, if it is whole.
 fn take_next(alloc: Global, held: &mut Held, ended: bool) -> Result<Progress, EdgeFault>
     ensures progress { IsProgress held.old ended held.new result }
-    ensures bound { length held.new ≤ 81920 }
+    ensures before { length held.old ≤ message_limit }
+    ensures bound { length held.new ≤ message_limit }
 {
     match take_message(alloc, held.as_slice())? {
         Beginning::Whole(message, used) => {
@@ -52,12 +55,12 @@ fn take_next(alloc: Global, held: &mut Held, ended: bool) -> Result<Progress, Ed
 // than three times as many bytes as it has.
 fn read_head<S: Source>(source: &mut S, held: &mut Held) -> Arrival
     requires waiting { IsOpen held.old }
-    requires short { length held.old < 16384 }
+    requires short { length held.old < head_limit }
     ensures arrived { HasArrived result held.old held.new (S.told source.old) (S.told source.new) (S.faults source.old) (S.faults source.new) }
-    ensures bound { length held.new ≤ 81920 }
+    ensures bound { length held.new ≤ message_limit }
 {
     let enough = (held.len() * 2).clamp(1, HEAD_LIMIT);
-    let mut place = line_place(0, held.as_slice());
+    let mut place = line_place(LinePlace::BlankLines, held.as_slice());
     loop {
         let seen = held.len();
         match held.fill(source, PIECE) {
@@ -67,7 +70,7 @@ fn read_head<S: Source>(source: &mut S, held: &mut Held) -> Arrival
             Arrival::Memory => return Arrival::Memory,
         }
         place = line_place(place, &held.as_slice()[seen..]);
-        if place == BEHIND_HEAD || held.len() >= enough {
+        if is_behind_head(place) || held.len() >= enough {
             return Arrival::More;
         }
     }
@@ -77,7 +80,7 @@ fn read_head<S: Source>(source: &mut S, held: &mut Held) -> Arrival
 fn read_body<S: Source>(source: &mut S, held: &mut Held, end: usize) -> Arrival
     requires { IsWaiting held.old (Want.UpTo end) }
     ensures arrived { HasArrived result held.old held.new (S.told source.old) (S.told source.new) (S.faults source.old) (S.faults source.new) }
-    ensures bound { length held.new ≤ 81920 }
+    ensures bound { length held.new ≤ message_limit }
 {
     while held.len() < end {
         match held.fill(source, end - held.len()) {
@@ -93,7 +96,7 @@ fn read_body<S: Source>(source: &mut S, held: &mut Held, end: usize) -> Arrival
 fn read_on<S: Source>(source: &mut S, held: &mut Held, want: Want) -> Arrival
     requires { IsWaiting held.old want }
     ensures arrived { HasArrived result held.old held.new (S.told source.old) (S.told source.new) (S.faults source.old) (S.faults source.new) }
-    ensures bound { length held.new ≤ 81920 }
+    ensures bound { length held.new ≤ message_limit }
 {
     match want {
         Want::MoreOfHead => read_head(source, held),
@@ -104,6 +107,7 @@ fn read_on<S: Source>(source: &mut S, held: &mut Held, want: Want) -> Arrival
 /// The next message of a connection: of the bytes that are held, and then of those that the source gives, however these come in pieces. Afterwards exactly
 /// the bytes behind the message are held. `None` is the end of the input, with nothing held.
 ///
+/// No more is read than one message may have: what is held and what comes in the call are at most 81,920 bytes together.
 /// An `Err` drops no byte. After `OutOfMemory` the call can be made again; after the others the connection is over.
 pub fn next_message<S: Source>(
     alloc: Global,
@@ -116,7 +120,7 @@ pub fn next_message<S: Source>(
     ensures needed { (S.told source.new ≡ S.told source.old) ⊎ IsOpen held.old }
     ensures lines { IfOk result (λ found. IfSome found HasOneLineParts) }
     ensures counts { CountsReadFault result (S.faults source.old) (S.faults source.new) }
-    ensures bound { length held.new ≤ 81920 }
+    ensures bound { length held.new ≤ message_limit }
 {
     let mut ended = false;
     loop {

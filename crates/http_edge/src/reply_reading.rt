@@ -1,6 +1,7 @@
 //! Replies out of bytes.
 ghost use Rattle.std.specs.Prelude.{◌≡◌, ◌<◌, ◌^◌, ◌≤◌, length, map, ◌-◌, IfSome, IfNone, All};
 ghost use Rattle.httparse.specs.Spans.{IsHeaderWithin, header_bytes, IsResponseWithin, IsResponseOf};
+ghost use Rattle.http_edge.specs.Limits.{field_limit};
 ghost use Rattle.http_edge.specs.Framing.{lengths_of};
 ghost use Rattle.http_edge.specs.ReadReplies.{says_length, fits_parts, HasNoRoom, GivesReply};
 
@@ -33,7 +34,7 @@ impl From<Mem> for ReplyFault {
 
 // Where the parts of the head at the front are, where it has at most 64 fields.
 fn reply_head(bytes: &[u8], room: &mut [HeaderSpan]) -> Option<ResponseSpans>
-    requires { length room.old ≡ 64 }
+    requires { length room.old ≡ field_limit }
     ensures within { IfSome result (IsResponseWithin bytes.now room.new) }
     ensures of { IfSome result (IsResponseOf bytes.now room.new) }
     ensures none { IfNone result (HasNoRoom bytes.now) }

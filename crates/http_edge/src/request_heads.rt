@@ -1,11 +1,13 @@
 //! The head of a request at the front of bytes.
-ghost use Rattle.std.specs.Prelude.{◌≡◌, ◌≤◌, ◌==◌, [], length, vec_len, fold, IfOk, IfSome, IfNone};
+ghost use Rattle.std.specs.Prelude.{◌≡◌, ◌≤◌, [], length, vec_len, IfOk, IfSome, IfNone};
 ghost use Rattle.httparse.specs.Spans.{RequestOverflows, RequestExceeds};
-ghost use Rattle.http_edge.specs.Steps.{next_place, next_line_place, IsLeadingHead, IsNoShortHead};
+ghost use Rattle.http_edge.specs.Limits.{head_limit, field_limit, all_fields};
+ghost use Rattle.http_edge.specs.Steps.{IsLeadingHead, IsNoShortHead};
 
+use crate::places::ends_in_target;
 use bytes_and_lists::memory::Mem;
 use httparse::spans::{EMPTY_HEADER_SPAN, HeaderSpan, RequestSpans, parse_request};
-use httparse::{Error, Status, is_method_token};
+use httparse::{Error, Status};
 use std::alloc::Global;
 
 /// The most bytes of a head.
@@ -28,53 +30,6 @@ pub enum LeadingHead {
     Never,
     /// That isn't decided.
     Undecided,
-}
-
-fn next_place(place: u8, c: u8) -> u8
-    ensures { result ≡ next_place place c }
-{
-    match place {
-        3 => {
-            if c != b' ' && c != b'\r' && c != b'\n' {
-                3
-            } else {
-                4
-            }
-        }
-        2 => {
-            if is_method_token(c) {
-                2
-            } else if c == b' ' {
-                3
-            } else {
-                4
-            }
-        }
-        1 => { if c == b'\n' { 0 } else { 4 } }
-        0 => {
-            if c == b'\n' {
-                0
-            } else if c == b'\r' {
-                1
-            } else if is_method_token(c) {
-                2
-            } else {
-                4
-            }
-        }
-        _ => 4,
-    }
-}
-
-// The bytes end inside a request target.
-fn ends_in_target(bytes: &[u8]) -> bool
-    ensures { result ≡ (fold next_place 0 bytes.now == 3) }
-{
-    let mut place = 0;
-    for c in bytes {
-        place = next_place(place, *c);
-    }
-    place == 3
 }
 
 // What stands at the front, with room for so many fields. None says that it has more.
@@ -100,7 +55,7 @@ fn leading_head_in(w: &[u8], room: &mut [HeaderSpan]) -> Option<LeadingHead>
 }
 
 fn large_room(alloc: Global) -> Result<Vec<HeaderSpan>, Mem>
-    ensures { IfOk result (λ room. vec_len room ≡ 5462) }
+    ensures { IfOk result (λ room. vec_len room ≡ all_fields) }
 {
     let mut room = Vec::new(alloc);
     match room.resize(ALL_FIELDS, EMPTY_HEADER_SPAN) {
@@ -111,8 +66,8 @@ fn large_room(alloc: Global) -> Result<Vec<HeaderSpan>, Mem>
 
 // What stands at the front, where a head there has more than 64 fields.
 fn head_of_many_fields(alloc: Global, w: &[u8]) -> Result<LeadingHead, Mem>
-    requires over { RequestOverflows 64 w.now }
-    requires short { length w.now ≤ 16384 }
+    requires over { RequestOverflows field_limit w.now }
+    requires short { length w.now ≤ head_limit }
     ensures front { IfOk result (IsLeadingHead w.now []) }
     ensures no_head { IfOk result IsNoShortHead }
 {
@@ -133,46 +88,12 @@ pub(crate) fn leading_head(
     w: &[u8],
     room: &mut [HeaderSpan],
 ) -> Result<LeadingHead, Mem>
-    requires room { length room.old ≡ 64 }
-    requires short { length w.now ≤ 16384 }
+    requires room { length room.old ≡ field_limit }
+    requires short { length w.now ≤ head_limit }
     ensures { IfOk result (IsLeadingHead w.now room.new) }
 {
     match leading_head_in(w, room) {
         Some(front) => Ok(front),
         None => head_of_many_fields(alloc, w),
     }
-}
-
-fn next_line_place(place: u8, c: u8) -> u8
-    ensures { result ≡ next_line_place place c }
-{
-    match place {
-        0 => { if c == b'\n' || c == b'\r' { 0 } else { 1 } }
-        1 => { if c == b'\n' { 2 } else { 1 } }
-        2 => {
-            if c == b'\n' {
-                4
-            } else if c == b'\r' {
-                3
-            } else {
-                1
-            }
-        }
-        3 => { if c == b'\n' { 4 } else { 1 } }
-        _ => 4,
-    }
-}
-
-/// The place behind an empty line that ends a head.
-pub(crate) const BEHIND_HEAD: u8 = 4;
-
-/// Where the bytes lead, from a place among lines.
-pub(crate) fn line_place(place: u8, bytes: &[u8]) -> u8
-    ensures { result ≡ fold next_line_place place bytes.now }
-{
-    let mut place = place;
-    for c in bytes {
-        place = next_line_place(place, *c);
-    }
-    place
 }

@@ -1,12 +1,14 @@
 //! Replies into bytes.
 ghost use Rattle.std.specs.Prelude.{◌≡◌, ◌+◌, ◌≤◌, ◌++◌, [], length, true, codes, OnOk};
+ghost use Rattle.http.specs.StatusCode.{code_digits};
 ghost use Rattle.gnap_io.specs.Outside.{HasSent, HasCause};
-ghost use Rattle.http_edge.specs.Replies.{is_used, status_line, type_line, extra_line, close_line, length_line, body_bytes, reply_bytes, MayWrite};
-ghost use Rattle.http_edge.specs.Writes.{bytes_of_pieces, HasPut};
+ghost use Rattle.http_edge.specs.Replies.{is_used, phrase_of, type_line, extra_line, close_line, length_line, body_bytes, reply_bytes, MayWrite};
+ghost use Rattle.http_edge.specs.Writes.{room, bytes_of_pieces, HasPut};
 
 use crate::reply::{Extra, HttpReply};
 use bytes_and_lists::bytes::Bytes;
 use gnap_io::device::{Failed, Sink, write_all};
+use http::StatusCode;
 use itoa::Buffer;
 use std::marker::Model;
 
@@ -26,18 +28,19 @@ const ROOM: usize = 4_096;
 /// Bytes on their way to a sink. Contracts see the list of them.
 #[derive(Drop)]
 pub struct Outgoing {
-    bytes: [u8; 4096],
+    bytes: [u8; ROOM],
     len: usize,
 }
 
 impl Model for Outgoing {
     ghost use Rattle.std.specs.Prelude.{ℕ, List, take, ◌≤◌};
+    ghost use Rattle.http_edge.specs.Writes.{room};
 
     ghost Value = { List ℕ };
 
     ghost view = { λ outgoing. take outgoing.len outgoing.bytes };
 
-    ghost invariant = { λ outgoing. outgoing.len ≤ 4096 };
+    ghost invariant = { λ outgoing. outgoing.len ≤ room };
 }
 
 impl Outgoing {
@@ -63,7 +66,7 @@ impl Outgoing {
 
     // Keeps a piece that has room.
     fn keep(&mut self, piece: &[u8])
-        requires { length self.old + length piece.now ≤ 4096 }
+        requires { length self.old + length piece.now ≤ room }
         ensures { self.new ≡ self.old ++ piece.now }
     {
         let end = self.len + piece.len();
@@ -99,23 +102,18 @@ fn write_pieces<S: Sink>(sink: &mut S, pieces: &[&[u8]]) -> Result<(), Failed>
     outgoing.flush(sink)
 }
 
-fn status_line(status: u16) -> &'static [u8]
+// The digits and the phrase of a status.
+fn digits_and_phrase(status: u16) -> (&'static [u8], &'static [u8])
     requires { is_used status ≡ true }
-    ensures { result.now ≡ status_line status }
+    ensures digits { result.0.now ≡ code_digits status }
+    ensures phrase { result.1.now ≡ phrase_of status }
 {
-    match status {
-        200 => b"HTTP/1.1 200 OK\r\n",
-        204 => b"HTTP/1.1 204 No Content\r\n",
-        400 => b"HTTP/1.1 400 Bad Request\r\n",
-        401 => b"HTTP/1.1 401 Unauthorized\r\n",
-        403 => b"HTTP/1.1 403 Forbidden\r\n",
-        404 => b"HTTP/1.1 404 Not Found\r\n",
-        405 => b"HTTP/1.1 405 Method Not Allowed\r\n",
-        413 => b"HTTP/1.1 413 Payload Too Large\r\n",
-        501 => b"HTTP/1.1 501 Not Implemented\r\n",
-        502 => b"HTTP/1.1 502 Bad Gateway\r\n",
-        503 => b"HTTP/1.1 503 Service Unavailable\r\n",
-        _ => unreachable!(),
+    match StatusCode::from_u16(status) {
+        Ok(code) => (
+            code.as_str().as_bytes(),
+            code.canonical_reason().unwrap_or("").as_bytes(),
+        ),
+        Err(_) => unreachable!(),
     }
 }
 
@@ -168,24 +166,26 @@ fn length_parts(status: u16, digits: &[u8]) -> (&'static [u8], &[u8], &'static [
 // Writes the parts of a reply that differ, and those between them.
 fn write_parts<'a, S: Sink>(
     sink: &mut S,
-    status: &'a [u8],
+    status: (&'a [u8], &'a [u8]),
     kind: &'a [u8],
     extra: (&'a [u8], &'a [u8], &'a [u8]),
     close: &'a [u8],
     size: (&'a [u8], &'a [u8], &'a [u8]),
     body: &'a [u8],
 ) -> Result<(), Failed>
-    ensures sent { HasSent (status.now ++ (kind.now ++ (codes "Cache-Control: no-store\r\n" ++ ((extra.entry.0.now ++ (extra.entry.1.now ++ extra.entry.2.now))
+    ensures sent { HasSent ((codes "HTTP/1.1 " ++ (status.entry.0.now ++ (codes " " ++ (status.entry.1.now ++ codes "\r\n")))) ++ (kind.now ++ (codes "Cache-Control: no-store\r\n" ++ ((extra.entry.0.now ++ (extra.entry.1.now ++ extra.entry.2.now))
         ++ (close.now ++ ((size.entry.0.now ++ (size.entry.1.now ++ size.entry.2.now)) ++ codes "\r\n"))))) ++ body.now) (S.told sink.old) (S.told sink.new) result }
     ensures cause { HasCause (S.faults sink.old) (S.faults sink.new) result }
 {
+    let version: &'a [u8] = b"HTTP/1.1 ";
+    let blank: &'a [u8] = b" ";
     let cache: &'a [u8] = b"Cache-Control: no-store\r\n";
     let end: &'a [u8] = b"\r\n";
     write_pieces(
         sink,
         &[
-            status, kind, cache, extra.0, extra.1, extra.2, close, size.0, size.1, size.2, end,
-            body,
+            version, status.0, blank, status.1, end, kind, cache, extra.0, extra.1, extra.2, close,
+            size.0, size.1, size.2, end, body,
         ],
     )
 }
@@ -201,7 +201,7 @@ pub fn write_reply<S: Sink>(sink: &mut S, reply: &HttpReply) -> Result<(), Write
     let digits = buffer.format(body.len()).as_bytes();
     write_parts(
         sink,
-        status_line(reply.status),
+        digits_and_phrase(reply.status),
         type_line(&reply.body),
         extra_parts(&reply.extra),
         close_line(reply.last),

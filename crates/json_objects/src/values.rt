@@ -1,5 +1,5 @@
 //! JSON values, made of texts and members, and their compact text.
-ghost use Rattle.std.specs.Prelude.{◌≡◌, IfOk, OnOk, IsUtf8, option_map, false};
+ghost use Rattle.std.specs.Prelude.{◌≡◌, IfOk, OnOk, OnErr, IsUtf8, option_map, false};
 ghost use Rattle.std.specs.List.{AllByRecursion};
 ghost use Rattle.serde_json.specs.Data.{string};
 ghost use Rattle.serde_json.specs.View.{view, members_view};
@@ -45,15 +45,16 @@ pub fn texts_value(alloc: Global, texts: &Seq<Bytes>) -> Result<Value, Mem>
     Ok(Value::Array(items))
 }
 
-/// Places the member in its order, where there is a value.
+/// Places the member in its order, where there is a value. An `Err` changes nothing.
 pub fn put(
     map: &mut Map<String, Value>,
     alloc: Global,
     name: &str,
     value: Option<Value>,
 ) -> Result<(), Mem>
-    ensures { OnOk result (members_view map.new.entries
+    ensures ok { OnOk result (members_view map.new.entries
         ≡ with_member name.now (option_map view value) (members_view map.old.entries)) }
+    ensures err { OnErr result (map.new.entries ≡ map.old.entries) }
 {
     if let Some(value) = value {
         serde_json::put(map, alloc, name, value)?;

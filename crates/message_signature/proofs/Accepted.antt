@@ -1,5 +1,5 @@
 -- An id is the answer exactly where the message is accepted under it.
-use Rattle.std.proofs.Common.{◌≡◌, ℕ, true, List, Some, Ok, refl, ap, ◌∙◌, subst}
+use Rattle.std.proofs.Common.{◌≡◌, ℕ, true, List, Some, Result, Ok, Err, refl, ap, ◌∙◌, subst}
 use Rattle.std.specs.Prelude.{codes}
 use Rattle.std.specs.Str.{bytes_eq}
 use Rattle.std.proofs.lemmas.Slice.Eq.{bytes_eq-Decides}
@@ -9,84 +9,84 @@ use Rattle.structured_fields.specs.declared.item.Member.{Member}
 use Rattle.structured_fields.specs.Named.{value_at}
 use Rattle.structured_fields.specs.Reading.{dictionary_of}
 use Rattle.hmac_key.specs.Hmac.{hmac_sha256}
+use Rattle.message_signature.specs.declared.fault.SigFault.{SigFault}
 use Rattle.message_signature.specs.declared.fault.SigFault.TheVariants.{NoField, NotAField, Malformed, Unsupported, Uncovered, Created, Expired, Alg, UnknownKey, Differs, Digest}
+use Rattle.message_signature.specs.declared.tags.SignatureFields.{SignatureFields}
 use Rattle.message_signature.specs.Components.{field_value}
 use Rattle.message_signature.specs.Base.{is_string, signature_base}
-use Rattle.message_signature.specs.Verified.{with_tag, only_one, signature_under, absent_or, is_well_formed, covers_enough, is_in_window, is_not_expired, key_in, has_right_digest, signature_fields, tagged_in, tagged, judged, verified}
+use Rattle.message_signature.specs.Faults.{◌>>=◌}
+use Rattle.message_signature.specs.Verified.{with_tag, only_one, signature_under, absent_or, is_well_formed, covers_enough, is_in_window, is_not_expired, key_in, has_right_digest, Signature, signature_fields, tagged_in, tagged, admitted, made_under, judged_over, judged, verified}
 use Rattle.message_signature.specs.Accepted.{IsDictionaryField, IsTheTagged, IsAccepted}
-use Rattle.message_signature.specs.Laws.{VerifiedIsAccepted, AcceptedIsVerified}
+use Rattle.message_signature.specs.Laws.{VerifiedIsAccepted, AcceptedIsVerified, AcceptedIsMarked}
+use Rattle.message_signature.specs.Marks.{mark_in, mark_of}
+use Rattle.message_signature.specs.Marked.{with_mark, verified_marked, id_and_mark}
 use Rattle.message_signature.proofs.AcceptedSteps.{step_ok, need_ok, must_ok}
 use Rattle.message_signature.proofs.AcceptedTag.{tagged_says, tagged_made}
 use Rattle.message_signature.proofs.AcceptedTests.{algorithm_decides, algorithm_is_string, integer_passes, string_passes, window_says, window_passes, expiry_says, expiry_passes, IsKey, key_says, key_found}
 use Rattle.message_signature.proofs.AcceptedParts.{base_is_of_strings, expires_is_integer, HasBytes, bytes_say, bytes_found, cover_says, covered_passes, digest_says, digest_passes}
 
--- the one signature with the tag, and its bytes
-record IsTagged (m : Message) (tag : List ℕ) (list : InnerList) (bytes : List ℕ) : Type 0 where
+-- the one signature with the tag, and where it stands
+record IsTagged (m : Message) (tag : List ℕ) (one : Signature) : Type 0 where
   inputs : List (List ℕ × Member)
   inputs_are : IsDictionaryField m (codes "signature-input") inputs
-  label : List ℕ
-  is : IsTheTagged tag inputs label list
-  formed : is_well_formed list ≡ true
+  is : IsTheTagged tag inputs one.label one.list
+  formed : is_well_formed one.list ≡ true
   signatures : List (List ℕ × Member)
   signatures_are : IsDictionaryField m (codes "signature") signatures
-  has : HasBytes label signatures bytes
+  has : HasBytes one.label signatures one.bytes
 
--- the two fields of signatures
-abbrev Dictionaries : Type 0
-Dictionaries = List (List ℕ × Member) × List (List ℕ × Member)
+abbrev AreFields : Message → SignatureFields → Type 0
+AreFields m fields = IsDictionaryField m (codes "signature-input") fields.inputs × IsDictionaryField m (codes "signature") fields.signatures
 
-abbrev AreFields : Message → Dictionaries → Type 0
-AreFields m both = IsDictionaryField m (codes "signature-input") both.0 × IsDictionaryField m (codes "signature") both.1
-
-fields_are : (m : Message) (both : Dictionaries) → signature_fields m ≡ Ok both → AreFields m both
-fields_are m both e =
-    let input = need_ok NoField (field_value (codes "signature-input") m.fields) _ both e in
-    let signature = need_ok NoField (field_value (codes "signature") m.fields) _ both input.rest in
-    let inputs = need_ok NotAField (dictionary_of input.value) _ both signature.rest in
-    let signatures = need_ok NotAField (dictionary_of signature.value) _ both inputs.rest in
-    let found : Dictionaries = (inputs.value, signatures.value) in
-    let same : found ≡ both = cc in
+fields_are : (m : Message) (fields : SignatureFields) → signature_fields m ≡ Ok fields → AreFields m fields
+fields_are m fields e =
+    let input = need_ok NoField (field_value (codes "signature-input") m.fields) _ fields e in
+    let signature = need_ok NoField (field_value (codes "signature") m.fields) _ fields input.rest in
+    let inputs = need_ok NotAField (dictionary_of input.value) _ fields signature.rest in
+    let signatures = need_ok NotAField (dictionary_of signature.value) _ fields inputs.rest in
+    let found : SignatureFields = record { inputs = inputs.value; signatures = signatures.value } in
+    let same : found ≡ fields = cc in
     subst (AreFields m) same (record { text = input.value; value = input.is; reads = inputs.is }, record { text = signature.value; value = signature.is; reads = signatures.is })
 
 module _ (m : Message) (tag : List ℕ) where
-  tagged_is : (one : InnerList × List ℕ) → tagged m tag ≡ Ok one → IsTagged m tag one.0 one.1
+  tagged_is : (one : Signature) → tagged m tag ≡ Ok one → IsTagged m tag one
   unfolding tagged
   tagged_is one e =
-      let both = step_ok (signature_fields m) (λ d. tagged_in tag d.0 d.1) one e in
+      let both = step_ok (signature_fields m) (tagged_in tag) one e in
       let fields = fields_are m both.value both.is in
-      let only = step_ok (only_one (with_tag tag both.value.0)) _ one both.rest in
+      let only = step_ok (only_one (with_tag tag both.value.inputs)) _ one both.rest in
       let formed = must_ok Malformed (is_well_formed only.value.1) _ one only.rest in
-      let bytes = need_ok Malformed (signature_under only.value.0 both.value.1) _ one formed.1 in
-      let found : InnerList × List ℕ = (only.value.1, bytes.value) in
+      let bytes = need_ok Malformed (signature_under only.value.0 both.value.signatures) _ one formed.1 in
+      let found : Signature = record { label = only.value.0; list = only.value.1; bytes = bytes.value } in
       let same : found ≡ one = cc in
-      subst (λ (p : InnerList × List ℕ). IsTagged m tag p.0 p.1) same (record {
-        inputs = both.value.0;
+      subst (IsTagged m tag) same (record {
+        inputs = both.value.inputs;
         inputs_are = fields.0;
-        label = only.value.0;
-        is = tagged_says tag both.value.0 only.value only.is;
+        is = tagged_says tag both.value.inputs only.value only.is;
         formed = formed.0;
-        signatures = both.value.1;
+        signatures = both.value.signatures;
         signatures_are = fields.1;
-        has = bytes_say only.value.0 both.value.1 bytes.value bytes.is;
+        has = bytes_say only.value.0 both.value.signatures bytes.value bytes.is;
       })
 
-  tagged_found : (list : InnerList) (bytes : List ℕ) → IsTagged m tag list bytes → tagged m tag ≡ Ok (list, bytes)
+  tagged_found : (one : Signature) → IsTagged m tag one → tagged m tag ≡ Ok one
   unfolding tagged
-  tagged_found list bytes t =
-      rw (t.inputs_are.value, t.signatures_are.value, t.inputs_are.reads, t.signatures_are.reads, tagged_made tag t.inputs t.label list t.is, t.formed, bytes_found t.label t.signatures bytes t.has) refl
+  tagged_found one t =
+      rw (t.inputs_are.value, t.signatures_are.value, t.inputs_are.reads, t.signatures_are.reads, tagged_made tag t.inputs one.label one.list t.is, t.formed, bytes_found one.label t.signatures one.bytes t.has) refl
 
   module _ (base : List ℕ) (ring : List (List ℕ × List ℕ)) (now : ℕ) (id : List ℕ) where
-    accepted : (one : InnerList × List ℕ) → IsTagged m tag one.0 one.1 → judged m base ring now one ≡ Ok id → IsAccepted m base ring now tag id
-    unfolding judged
+    accepted : (one : Signature) → IsTagged m tag one → judged m base ring now one ≡ Ok id → IsAccepted m base ring now tag id
+    unfolding judged judged_over admitted made_under
     accepted one t e =
-        let list = one.0 in
+        let list = one.list in
         let text = need_ok Unsupported (signature_base m base list) _ id e in
-        let covered = must_ok Uncovered (covers_enough m list) _ id text.rest in
-        let created = must_ok Created (is_in_window now (value_at list.params (codes "created"))) _ id covered.1 in
-        let expires = must_ok Expired (is_not_expired now (value_at list.params (codes "expires"))) _ id created.1 in
-        let alg = must_ok Alg (absent_or (is_string (codes "hmac-sha256")) (value_at list.params (codes "alg"))) _ id expires.1 in
-        let key = need_ok UnknownKey (key_in ring (value_at list.params (codes "keyid"))) _ id alg.1 in
-        let right = must_ok Differs (bytes_eq one.1 (hmac_sha256 key.value.1 text.value)) _ id key.rest in
+        let both = step_ok (admitted m now list) (λ _. made_under m text.value ring list one.bytes) id text.rest in
+        let covered = must_ok Uncovered (covers_enough m list) _ both.value both.is in
+        let created = must_ok Created (is_in_window now (value_at list.params (codes "created"))) _ both.value covered.1 in
+        let expires = must_ok Expired (is_not_expired now (value_at list.params (codes "expires"))) _ both.value created.1 in
+        let alg = must_ok Alg (absent_or (is_string (codes "hmac-sha256")) (value_at list.params (codes "alg"))) _ both.value expires.1 in
+        let key = need_ok UnknownKey (key_in ring (value_at list.params (codes "keyid"))) _ id both.rest in
+        let right = must_ok Differs (bytes_eq one.bytes (hmac_sha256 key.value.1 text.value)) _ id key.rest in
         let digest = must_ok Digest (has_right_digest m) _ id right.1 in
         let same : key.value.0 ≡ id = cc in
         let covers = cover_says m list covered.0 in
@@ -97,7 +97,7 @@ module _ (m : Message) (tag : List ℕ) where
         record {
           inputs = t.inputs;
           inputs_are = t.inputs_are;
-          label = t.label;
+          label = one.label;
           list = list;
           tagged = t.is;
           created = window.0;
@@ -118,7 +118,7 @@ module _ (m : Message) (tag : List ℕ) where
           signatures_are = t.signatures_are;
           signature = t.has.signature;
           signed = t.has.is;
-          right = t.has.bytes_are ∙ ap (λ (b : List ℕ). Some b) ((bytes_eq-Decides one.1 (hmac_sha256 key.value.1 text.value)).0 right.0);
+          right = t.has.bytes_are ∙ ap (λ (b : List ℕ). Some b) ((bytes_eq-Decides one.bytes (hmac_sha256 key.value.1 text.value)).0 right.0);
           fits = body.fits;
           body = body.body;
         }
@@ -136,8 +136,11 @@ module _ (m : Message) (tag : List ℕ) where
         algorithm_is_string (codes "hmac-sha256") (value_at a.list.params (codes "alg")) a.alg,
       ) refl
 
-      judged_found : judged m base ring now (a.list, bytes) ≡ Ok id
-      unfolding judged
+      abbrev one : Signature
+      one = record { label = a.label; list = a.list; bytes = bytes }
+
+      judged_found : judged m base ring now one ≡ Ok id
+      unfolding judged judged_over admitted made_under
       judged_found =
           rw (
             a.text_is,
@@ -153,10 +156,9 @@ module _ (m : Message) (tag : List ℕ) where
       found : verified m base ring now tag ≡ Ok id
       unfolding verified
       found =
-          let t = tagged_found a.list bytes (record {
+          let t = tagged_found one (record {
             inputs = a.inputs;
             inputs_are = a.inputs_are;
-            label = a.label;
             is = a.tagged;
             formed = formed;
             signatures = a.signatures;
@@ -173,3 +175,29 @@ verified_accepted m base ring now tag id e =
 
 pub accepted_verified : AcceptedIsVerified
 accepted_verified m base ring now tag id a = found m tag base ring now id a
+
+-- ---- the mark
+
+pub accepted_is_marked : AcceptedIsMarked
+unfolding mark_of
+accepted_is_marked m base ring now tag id a = rw (a.inputs_are.value, a.inputs_are.reads, tagged_made tag a.inputs a.label a.list a.tagged) refl
+
+-- the mark of the list that is found, whatever it covers
+pub tagged_mark : (m : Message) (tag : List ℕ) (one : Signature) → tagged m tag ≡ Ok one → mark_of m tag ≡ mark_in one.list
+unfolding mark_of
+tagged_mark m tag one e =
+    let t = tagged_is m tag one e in
+    rw (t.inputs_are.value, t.inputs_are.reads, tagged_made tag t.inputs one.label one.list t.is) refl
+
+pub id_and_mark_is : (m : Message) (base : List ℕ) (ring : List (List ℕ × List ℕ)) (now : ℕ) (tag : List ℕ)
+    → id_and_mark m base ring now tag ≡ verified_marked m base ring now tag
+unfolding id_and_mark verified
+id_and_mark_is m base ring now tag = by (tagged m tag) refl
+  where
+    with_id : (list : InnerList) (id : Result (List ℕ) SigFault) → (id >>= λ i. Ok (i, mark_in list)) ≡ with_mark (mark_in list) id
+    with_id list (Ok i) = refl
+    with_id list (Err fault) = refl
+
+    by : (r : Result Signature SigFault) → tagged m tag ≡ r → id_and_mark m base ring now tag ≡ verified_marked m base ring now tag
+    by (Ok one) e = rw (e, tagged_mark m tag one e) (with_id one.list (judged m base ring now one))
+    by (Err fault) e = rw e refl

@@ -7,7 +7,7 @@ use Rattle.structured_fields.specs.declared.bare.Bare.TheVariants.{Integer, Str}
 use Rattle.structured_fields.specs.declared.item.InnerList.{InnerList}
 use Rattle.message_signature.specs.Components.{component, field_value}
 use Rattle.message_signature.specs.Base.{base_lines, signature_base}
-use Rattle.message_signature.specs.Signed.{component_item, signature_input}
+use Rattle.message_signature.specs.Signed.{component_item, params_of, signature_input}
 
 abbrev field : List ℕ → List ℕ → Field
 field name value = record { name = name; value = value }
@@ -23,7 +23,7 @@ grant_request = record {
   last = false;
 }
 
-pub grant_request_base : signature_base grant_request (codes "https://as.example") (signature_input grant_request (codes "c1") 1000 (codes "gnap")) ≡ Some (
+pub grant_request_base : signature_base grant_request (codes "https://as.example") (signature_input grant_request (params_of (codes "c1") 1000 None (codes "gnap"))) ≡ Some (
     codes "\"@method\": POST\n\"@target-uri\": https://as.example/gnap\n\"content-digest\": sha-256=:X48E9qOokqqrvdts8nOJRJN3OWDUoyWxBf7kbu9DBPE=:\n\"@signature-params\": (\"@method\" \"@target-uri\" \"content-digest\");created=1000;keyid=\"c1\";tag=\"gnap\"")
 unfolding signature_base base_lines component field_value digits
 grant_request_base = refl

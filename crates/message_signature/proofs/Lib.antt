@@ -1,7 +1,7 @@
 pub mod Examples
 pub mod Fields
 pub mod Lines
-pub mod Tags
+pub mod WithTag
 pub mod Appended
 pub mod SignedFields
 pub mod SignedBase

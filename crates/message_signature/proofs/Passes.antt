@@ -1,26 +1,29 @@
 -- A message that was signed passes.
 use Rattle.std.proofs.Common.{◌≡◌, ℕ, ◌+◌, ◌≤◌, Bool, true, false, not, ◌&&◌, ◌||◌, List, [], ◌∷◌, map, Option, Some, None, Ok, refl, sym, ap, ◌∙◌, subst, arith, true≢false}
-use Rattle.std.specs.Prelude.{codes, pos, is_some, option_map}
+use Rattle.std.specs.Prelude.{nat_le, ◌<◌, ◌^◌, codes, pos, is_some}
 use Rattle.std.specs.List.{list_all}
 use Rattle.std.specs.Str.{bytes_eq}
 use Rattle.std.proofs.lemmas.Slice.Eq.{bytes_eq-Decides}
-use Rattle.std.proofs.lemmas.Bool.{or_parts}
+use Rattle.std.proofs.lemmas.Bool.{and_parts, or_parts}
 use Rattle.std.proofs.lemmas.Bool.Decides.{nat_tests}
 use Rattle.bytes_and_lists.specs.declared.message.Message.{Message}
-use Rattle.structured_fields.specs.declared.bare.Bare.TheVariants.{Integer}
+use Rattle.structured_fields.specs.declared.bare.Bare.{Bare}
+use Rattle.structured_fields.specs.declared.bare.Bare.TheVariants.{Integer, Str}
 use Rattle.structured_fields.specs.declared.item.InnerList.{InnerList}
+use Rattle.structured_fields.specs.Letters.{is_string_byte}
+use Rattle.structured_fields.specs.Named.{value_at}
 use Rattle.structured_fields.specs.Canonical.{dictionary_text}
-use Rattle.structured_fields.proofs.Fronts.{some_is}
 use Rattle.content_digest.proofs.Judging.{fits_checked}
 use Rattle.hmac_key.specs.Hmac.{hmac_sha256}
 use Rattle.message_signature.specs.Components.{values_of, field_value}
 use Rattle.message_signature.specs.Base.{is_named, signature_base}
-use Rattle.message_signature.specs.Verified.{is_any_string, is_well_formed, has_body, has_field, covers_enough, is_in_window, has_right_digest, tagged, judged, verified}
-use Rattle.message_signature.specs.Signed.{component_item, with_fields, with_digest, signature_input, signature_lines}
-use Rattle.message_signature.specs.Laws.{CanPass, SignedPasses}
+use Rattle.message_signature.specs.Verified.{is_any_string, is_well_formed, has_body, has_field, covers_enough, is_in_window, has_right_digest, Signature, tagged, admitted, made_under, judged_over, judged, lone_list, verified}
+use Rattle.message_signature.specs.Marks.{latest_created, mark_in, mark_in_found, mark_of, has_nonce_length, is_nonce_byte, is_nonce}
+use Rattle.message_signature.specs.Signed.{component_item, with_fields, with_digest, params_of, signature_input, label, signature_lines}
+use Rattle.message_signature.specs.Laws.{CanPass, SignedPasses, SignedIsMarked}
 use Rattle.message_signature.proofs.Appended.{value_beside, value_added}
 use Rattle.message_signature.proofs.SignedFields.{input, input_trimmed, input_again, signature, signature_trimmed, signature_again, names}
-use Rattle.message_signature.proofs.SignedBase.{IsDigested, HasFitting, digested, base_same, there_is, none_is, always_based, signed_with}
+use Rattle.message_signature.proofs.SignedBase.{IsDigested, HasFitting, digested, base_same, there_is, none_is, always_based, signed_is}
 
 same : (s : List ℕ) → bytes_eq s s ≡ true
 same s = (bytes_eq-Decides s s).1 refl
@@ -31,8 +34,20 @@ strings : (items : List (List ℕ)) → list_all (λ i. is_any_string i.bare) (m
 strings [] = refl
 strings (name ∷ items) = strings items
 
-well_formed : (w : Message) (id : List ℕ) (created : ℕ) (tag : List ℕ) → is_well_formed (signature_input w id created tag) ≡ true
-well_formed w id created tag = rw (strings (names (has_body w) (has_field (codes "authorization") w))) refl
+-- what the parameters have, with or without a nonce
+record HasParams (params : List (List ℕ × Bare)) (tag : List ℕ) : Type 0 where
+  tag_is : value_at params (codes "tag") ≡ Some (Str tag)
+  no_expires : value_at params (codes "expires") ≡ None
+  no_alg : value_at params (codes "alg") ≡ None
+
+params_have : (id : List ℕ) (created : ℕ) (nonce : Option (List ℕ)) (tag : List ℕ) → HasParams (params_of id created nonce tag) tag
+params_have id created None tag = record { tag_is = refl; no_expires = refl; no_alg = refl }
+params_have id created (Some nonce) tag = record { tag_is = refl; no_expires = refl; no_alg = refl }
+
+well_formed : (w : Message) (id : List ℕ) (created : ℕ) (nonce : Option (List ℕ)) (tag : List ℕ) → is_well_formed (signature_input w (params_of id created nonce tag)) ≡ true
+well_formed w id created nonce tag =
+    let has = params_have id created nonce tag in
+    rw (strings (names (has_body w) (has_field (codes "authorization") w)), has.no_expires, has.no_alg) refl
 
 in_window : (created now : ℕ) → created ≤ now + 300 → now ≤ created + 300 → is_in_window now (Some (Integer (pos created))) ≡ true
 in_window created now a b = grind (arith, nat_tests)
@@ -48,9 +63,9 @@ right_digest w fits there = by (field_value (codes "content-digest") w.fields) r
         body false h = refl
         body true h = absurd (true≢false (sym (there h) ∙ ap is_some e))
 
-module _ (w : Message) (id : List ℕ) (created : ℕ) (tag : List ℕ) (bytes : List ℕ) where
+module _ (w : Message) (id : List ℕ) (created : ℕ) (nonce : Option (List ℕ)) (tag : List ℕ) (bytes : List ℕ) where
   abbrev list : InnerList
-  list = signature_input w id created tag
+  list = signature_input w (params_of id created nonce tag)
 
   abbrev after : Message
   after = with_fields (signature_lines list bytes) w
@@ -60,8 +75,8 @@ module _ (w : Message) (id : List ℕ) (created : ℕ) (tag : List ℕ) (bytes :
   value_kept : (name : List ℕ) → values_of name (signature_lines list bytes) ≡ [] → field_value name after.fields ≡ field_value name w.fields
   value_kept name none = value_beside name w.fields (signature_lines list bytes) none
 
-  input_value : has_field (codes "signature-input") w ≡ false → field_value (codes "signature-input") after.fields ≡ Some (dictionary_text (input w id created tag))
-  input_value none = value_added (codes "signature-input") w.fields (signature_lines list bytes) _ (ap (λ (t : List ℕ). t ∷ []) (input_trimmed w id created tag)) (none_is _ none)
+  input_value : has_field (codes "signature-input") w ≡ false → field_value (codes "signature-input") after.fields ≡ Some (dictionary_text (input w id created nonce tag))
+  input_value none = value_added (codes "signature-input") w.fields (signature_lines list bytes) _ (ap (λ (t : List ℕ). t ∷ []) (input_trimmed w id created nonce tag)) (none_is _ none)
 
   signature_value : has_field (codes "signature") w ≡ false → field_value (codes "signature") after.fields ≡ Some (dictionary_text (signature bytes))
   signature_value none = value_added (codes "signature") w.fields (signature_lines list bytes) _ (ap (λ (t : List ℕ). t ∷ []) (signature_trimmed bytes)) (none_is _ none)
@@ -82,38 +97,93 @@ module _ (w : Message) (id : List ℕ) (created : ℕ) (tag : List ℕ) (bytes :
 
 -- ---- the checks
 
-module _ (m w : Message) (base : List ℕ) (ring : List (List ℕ × List ℕ)) (id secret : List ℕ) (created : ℕ) (tag : List ℕ) (now : ℕ) (text : List ℕ)
-    (can : CanPass m ring id secret created tag now) (is : IsDigested m w) (base_is : signature_base w base (signature_input w id created tag) ≡ Some text) where
+-- a field other than the digest is as it was
+no_field : (m w : Message) (name : List ℕ) → IsDigested m w → bytes_eq (codes "content-digest") name ≡ false → has_field name m ≡ false → has_field name w ≡ false
+no_field m w name is other none = ap is_some (is.beside name other) ∙ none
+
+module _ (m w : Message) (base : List ℕ) (ring : List (List ℕ × List ℕ)) (id secret : List ℕ) (created : ℕ) (nonce : Option (List ℕ)) (tag : List ℕ) (now : ℕ) (text : List ℕ)
+    (can : CanPass m ring id secret created nonce tag now) (is : IsDigested m w) (base_is : signature_base w base (signature_input w (params_of id created nonce tag)) ≡ Some text) where
   abbrev bytes : List ℕ
   bytes = hmac_sha256 secret text
 
-  abbrev signed_one : Message
-  signed_one = with_fields (signature_lines (signature_input w id created tag) bytes) w
+  abbrev signed_list : InnerList
+  signed_list = signature_input w (params_of id created nonce tag)
 
-  tagged_is : tagged signed_one tag ≡ Ok (signature_input w id created tag, bytes)
+  abbrev signed_one : Message
+  signed_one = with_fields (signature_lines signed_list bytes) w
+
+  abbrev one : Signature
+  one = record { label = label; list = signed_list; bytes = bytes }
+
+  tagged_is : tagged signed_one tag ≡ Ok one
   unfolding tagged
   tagged_is =
       let none = or_parts _ _ can.unsigned in
-      let no_input : has_field (codes "signature-input") w ≡ false = ap is_some (is.beside (codes "signature-input") refl) ∙ none.0 in
-      let no_signature : has_field (codes "signature") w ≡ false = ap is_some (is.beside (codes "signature") refl) ∙ none.1 in
-      rw (input_value w id created tag bytes no_input, signature_value w id created tag bytes no_signature, input_again w id created tag can.created_size can.id_text can.tag_text, signature_again secret text, same tag, well_formed w id created tag) refl
+      let no_input = no_field m w (codes "signature-input") is refl none.0 in
+      let no_signature = no_field m w (codes "signature") is refl none.1 in
+      rw (
+        input_value w id created nonce tag bytes no_input,
+        signature_value w id created nonce tag bytes no_signature,
+        input_again w id created nonce tag can.created_size can.id_text can.nonce_text can.tag_text,
+        signature_again secret text,
+        (params_have id created nonce tag).tag_is,
+        same tag,
+        well_formed w id created nonce tag,
+      ) refl
 
-  judged_is : judged signed_one base ring now (signature_input w id created tag, bytes) ≡ Ok id
-  unfolding judged
+  judged_is : judged signed_one base ring now one ≡ Ok id
+  unfolding judged judged_over admitted made_under
   judged_is =
-      let based : signature_base signed_one base (signature_input w id created tag) ≡ Some text =
+      let has = params_have id created nonce tag in
+      let based : signature_base signed_one base signed_list ≡ Some text =
       base_same w signed_one.fields base _ (has_body w) (has_field (codes "authorization") w)
-      (value_kept w id created tag bytes (codes "content-digest") refl) (value_kept w id created tag bytes (codes "authorization") refl) ∙ base_is in
-      rw (based, covers w id created tag bytes, in_window created now can.not_early can.not_late, can.key, same bytes, digest_passes w id created tag bytes (is.fits can.digest) is.there) refl
+      (value_kept w id created nonce tag bytes (codes "content-digest") refl) (value_kept w id created nonce tag bytes (codes "authorization") refl) ∙ base_is in
+      rw (based, covers w id created nonce tag bytes, in_window created now can.not_early can.not_late, has.no_expires, has.no_alg, can.key, same bytes, digest_passes w id created nonce tag bytes (is.fits can.digest) is.there) refl
 
   verified_is : verified signed_one base ring now tag ≡ Ok id
   unfolding verified
   verified_is = rw tagged_is judged_is
 
 pub signed_passes : SignedPasses
-signed_passes m n base ring id secret created tag now is can =
+signed_passes m n base ring id secret created nonce tag now is can =
     let w = with_digest m in
-    let text = there_is _ (always_based m base id created tag) in
-    let one : with_fields (signature_lines (signature_input w id created tag) (hmac_sha256 secret text.value)) w ≡ n =
-    some_is _ _ (sym (signed_with m w base id secret created tag (hmac_sha256 secret text.value) (signature_input w id created tag) _ _ refl refl (ap (option_map (hmac_sha256 secret)) text.is) refl refl) ∙ is) in
-    subst (λ (k : Message). verified k base ring now tag ≡ Ok id) one (verified_is m w base ring id secret created tag now text.value can (digested m) text.is)
+    let params = params_of id created nonce tag in
+    let text = there_is _ (always_based m base params) in
+    subst (λ (k : Message). verified k base ring now tag ≡ Ok id) (signed_is m n base params secret text.value text.is is)
+    (verified_is m w base ring id secret created nonce tag now text.value can (digested m) text.is)
+
+-- ---- the mark
+
+nonce_letter : (c : ℕ) → is_nonce_byte c ≡ true → is_string_byte c ≡ true
+nonce_letter c h = grind (arith, nat_tests)
+
+pub nonce_letters : (nonce : List ℕ) → list_all is_nonce_byte nonce ≡ true → list_all is_string_byte nonce ≡ true
+nonce_letters [] h = refl
+nonce_letters (c ∷ nonce) h = let both = and_parts _ _ h in rw (nonce_letter c both.0, nonce_letters nonce both.1) refl
+
+pub is_nonce_parts : (nonce : List ℕ) → is_nonce nonce ≡ true → (has_nonce_length nonce ≡ true) × (list_all is_nonce_byte nonce ≡ true)
+is_nonce_parts nonce fits = and_parts (has_nonce_length nonce) (list_all is_nonce_byte nonce) fits
+
+at_most : (a b : ℕ) → a ≤ b → nat_le a b ≡ true
+at_most a b h = grind (arith, nat_tests)
+
+written : (created : ℕ) → created ≤ latest_created → created < 10 ^ 15
+written created h = omega arith
+
+module _ (w : Message) (id : List ℕ) (created : ℕ) (nonce tag bytes : List ℕ) (fits : is_nonce nonce ≡ true) (size : created ≤ latest_created) where
+  abbrev marked_list : InnerList
+  marked_list = signature_input w (params_of id created (Some nonce) tag)
+
+  mark_of_list : mark_in marked_list ≡ Some (record { nonce = nonce; created = created })
+  mark_of_list = rw ((is_nonce_parts nonce fits).0, at_most created latest_created size) refl
+
+pub signed_is_marked : SignedIsMarked
+unfolding mark_of
+signed_is_marked m n base id secret created nonce tag is none i fits t size =
+    let w = with_digest m in
+    let params = params_of id created (Some nonce) tag in
+    let text = there_is _ (always_based m base params) in
+    let bytes = hmac_sha256 secret text.value in
+    let no_input = no_field m w (codes "signature-input") (digested m) refl none in
+    subst (λ (k : Message). mark_in_found (lone_list k tag) ≡ Some (record { nonce = nonce; created = created })) (signed_is m n base params secret text.value text.is is)
+    (rw (input_value w id created (Some nonce) tag bytes no_input, input_again w id created (Some nonce) tag (written created size) i (nonce_letters nonce (is_nonce_parts nonce fits).1) t, same tag) (mark_of_list w id created nonce tag bytes fits size))

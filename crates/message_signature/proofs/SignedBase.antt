@@ -15,7 +15,7 @@ use Rattle.hmac_key.specs.Hmac.{hmac_sha256}
 use Rattle.message_signature.specs.Components.{component, field_value}
 use Rattle.message_signature.specs.Base.{base_lines, signature_base}
 use Rattle.message_signature.specs.Verified.{has_body, has_field}
-use Rattle.message_signature.specs.Signed.{field, with_fields, with_digest, component_item, signature_input, signature_lines, signed}
+use Rattle.message_signature.specs.Signed.{field, with_fields, with_digest, component_item, signature_input, signature_lines, signed_under}
 use Rattle.message_signature.specs.Laws.{IsAlwaysSigned}
 use Rattle.message_signature.proofs.Appended.{value_beside, value_added}
 use Rattle.message_signature.proofs.SignedFields.{digest_trimmed, names}
@@ -91,28 +91,35 @@ base_same m fields base params true false d t = rw d refl
 base_same m fields base params false true d t = rw t refl
 base_same m fields base params true true d t = rw (d, t) refl
 
-pub always_based : (m : Message) (base id : List ℕ) (created : ℕ) (tag : List ℕ) → IsSome (signature_base (with_digest m) base (signature_input (with_digest m) id created tag))
-always_based m base id created tag =
+pub always_based : (m : Message) (base : List ℕ) (params : List (List ℕ × Bare)) → IsSome (signature_base (with_digest m) base (signature_input (with_digest m) params))
+always_based m base params =
     let w = with_digest m in
-    base_there w base _ (has_body w) (has_field (codes "authorization") w) (digested m).there (λ h. h)
+    base_there w base params (has_body w) (has_field (codes "authorization") w) (digested m).there (λ h. h)
 
 -- the signed message, from the steps of signing
-pub signed_with : (m w : Message) (base id secret : List ℕ) (created : ℕ) (tag bytes : List ℕ) (list : InnerList) (fields more : List Field) → w ≡ with_digest m → list ≡ signature_input w id created tag
-    → option_map (hmac_sha256 secret) (signature_base w base list) ≡ Some bytes → more ≡ signature_lines list bytes → fields ≡ w.fields ++ more → signed m base id secret created tag ≡ Some (record w { fields = fields })
-unfolding signed
-signed_with m w base id secret created tag bytes list fields more a b c d e =
-    rw (sym a) (by (signature_base w base (signature_input w id created tag)) (subst (λ (l : InnerList). option_map (hmac_sha256 secret) (signature_base w base l) ≡ Some bytes) b c))
+pub signed_with : (m w : Message) (base : List ℕ) (params : List (List ℕ × Bare)) (secret bytes : List ℕ) (list : InnerList) (fields more : List Field) → w ≡ with_digest m → list ≡ signature_input w params
+    → option_map (hmac_sha256 secret) (signature_base w base list) ≡ Some bytes → more ≡ signature_lines list bytes → fields ≡ w.fields ++ more → signed_under m base params secret ≡ Some (record w { fields = fields })
+unfolding signed_under
+signed_with m w base params secret bytes list fields more a b c d e =
+    rw (sym a) (by (signature_base w base (signature_input w params)) (subst (λ (l : InnerList). option_map (hmac_sha256 secret) (signature_base w base l) ≡ Some bytes) b c))
   where
     by : (text : Option (List ℕ)) → option_map (hmac_sha256 secret) text ≡ Some bytes
-        → (text >>= λ t. Some (with_fields (signature_lines (signature_input w id created tag) (hmac_sha256 secret t)) w)) ≡ Some (record w { fields = fields })
+        → (text >>= λ t. Some (with_fields (signature_lines (signature_input w params) (hmac_sha256 secret t)) w)) ≡ Some (record w { fields = fields })
     by (Some text) h =
-        let same : signature_lines (signature_input w id created tag) (hmac_sha256 secret text) ≡ more =
-        ap (signature_lines (signature_input w id created tag)) (some_is _ _ h) ∙ ap (λ (l : InnerList). signature_lines l bytes) (sym b) ∙ sym d in
+        let same : signature_lines (signature_input w params) (hmac_sha256 secret text) ≡ more =
+        ap (signature_lines (signature_input w params)) (some_is _ _ h) ∙ ap (λ (l : InnerList). signature_lines l bytes) (sym b) ∙ sym d in
         ap (λ (fs : List Field). Some (record w { fields = fs })) (ap (λ (fs : List Field). w.fields ++ fs) same ∙ sym e)
     by None h = absurd cc
 
 pub always_signed : IsAlwaysSigned
-always_signed m base id secret created tag =
+always_signed m base params secret =
     let w = with_digest m in
-    let text = there_is _ (always_based m base id created tag) in
-    ap is_some (signed_with m w base id secret created tag (hmac_sha256 secret text.value) (signature_input w id created tag) _ _ refl refl (ap (option_map (hmac_sha256 secret)) text.is) refl refl)
+    let text = there_is _ (always_based m base params) in
+    ap is_some (signed_with m w base params secret (hmac_sha256 secret text.value) (signature_input w params) _ _ refl refl (ap (option_map (hmac_sha256 secret)) text.is) refl refl)
+
+-- which fields a signed message has
+pub signed_is : (m n : Message) (base : List ℕ) (params : List (List ℕ × Bare)) (secret : List ℕ) (text : List ℕ) → signature_base (with_digest m) base (signature_input (with_digest m) params) ≡ Some text
+    → signed_under m base params secret ≡ Some n → with_fields (signature_lines (signature_input (with_digest m) params) (hmac_sha256 secret text)) (with_digest m) ≡ n
+signed_is m n base params secret text base_is is =
+    let w = with_digest m in
+    some_is _ _ (sym (signed_with m w base params secret (hmac_sha256 secret text) (signature_input w params) _ _ refl refl (ap (option_map (hmac_sha256 secret)) base_is) refl refl) ∙ is)

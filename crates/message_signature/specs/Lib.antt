@@ -2,6 +2,9 @@ pub mod Faults
 pub mod Components
 pub mod Base
 pub mod Verified
+pub mod Seen
+pub mod Marks
+pub mod Marked
 pub mod Accepted
 pub mod Signed
 pub mod Laws

@@ -1,5 +1,5 @@
 -- A message with the signature that is made for it (RFC 9421, section 3.1; what it covers is RFC 9635, section 7.3.1).
-use Rattle.std.specs.Prelude.{ℕ, Bool, not, ◌&&◌, ◌||◌, if◌then◌else◌, List, [], ◌∷◌, ◌++◌, map, take, Option, Some, pos, codes}
+use Rattle.std.specs.Prelude.{ℕ, Bool, not, ◌&&◌, ◌||◌, if◌then◌else◌, List, [], ◌∷◌, ◌++◌, map, take, Option, Some, None, pos, codes}
 use Rattle.bytes_and_lists.specs.declared.message.Field.{Field}
 use Rattle.bytes_and_lists.specs.declared.message.Message.{Message}
 use Rattle.structured_fields.specs.declared.bare.Bare.{Bare}
@@ -42,29 +42,45 @@ covered m =
 abbrev pub component_item : List ℕ → Item
 component_item name = record { bare = Str name; params = [] }
 
--- when it was made, under which key, and for what
-abbrev pub params_of : List ℕ → ℕ → List ℕ → List (List ℕ × Bare)
-params_of id created tag = (codes "created", Integer (pos created)) ∷ (codes "keyid", Str id) ∷ (codes "tag", Str tag) ∷ []
+-- when it was made, under which key, with which nonce, and for what (section 2.3)
+abbrev pub params_of : List ℕ → ℕ → Option (List ℕ) → List ℕ → List (List ℕ × Bare)
+params_of id created nonce tag = (codes "created", Integer (pos created)) ∷ (codes "keyid", Str id) ∷ nonce_before ((codes "tag", Str tag) ∷ []) nonce
+  where
+    nonce_before : List (List ℕ × Bare) → Option (List ℕ) → List (List ℕ × Bare)
+    nonce_before params None = params
+    nonce_before params (Some nonce) = (codes "nonce", Str nonce) ∷ params
 
 -- the covered components, with the parameters
-abbrev pub signature_input : Message → List ℕ → ℕ → List ℕ → InnerList
-signature_input m id created tag = record { items = map component_item (covered m); params = params_of id created tag }
+abbrev pub signature_input : Message → List (List ℕ × Bare) → InnerList
+signature_input m params = record { items = map component_item (covered m); params = params }
 
--- one member, under the label of the one signature
-abbrev pub under_label : Member → List (List ℕ × Member)
-under_label member = (codes "sig1", member) ∷ []
+-- one member, under its label
+abbrev pub under_label : List ℕ → Member → List (List ℕ × Member)
+under_label label member = (label, member) ∷ []
+
+-- the label of the one signature
+abbrev pub label : List ℕ
+label = codes "sig1"
 
 -- the two field lines of a signature
 abbrev pub signature_lines : InnerList → List ℕ → List Field
 signature_lines list bytes =
-    field (codes "signature-input") (dictionary_text (under_label (Inner list)))
-    ∷ field (codes "signature") (dictionary_text (under_label (Single (record { bare = Binary bytes; params = [] })))) ∷ []
+    field (codes "signature-input") (dictionary_text (under_label label (Inner list)))
+    ∷ field (codes "signature") (dictionary_text (under_label label (Single (record { bare = Binary bytes; params = [] })))) ∷ []
 
--- The signed message. Its base is always there (`laws`).
-unfoldable pub signed : Message → List ℕ → List ℕ → List ℕ → ℕ → List ℕ → Option Message
-signed m base id secret created tag = do
-  text ← signature_base (with_digest m) base (signature_input (with_digest m) id created tag)
-  Some (with_fields (signature_lines (signature_input (with_digest m) id created tag) (hmac_sha256 secret text)) (with_digest m))
+-- The message with the signature that has these parameters. Its base is always there (`laws`).
+unfoldable pub signed_under : Message → List ℕ → List (List ℕ × Bare) → List ℕ → Option Message
+signed_under m base params secret = do
+  text ← signature_base (with_digest m) base (signature_input (with_digest m) params)
+  Some (with_fields (signature_lines (signature_input (with_digest m) params) (hmac_sha256 secret text)) (with_digest m))
+
+-- The signed message.
+abbrev pub signed : Message → List ℕ → List ℕ → List ℕ → ℕ → List ℕ → Option Message
+signed m base id secret created tag = signed_under m base (params_of id created None tag) secret
+
+-- The signed message whose signature has a nonce.
+abbrev pub signed_marked : Message → List ℕ → List ℕ → List ℕ → ℕ → List ℕ → List ℕ → Option Message
+signed_marked m base id secret created nonce tag = signed_under m base (params_of id created (Some nonce) tag) secret
 
 -- ---- on the way to it
 

@@ -1,5 +1,5 @@
 -- What the verifying of a message's signature answers (RFC 9421, section 3.2, with this project's limits): the id of the key, or the first fault.
-use Rattle.std.specs.Prelude.{ℕ, ◌+◌, nat_le, Bool, true, false, not, ◌&&◌, ◌||◌, if◌then◌else◌, List, [], ◌∷◌, Option, Some, None, is_some, Result, Ok, Err, pos, negsuc, codes}
+use Rattle.std.specs.Prelude.{ℕ, ◌+◌, nat_le, Bool, true, false, not, ◌&&◌, ◌||◌, if◌then◌else◌, List, [], ◌∷◌, Option, Some, None, is_some, Result, Ok, Err, ℤ, pos, negsuc, codes}
 use Rattle.std.specs.List.{list_all}
 use Rattle.std.specs.Str.{bytes_eq}
 use Rattle.bytes_and_lists.specs.declared.message.Message.{Message}
@@ -16,6 +16,7 @@ use Rattle.content_digest.specs.Judged.{checked}
 use Rattle.hmac_key.specs.Hmac.{hmac_sha256}
 use Rattle.message_signature.specs.declared.fault.SigFault.{SigFault}
 use Rattle.message_signature.specs.declared.fault.SigFault.TheVariants.{NoField, NotAField, NoTag, SeveralTags, Malformed, Unsupported, Uncovered, Created, Expired, Alg, UnknownKey, Differs, Digest}
+use Rattle.message_signature.specs.declared.tags.SignatureFields.{SignatureFields}
 use Rattle.message_signature.specs.Components.{field_value}
 use Rattle.message_signature.specs.Base.{is_string, is_named, signature_base}
 use Rattle.message_signature.specs.Faults.{◌>>=◌, need, must}
@@ -56,25 +57,33 @@ signature_under label signatures = bytes_of (value_at signatures label)
     bytes_of (Some member) = sequence_of member
     bytes_of None = None
 
+-- the number of an Integer
+abbrev pub integer_in : Bare → Option ℤ
+integer_in (Integer n) = Some n
+integer_in (Decimal n) = None
+integer_in (Str s) = None
+integer_in (Token s) = None
+integer_in (Binary b) = None
+integer_in (Boolean b) = None
+integer_in (Date n) = None
+integer_in (Display s) = None
+
 abbrev pub is_integer : Bare → Bool
-is_integer (Integer n) = true
-is_integer (Decimal n) = false
-is_integer (Str s) = false
-is_integer (Token s) = false
-is_integer (Binary b) = false
-is_integer (Boolean b) = false
-is_integer (Date n) = false
-is_integer (Display s) = false
+is_integer v = is_some (integer_in v)
+
+-- the text of a String
+abbrev pub string_in : Bare → Option (List ℕ)
+string_in (Integer n) = None
+string_in (Decimal n) = None
+string_in (Str s) = Some s
+string_in (Token s) = None
+string_in (Binary b) = None
+string_in (Boolean b) = None
+string_in (Date n) = None
+string_in (Display s) = None
 
 abbrev pub is_any_string : Bare → Bool
-is_any_string (Integer n) = false
-is_any_string (Decimal n) = false
-is_any_string (Str s) = true
-is_any_string (Token s) = false
-is_any_string (Binary b) = false
-is_any_string (Boolean b) = false
-is_any_string (Date n) = false
-is_any_string (Display s) = false
+is_any_string v = is_some (string_in v)
 
 -- the parameter isn't there, or passes
 abbrev pub absent_or : (Bare → Bool) → Option Bare → Bool
@@ -146,44 +155,76 @@ has_right_digest m = passes (field_value (codes "content-digest") m.fields)
 
 -- ---- the checks, in their order
 
+-- a signature of a message: its label, its covered components with its parameters, and its bytes
+pub record Signature : Type 0 where
+  pub label : List ℕ
+  pub list : InnerList
+  pub bytes : List ℕ
+
 -- the fields `Signature-Input` and `Signature` (sections 4.1 and 4.2)
-abbrev pub signature_fields : Message → Result (List (List ℕ × Member) × List (List ℕ × Member)) SigFault
+abbrev pub signature_fields : Message → Result SignatureFields SigFault
 signature_fields m = do
   input ← need NoField (field_value (codes "signature-input") m.fields)
   signature ← need NoField (field_value (codes "signature") m.fields)
   inputs ← need NotAField (dictionary_of input)
   signatures ← need NotAField (dictionary_of signature)
-  Ok (inputs, signatures)
+  Ok (record { inputs = inputs; signatures = signatures })
 
 -- the one inner list with the tag, and the signature under its label
-abbrev pub tagged_in : List ℕ → List (List ℕ × Member) → List (List ℕ × Member) → Result (InnerList × List ℕ) SigFault
-tagged_in tag inputs signatures = do
-  one ← only_one (with_tag tag inputs)
+abbrev pub tagged_in : List ℕ → SignatureFields → Result Signature SigFault
+tagged_in tag fields = do
+  one ← only_one (with_tag tag fields.inputs)
   _ ← must Malformed (is_well_formed one.1)
-  bytes ← need Malformed (signature_under one.0 signatures)
-  Ok (one.1, bytes)
+  bytes ← need Malformed (signature_under one.0 fields.signatures)
+  Ok (record { label = one.0; list = one.1; bytes = bytes })
 
--- the signature with the tag: its inner list, and its bytes
-unfoldable pub tagged : Message → List ℕ → Result (InnerList × List ℕ) SigFault
+-- the signature with the tag
+unfoldable pub tagged : Message → List ℕ → Result Signature SigFault
 tagged m tag = do
-  both ← signature_fields m
-  tagged_in tag both.0 both.1
+  fields ← signature_fields m
+  tagged_in tag fields
 
--- the id of the key that signed the message to the server with this base, under this list and at this time
-unfoldable pub judged : Message → List ℕ → List (List ℕ × List ℕ) → ℕ → InnerList × List ℕ → Result (List ℕ) SigFault
-judged m base ring now one = do
-  text ← need Unsupported (signature_base m base one.0)
-  _ ← must Uncovered (covers_enough m one.0)
-  _ ← must Created (is_in_window now (value_at one.0.params (codes "created")))
-  _ ← must Expired (is_not_expired now (value_at one.0.params (codes "expires")))
-  _ ← must Alg (absent_or (is_string (codes "hmac-sha256")) (value_at one.0.params (codes "alg")))
-  key ← need UnknownKey (key_in ring (value_at one.0.params (codes "keyid")))
-  _ ← must Differs (bytes_eq one.1 (hmac_sha256 key.1 text))
+-- the list covers what it must, is in time, and names no other algorithm
+unfoldable pub admitted : Message → ℕ → InnerList → Result (Unit {0}) SigFault
+admitted m now list = do
+  _ ← must Uncovered (covers_enough m list)
+  _ ← must Created (is_in_window now (value_at list.params (codes "created")))
+  _ ← must Expired (is_not_expired now (value_at list.params (codes "expires")))
+  _ ← must Alg (absent_or (is_string (codes "hmac-sha256")) (value_at list.params (codes "alg")))
+  Ok tt
+
+-- the id of the key that the list names, where the bytes are the HMAC of this text under it and the body has the right digest
+unfoldable pub made_under : Message → List ℕ → List (List ℕ × List ℕ) → InnerList → List ℕ → Result (List ℕ) SigFault
+made_under m text ring list bytes = do
+  key ← need UnknownKey (key_in ring (value_at list.params (codes "keyid")))
+  _ ← must Differs (bytes_eq bytes (hmac_sha256 key.1 text))
   _ ← must Digest (has_right_digest m)
   Ok key.0
+
+-- the id of the key that made these bytes for the message, over this signature base, with these parameters and near this time
+unfoldable pub judged_over : Message → List ℕ → List (List ℕ × List ℕ) → ℕ → InnerList → List ℕ → Result (List ℕ) SigFault
+judged_over m text ring now list bytes = do
+  _ ← admitted m now list
+  made_under m text ring list bytes
+
+-- the same over the signature base of the message to the server with this base
+unfoldable pub judged : Message → List ℕ → List (List ℕ × List ℕ) → ℕ → Signature → Result (List ℕ) SigFault
+judged m base ring now one = do
+  text ← need Unsupported (signature_base m base one.list)
+  judged_over m text ring now one.list one.bytes
 
 -- The id of the key, or the first fault.
 unfoldable pub verified : Message → List ℕ → List (List ℕ × List ℕ) → ℕ → List ℕ → Result (List ℕ) SigFault
 verified m base ring now tag = do
   one ← tagged m tag
   judged m base ring now one
+
+-- ---- the inner list with a tag, whatever field `Signature` has
+
+-- the one inner list of `signature-input` with the tag, or why there isn't exactly one
+abbrev pub lone_list : Message → List ℕ → Result InnerList SigFault
+lone_list m tag = do
+  input ← need NoField (field_value (codes "signature-input") m.fields)
+  inputs ← need NotAField (dictionary_of input)
+  one ← only_one (with_tag tag inputs)
+  Ok one.1

@@ -16,13 +16,13 @@ use structured_fields::trimmed;
 
 /// The value of a field: borrowed where one line has it, joined where several have.
 #[derive(Drop)]
-pub(crate) enum FieldValue<'a> {
+pub enum FieldValue<'a> {
     Line(&'a [u8]),
     Joined(Bytes),
 }
 
 impl FieldValue<'_> {
-    pub(crate) fn as_slice(&self) -> &[u8]
+    pub fn as_slice(&self) -> &[u8]
         ensures { result.now ≡ text_of self.now }
     {
         match self {
@@ -51,7 +51,7 @@ fn with_next<'a>(
 }
 
 /// The value of a field (section 2.1): those of its lines without outer blanks, with `, ` between them. None exactly where no line has the name.
-pub(crate) fn field_value<'a>(
+pub fn field_value<'a>(
     alloc: Global,
     fields: &'a Fields,
     name: &[u8],
@@ -183,7 +183,7 @@ fn append_both(text: Bytes, front: &[u8], back: &[u8]) -> Result<Bytes, BaseFaul
 
 /// The text with the value of a component behind it (sections 2.1 and 2.2). Unsupported exactly where there is no such component.
 #[tactic(auto, unfolding(crate::specs::Components::component))]
-pub(crate) fn append_component(
+pub fn append_component(
     alloc: Global,
     text: Bytes,
     message: &Message,

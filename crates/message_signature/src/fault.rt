@@ -1,6 +1,7 @@
 //! Why a message is not signed, and why its signature doesn't pass.
 ghost use Rattle.std.specs.Prelude.{◌≡◌};
 ghost use Rattle.message_signature.specs.declared.fault.BaseFault.TheVariants.{OutOfMemory as NoBaseMemory};
+ghost use Rattle.message_signature.specs.declared.fault.SignFault.TheVariants.{OutOfMemory as NoSigningMemory};
 ghost use Rattle.message_signature.specs.declared.fault.SigFault.TheVariants.{OutOfMemory};
 
 use bytes_and_lists::memory::Mem;
@@ -59,6 +60,14 @@ impl From<Mem> for BaseFault {
 
     fn from(_e: Mem) -> BaseFault {
         BaseFault::OutOfMemory
+    }
+}
+
+impl From<Mem> for SignFault {
+    ghost from_gives = { λ _ e. e ≡ NoSigningMemory };
+
+    fn from(_e: Mem) -> SignFault {
+        SignFault::OutOfMemory
     }
 }
 

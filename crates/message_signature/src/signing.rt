@@ -1,13 +1,16 @@
 //! Making the signature of a message.
-ghost use Rattle.std.specs.Prelude.{◌≡◌, ◌↔◌, ◌<◌, ◌^◌, true, if◌then◌else◌, [], ◌∷◌, ◌++◌, map, length, Some, option_map, Err, IsSome, IfOk, OnOk, OnErr};
+ghost use Rattle.std.specs.Prelude.{◌≡◌, ◌↔◌, ◌<◌, ◌^◌, true, if◌then◌else◌, [], ◌∷◌, ◌++◌, map, length, Some, option_map, None, Err, IsSome, IfOk, OnOk, OnErr};
 ghost use Rattle.std.specs.List.{list_all};
+ghost use Rattle.std.specs.Option.{option_copied};
 ghost use Rattle.structured_fields.specs.declared.bare.Bare.TheVariants.{Binary};
-ghost use Rattle.structured_fields.specs.Letters.{is_string_byte};
-ghost use Rattle.structured_fields.specs.Canonical.{dictionary_text, IsInRange, IsInnerInRange, IsMemberInRange};
+ghost use Rattle.structured_fields.specs.Letters.{is_key, is_string_byte};
+ghost use Rattle.structured_fields.specs.Named.{IsDistinct};
+ghost use Rattle.structured_fields.specs.Canonical.{dictionary_text, AreInRange, IsInRange, IsInnerInRange, IsMemberInRange};
 ghost use Rattle.hmac_key.specs.Hmac.{hmac_sha256};
 ghost use Rattle.message_signature.specs.declared.fault.SignFault.TheVariants.{HasSignature};
 ghost use Rattle.message_signature.specs.Base.{signature_base};
-ghost use Rattle.message_signature.specs.Signed.{field, has_signature, with_digest, covered, component_item, params_of, signature_input, under_label, signature_lines, signed, cut};
+ghost use Rattle.message_signature.specs.Signed.{field, has_signature, with_digest, covered, component_item, params_of, under_label, signature_lines, signed_under, signed, signed_marked, cut};
+ghost use Rattle.message_signature.specs.Marks.{is_nonce};
 
 use crate::base::base_of;
 use crate::components::{has_body, has_field};
@@ -22,6 +25,9 @@ use std::mem;
 use structured_fields::{
     Bare, Dictionary, InnerList, Item, Items, Member, Params, write_dictionary,
 };
+
+// The label of the one signature.
+const LABEL: &[u8] = b"sig1";
 
 fn has_signature(message: &Message) -> bool
     ensures { result ≡ has_signature message.now }
@@ -68,7 +74,8 @@ fn push_if(alloc: Global, items: &mut Items, is_covered: bool, name: &[u8]) -> R
     Ok(())
 }
 
-fn covered_by(alloc: Global, message: &Message) -> Result<Items, Mem>
+/// What the signature of a message covers: `@method`, `@target-uri`, `content-digest` where there is a body, and `authorization` where that field is there.
+pub fn covered_items(alloc: Global, message: &Message) -> Result<Items, Mem>
     ensures { IfOk result (λ items. items ≡ map component_item (covered message.now)) }
 {
     let mut items = Items::new(alloc);
@@ -84,9 +91,16 @@ fn covered_by(alloc: Global, message: &Message) -> Result<Items, Mem>
     Ok(items)
 }
 
-fn params_of(alloc: Global, id: &Bytes, created: u64, tag: &Bytes) -> Result<Params, Mem>
+/// The parameters of a signature, in their order: `created` (in seconds since 1970), `keyid`, `nonce` where there is one, and `tag`.
+pub fn signature_params(
+    alloc: Global,
+    id: &Bytes,
+    created: u64,
+    nonce: Option<&Bytes>,
+    tag: &Bytes,
+) -> Result<Params, Mem>
     requires { created < 10 ^ 15 }
-    ensures { IfOk result (λ params. params ≡ params_of id.now created tag.now) }
+    ensures { IfOk result (λ params. params ≡ params_of id.now created (option_copied nonce.entry) tag.now) }
 {
     let mut params = Params::new(alloc);
     params.set(
@@ -94,33 +108,24 @@ fn params_of(alloc: Global, id: &Bytes, created: u64, tag: &Bytes) -> Result<Par
         Bare::Integer(created as i64),
     )?;
     params.set(Bytes::from_slice(alloc, b"keyid")?, Bare::Str(id.copy()?))?;
+    if let Some(nonce) = nonce {
+        params.set(
+            Bytes::from_slice(alloc, b"nonce")?,
+            Bare::Str(nonce.copy()?),
+        )?;
+    }
     params.set(Bytes::from_slice(alloc, b"tag")?, Bare::Str(tag.copy()?))?;
     Ok(params)
 }
 
-fn signature_input(
-    alloc: Global,
-    message: &Message,
-    id: &Bytes,
-    created: u64,
-    tag: &Bytes,
-) -> Result<InnerList, Mem>
-    requires { created < 10 ^ 15 }
-    ensures { IfOk result (λ list. list ≡ signature_input message.now id.now created tag.now) }
-{
-    Ok(InnerList {
-        items: covered_by(alloc, message)?,
-        params: params_of(alloc, id, created, tag)?,
-    })
-}
-
-// The dictionary of one member, under the label of the one signature.
-fn labelled(alloc: Global, member: Member) -> Result<Bytes, Mem>
-    requires { IsMemberInRange member }
-    ensures { IfOk result (λ text. text ≡ dictionary_text (under_label member)) }
+/// The text of a dictionary of one member, under this label.
+pub fn labelled(alloc: Global, label: &[u8], member: Member) -> Result<Bytes, Mem>
+    requires label { is_key label.now ≡ true }
+    requires member { IsMemberInRange member }
+    ensures { IfOk result (λ text. text ≡ dictionary_text (under_label label.now member)) }
 {
     let mut entries = Dictionary::new(alloc);
-    entries.set(Bytes::from_slice(alloc, b"sig1")?, member)?;
+    entries.set(Bytes::from_slice(alloc, label)?, member)?;
     write_dictionary(alloc, &entries)
 }
 
@@ -133,8 +138,8 @@ fn signature_lines(alloc: Global, list: InnerList, bytes: Bytes) -> Result<Field
         bare: Bare::Binary(bytes),
         params: Params::new(alloc),
     };
-    let input = labelled(alloc, Member::Inner(list))?;
-    let signature = labelled(alloc, Member::Item(signature))?;
+    let input = labelled(alloc, LABEL, Member::Inner(list))?;
+    let signature = labelled(alloc, LABEL, Member::Item(signature))?;
     let mut lines = Fields::new(alloc);
     lines.push(field(alloc, b"signature-input", input)?)?;
     lines.push(field(alloc, b"signature", signature)?)?;
@@ -165,19 +170,17 @@ fn add_signature(
     alloc: Global,
     message: &mut Message,
     base: &Bytes,
-    id: &Bytes,
+    params: Params,
     secret: &Bytes,
-    created: u64,
-    tag: &Bytes,
 ) -> Result<(), Mem>
-    requires created { created < 10 ^ 15 }
-    requires id { list_all is_string_byte id.now ≡ true }
-    requires tag { list_all is_string_byte tag.now ≡ true }
-    ensures ok { OnOk result (signed message.old base.now id.now secret.now created tag.now ≡ Some message.new) }
+    requires params { AreInRange params }
+    requires distinct { IsDistinct params }
+    ensures ok { OnOk result (signed_under message.old base.now params secret.now ≡ Some message.new) }
     ensures err { OnErr result (cut (length message.old.fields) message.new ≡ message.old) }
 {
     add_digest(alloc, message)?;
-    let list = signature_input(alloc, message, id, created, tag)?;
+    let items = covered_items(alloc, message)?;
+    let list = InnerList { items, params };
     let bytes = signature_of(alloc, message, base, &list, secret)?;
     let lines = signature_lines(alloc, list, bytes)?;
     message.fields.append(lines)
@@ -190,6 +193,28 @@ fn cut(alloc: Global, message: &mut Message, kept: usize)
     let mut fields = mem::replace(&mut message.fields, Fields::new(alloc)).into_vec();
     fields.truncate(kept);
     message.fields = Fields::from_vec(fields);
+}
+
+// Signs under these parameters. An `Err` changes nothing.
+fn sign_under(
+    alloc: Global,
+    message: &mut Message,
+    base: &Bytes,
+    params: Params,
+    secret: &Bytes,
+) -> Result<(), SignFault>
+    requires params { AreInRange params }
+    requires distinct { IsDistinct params }
+    ensures ok { OnOk result (signed_under message.old base.now params secret.now ≡ Some message.new) }
+    ensures memory { result ≡ Err HasSignature → ⊥ }
+    ensures err { OnErr result (message.new ≡ message.old) }
+{
+    let kept = message.fields.len();
+    if add_signature(alloc, message, base, params, secret).is_err() {
+        cut(alloc, message, kept);
+        return Err(SignFault::OutOfMemory);
+    }
+    Ok(())
 }
 
 /// Signs a message to the server with this base by HMAC-SHA-256 under the secret (RFC 9421, section 3.1), and covers what a GNAP request has to cover (RFC 9635, section 7.3.1): `@method`, `@target-uri`, `content-digest` where there is a body, and `authorization` where that field is there.
@@ -216,10 +241,34 @@ pub fn sign(
     if has_signature(message) {
         return Err(SignFault::HasSignature);
     }
-    let kept = message.fields.len();
-    if add_signature(alloc, message, base, id, secret, created, tag).is_err() {
-        cut(alloc, message, kept);
-        return Err(SignFault::OutOfMemory);
+    let params = signature_params(alloc, id, created, None, tag)?;
+    sign_under(alloc, message, base, params, secret)
+}
+
+/// What `sign` does, with a nonce of 1 to 64 letters, digits, `.`, `_` and `-`: the parameters are `created`, `keyid`, `nonce` and `tag`.
+///
+/// HasSignature comes exactly where a `signature-input` or a `signature` field is there already. An `Err` changes nothing.
+pub fn sign_marked(
+    alloc: Global,
+    message: &mut Message,
+    base: &Bytes,
+    id: &Bytes,
+    secret: &Bytes,
+    created: u64,
+    nonce: &Bytes,
+    tag: &Bytes,
+) -> Result<(), SignFault>
+    requires created { created < 10 ^ 15 }
+    requires id { list_all is_string_byte id.now ≡ true }
+    requires nonce { is_nonce nonce.now ≡ true }
+    requires tag { list_all is_string_byte tag.now ≡ true }
+    ensures ok { OnOk result (signed_marked message.old base.now id.now secret.now created nonce.now tag.now ≡ Some message.new) }
+    ensures signed_before { (result ≡ Err HasSignature) ↔ (has_signature message.old ≡ true) }
+    ensures err { OnErr result (message.new ≡ message.old) }
+{
+    if has_signature(message) {
+        return Err(SignFault::HasSignature);
     }
-    Ok(())
+    let params = signature_params(alloc, id, created, Some(nonce), tag)?;
+    sign_under(alloc, message, base, params, secret)
 }

@@ -1,5 +1,6 @@
 use Rattle.std.proofs.Common.{◌≡◌, ◌-◌, ◌+◌, ◌⊎◌, length, true, cond}
 use Rattle.gnap_io.specs.Outside.{IsAtEnd}
+use Rattle.http_edge.specs.Limits.{message_limit}
 use Rattle.http_edge.specs.Streams.{IsOpen}
 use Rattle.http_edge.specs.Steps.{Grows}
 use Rattle.http_edge.proofs.reading.next_message.Given as goal
@@ -13,4 +14,4 @@ invariant-loop-message g l = record {
 }
 
 abbrev pub decreases-loop-message : goal.decreases-loop-message
-decreases-loop-message g l = (81920 - length l.held) + cond l.ended 0 1
+decreases-loop-message g l = (message_limit - length l.held) + cond l.ended 0 1

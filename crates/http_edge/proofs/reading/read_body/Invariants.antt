@@ -1,4 +1,5 @@
 use Rattle.std.proofs.Common.{◌≡◌, ◌-◌, ◌≤◌, length}
+use Rattle.http_edge.specs.Limits.{message_limit}
 use Rattle.http_edge.specs.Steps.{EndsAt, Grows}
 use Rattle.http_edge.proofs.reading.read_body.Given as goal
 
@@ -11,4 +12,4 @@ invariant-loop-held g l = record {
 }
 
 abbrev pub decreases-loop-held : goal.decreases-loop-held
-decreases-loop-held g l = 81920 - length l.held
+decreases-loop-held g l = message_limit - length l.held

@@ -1,8 +1,9 @@
-use Rattle.std.proofs.Common.{◌≡◌, ◌∙◌, refl, ap, arith}
+use Rattle.std.proofs.Common.{◌≡◌, ◌∙◌, refl, sym, ap, arith}
 use Rattle.std.specs.List.{fold}
+use Rattle.http_edge.specs.declared.places.LinePlace.TheVariants.{BlankLines}
 use Rattle.http_edge.specs.Steps.{next_line_place}
 use Rattle.http_edge.proofs.Growing.{grows_none, grows_then, place_more}
-use Rattle.http_edge.proofs.HeadLines.{no_message_yet}
+use Rattle.http_edge.proofs.HeadLines.{no_message_yet, not_behind}
 use Rattle.http_edge.proofs.Outcomes.{open_no_message}
 use Rattle.http_edge.proofs.reading.read_head.Goals as goal
 
@@ -12,7 +13,7 @@ loop-held-init g c = record {
   longer = omega arith;
   kept = refl;
   waiting = open_no_message c.args.held.now c.requires.waiting;
-  place = c.line_place-place.ensures ∙ ap (fold next_line_place 0) c.as_slice.ensures.value;
+  place = c.line_place-place.ensures ∙ ap (fold next_line_place BlankLines) c.as_slice.ensures.value;
   short = c.requires.short;
   enough = omega (arith, c.clamp-enough.ensures);
 }
@@ -23,16 +24,16 @@ loop-held-preserved g c =
     let arrived = c.in-More.ensures.arrived in
     let seen = c.len-seen.ensures.value in
     let all = c.as_slice-in-loop-held.ensures.value in
-    let place : c.line_place-place-in-loop-held.result ≡ fold next_line_place 0 c.fill.new.self =
+    let place : c.line_place-place-in-loop-held.result ≡ fold next_line_place BlankLines c.fill.new.self =
     c.line_place-place-in-loop-held.ensures
     ∙ place_more c.loop-held.held arrived.0.came c.as_slice-in-loop-held.result.now c.len-seen.result c.loop-held.place (all ∙ arrived.0.behind) seen before.place
-    ∙ ap (fold next_line_place 0) all in
+    ∙ ap (fold next_line_place BlankLines) all in
     record {
       grows = grows_then _ _ _ _ _ _ before.grows arrived.0;
       longer = omega (arith, arrived.1, before.longer);
       kept = arrived.2 ∙ before.kept;
-      waiting = no_message_yet c.fill.new.self (λ e. c.if-place-eq-BEHIND_HEAD.false (place ∙ e));
+      waiting = no_message_yet c.fill.new.self (λ e. not_behind _ (sym c.is_behind_head.ensures ∙ c.if-is_behind_head.false) (place ∙ e));
       place = place;
-      short = omega (arith, c.if-len-enough.false, c.len-else-place-eq-BEHIND_HEAD.ensures.value, before.enough);
+      short = omega (arith, c.if-len-enough.false, c.len-else-is_behind_head.ensures.value, before.enough);
       enough = before.enough;
     }

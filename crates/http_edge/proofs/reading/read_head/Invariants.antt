@@ -1,5 +1,7 @@
 use Rattle.std.proofs.Common.{◌≡◌, ◌-◌, ◌<◌, ◌≤◌, length}
 use Rattle.std.specs.List.{fold}
+use Rattle.http_edge.specs.declared.places.LinePlace.TheVariants.{BlankLines}
+use Rattle.http_edge.specs.Limits.{head_limit, message_limit}
 use Rattle.http_edge.specs.Streams.{HasNoMessage}
 use Rattle.http_edge.specs.Steps.{next_line_place, Grows}
 use Rattle.http_edge.proofs.reading.read_head.Given as goal
@@ -10,10 +12,10 @@ invariant-loop-held g l = record {
   longer : length l.fn.held ≤ length l.held;
   kept : g.S.Device.faults l.source ≡ g.S.Device.faults l.fn.source;
   waiting : HasNoMessage l.held;
-  place : l.place ≡ fold next_line_place 0 l.held;
-  short : length l.held < 16384;
-  enough : l.enough ≤ 16384;
+  place : l.place ≡ fold next_line_place BlankLines l.held;
+  short : length l.held < head_limit;
+  enough : l.enough ≤ head_limit;
 }
 
 abbrev pub decreases-loop-held : goal.decreases-loop-held
-decreases-loop-held g l = 81920 - length l.held
+decreases-loop-held g l = message_limit - length l.held

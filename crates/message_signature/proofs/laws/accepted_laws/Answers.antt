@@ -1,4 +1,4 @@
-use Rattle.message_signature.proofs.Accepted.{verified_accepted, accepted_verified}
+use Rattle.message_signature.proofs.Accepted.{verified_accepted, accepted_verified, accepted_is_marked}
 use Rattle.message_signature.proofs.laws.accepted_laws.Goals as goal
 
 pub returns-clause-says : goal.returns-clause-says
@@ -6,3 +6,6 @@ returns-clause-says c = λ m base ring now tag id is. verified_accepted m base r
 
 pub returns-clause-only : goal.returns-clause-only
 returns-clause-only c = λ m base ring now tag id accepted. accepted_verified m base ring now tag id accepted
+
+pub returns-clause-marked : goal.returns-clause-marked
+returns-clause-marked c = λ m base ring now tag id accepted. accepted_is_marked m base ring now tag id accepted

@@ -1,7 +1,7 @@
 use Rattle.std.proofs.Common.{sym, ◌∙◌}
-use Rattle.message_signature.proofs.Tags.{passed, first, second}
-use Rattle.message_signature.proofs.verifying.only_one.Goals.{in-Some+else-is_some, in_default}
-use Rattle.message_signature.proofs.verifying.only_one.Goals as goal
+use Rattle.message_signature.proofs.WithTag.{passed, first, second}
+use Rattle.message_signature.proofs.tags.only_one.Goals.{in-Some+else-is_some, in_default}
+use Rattle.message_signature.proofs.tags.only_one.Goals as goal
 
 pub returns-then-is_some : goal.returns-then-is_some
 returns-then-is_some c = second (λ x. (x.0.now, x.1.now)) c.args.tag.now c.args.inputs.now c.loop-i.i c.at.result.0.now c.at.result.1.now c.at.ensures c.in-Some.list.now (sym c.in-Some.ensures)

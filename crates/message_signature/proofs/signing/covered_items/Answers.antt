@@ -1,5 +1,5 @@
 use Rattle.message_signature.proofs.SigningSteps.{covered_items}
-use Rattle.message_signature.proofs.signing.covered_by.Goals as goal
+use Rattle.message_signature.proofs.signing.covered_items.Goals as goal
 
 pub returns : goal.returns
 returns c =
