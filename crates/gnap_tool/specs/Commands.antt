@@ -7,8 +7,8 @@ use Rattle.gnap_io.specs.declared.world.Opening.{Opening}
 use Rattle.gnap_io.specs.declared.world.Opening.TheVariants.{File, Gears, Link}
 use Rattle.gnap_tool.specs.declared.command.Command.{Command}
 use Rattle.gnap_tool.specs.declared.command.Command.TheVariants.{Replay, Field, Sign, Verify, As, Rs, Client, Hash, Load}
-use Rattle.gnap_tool.specs.declared.fields.Kind.{Kind}
-use Rattle.gnap_tool.specs.declared.fields.Kind.TheVariants.{Item, List as AList, Dictionary}
+use Rattle.printed_answers.specs.declared.fields.Kind.{Kind}
+use Rattle.printed_answers.specs.declared.fields.Kind.TheVariants.{Item, List as AList, Dictionary}
 use Rattle.gnap_tool.specs.Numbers.{number_within}
 
 -- a word that may be an argument: it isn't empty, and doesn't begin with `-`

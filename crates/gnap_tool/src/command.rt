@@ -3,11 +3,10 @@ ghost use Rattle.std.specs.Prelude.{◌≡◌, ◌≤◌, ℕ, List, Option, Non
 ghost use Rattle.bytes_and_lists.specs.Moments.{last_moment};
 ghost use Rattle.gnap_tool.specs.Commands.{IsReadAs, IsWithinRanges, is_argument, kind_of, moment_of, replay_of, field_of, with_three, with_four, sign_words, verify_words, as_words, rs_words, client_words, long_method, hash_of, load_words, command_of};
 
-use crate::fields::Kind;
-use crate::hash_lines::HashedTexts;
 use crate::numbers::number_within;
 use bytes_and_lists::bytes::Bytes;
 use bytes_and_lists::memory::Mem;
+use printed_answers::{HashedTexts, Kind};
 use std::alloc::Global;
 
 /// What is to be done, with the words that say to what.

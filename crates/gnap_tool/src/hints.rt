@@ -1,8 +1,8 @@
 //! What a person is told, on standard error. Whether it is written changes nothing else.
 use crate::command::Command;
-use crate::ended::{Ended, WrongSetup};
 use crate::usage::USAGE;
 use bytes_and_lists::bytes::Bytes;
+use command_inputs::{Ended, WrongSetup};
 use gnap_io::device::{Sink, write_all};
 use gnap_objects::{ObjectFault, SetupFault};
 

@@ -1,7 +1,7 @@
 //! What a file is opened for.
-use crate::fields::Kind;
 use bytes_and_lists::bytes::Bytes;
 use gnap_model::objects::Setup;
+use printed_answers::Kind;
 
 /// What a file is opened for.
 #[derive(Clone, Copy)]

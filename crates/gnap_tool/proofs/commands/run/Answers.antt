@@ -1,11 +1,12 @@
 use Rattle.std.proofs.Common.{◌≡◌, ◌∙◌, ap, sym, subst, refl, inl, inr}
 use Rattle.std.specs.Prelude.{Option, Some, IsSome, IfSome}
 use Rattle.gnap_tool.specs.declared.command.Command.{Command}
-use Rattle.gnap_tool.specs.declared.ended.Ended.TheVariants.{Done, Memory, TooLong}
+use Rattle.command_inputs.specs.declared.ended.Ended.TheVariants.{Done, Memory, TooLong}
 use Rattle.gnap_tool.specs.Commands.{IsWithinRanges, openings_of, input_place}
-use Rattle.gnap_tool.specs.Ends.{status_of}
-use Rattle.gnap_tool.specs.Runs.{InputTook}
-use Rattle.gnap_tool.proofs.Uses.{back-none, unopened_sound, failed_at_4, full_at_8, whole_at_0, to_end_at_0, starved_carries}
+use Rattle.command_inputs.specs.Ends.{status_of}
+use Rattle.world_uses.specs.Uses.{InputTook}
+use Rattle.world_uses.proofs.Uses.{back-none, unopened_sound, failed_at_4, full_at_8, whole_at_0, to_end_at_0}
+use Rattle.gnap_tool.proofs.EachCommand.{starved_carries}
 use Rattle.gnap_tool.proofs.commands.run.Goals as goal
 
 pub returns-in-Ok-Some-clause-reads : goal.returns-in-Ok-Some-clause-reads

@@ -3,10 +3,11 @@ use Rattle.std.specs.Prelude.{Option, Some}
 use Rattle.gnap_io.specs.Worlds.{WorldState}
 use Rattle.gnap_io.specs.declared.world.Opening.TheVariants.{File, Link}
 use Rattle.gnap_client.specs.Configs.{Parts, parts_of}
-use Rattle.gnap_tool.specs.ClientFiles.{client_config_in, IsNewClient, RunsScript, RunsClient}
-use Rattle.gnap_tool.specs.Runs.{Over, Unopened, Linked}
-use Rattle.gnap_tool.proofs.AfterConfig.{stopped, stopped_writes, by_setup_on, by_setup_off, uses_stopped, uses_then}
-use Rattle.gnap_tool.proofs.Linked.{client_carried}
+use Rattle.gnap_tool.specs.Configs.{client_config_in}
+use Rattle.script_runs.specs.Scripts.{IsNewClient, RunsScript, RunsClient}
+use Rattle.world_uses.specs.Uses.{Over, Unopened, Linked}
+use Rattle.world_uses.proofs.AfterConfig.{by_setup_on, by_setup_off, unread_used, unread_writes, uses_then}
+use Rattle.gnap_tool.proofs.ClientRuns.{client_carried}
 use Rattle.gnap_tool.proofs.commands.run_client.Goals as goal
 
 pub returns-in-Ok-clause-world : goal.returns-in-Ok-clause-world
@@ -15,18 +16,19 @@ returns-in-Ok-clause-world g c =
 
 pub returns-in-Err-clause-world : goal.returns-in-Err-clause-world
 returns-in-Err-clause-world g c =
-    uses_stopped (File c.args.config.now ∷ []) (Link c.args.address.now ∷ File c.args.script.now ∷ []) (Some 1) _ _ c.in-Err.ended c.in-Err.ensures.world
-    (stopped parts_of client_config_in (g.W.World.text c.args.world.now c.args.config.now) (g.W.World.state c.args.world.now) (g.W.World.state c.open_client_config.new.world) c.in-Err.ended c.in-Err.ensures.config)
+    unread_used parts_of client_config_in (g.W.World.text c.args.world.now c.args.config.now) (g.W.World.state c.args.world.now) (g.W.World.state c.open_config.new.world) c.in-Err.ended
+    c.in-Err.ensures.config (File c.args.config.now ∷ []) (Link c.args.address.now ∷ File c.args.script.now ∷ []) (Some 1) c.in-Err.ensures.world
 
 pub returns-in-Err-clause-writes : goal.returns-in-Err-clause-writes
-returns-in-Err-clause-writes g c = stopped_writes c.in-Err.ended _
-    (stopped parts_of client_config_in (g.W.World.text c.args.world.now c.args.config.now) (g.W.World.state c.args.world.now) (g.W.World.state c.open_client_config.new.world) c.in-Err.ended c.in-Err.ensures.config)
+returns-in-Err-clause-writes g c =
+    unread_writes parts_of client_config_in (g.W.World.text c.args.world.now c.args.config.now) (g.W.World.state c.args.world.now) (g.W.World.state c.open_config.new.world) c.in-Err.ended
+    c.in-Err.ensures.config _
 
 pub returns-in-Ok-clause-carried : goal.returns-in-Ok-clause-carried
 returns-in-Ok-clause-carried g c =
     let text = g.W.World.text c.args.world.now in
     let before = g.W.World.state c.args.world.now in
-    let between = g.W.World.state c.open_client_config.new.world in
+    let between = g.W.World.state c.open_config.new.world in
     let after = g.W.World.state c.script_linked.new.world in
     let out = g.O.Device.told c.args.out.now in
     let out_now = g.O.Device.told c.script_linked.new.out in
@@ -47,7 +49,7 @@ returns-in-Ok-clause-carried g c =
 pub returns-in-Err-clause-carried : goal.returns-in-Err-clause-carried
 returns-in-Err-clause-carried g c =
     let text = g.W.World.text c.args.world.now in
-    let after = g.W.World.state c.open_client_config.new.world in
+    let after = g.W.World.state c.open_config.new.world in
     let out = g.O.Device.told c.args.out.now in
     let ended = c.in-Err.ended in
     let Then : WorldState → Parts → Type 0 = λ b parts. Linked b after (Unopened out out ended) (λ link opened.

@@ -1,29 +1,17 @@
 use Rattle.std.proofs.Common.{◌≡◌, ℕ, List, ◌∷◌, [], ap, subst, inl, inr, refl}
 use Rattle.std.specs.Prelude.{Option}
-use Rattle.gnap_io.specs.Worlds.{HasWorldCause}
 use Rattle.gnap_io.specs.declared.world.Opening.TheVariants.{File}
-use Rattle.gnap_io.specs.declared.world.WorldFault.{WorldFault}
-use Rattle.gnap_tool.proofs.Uses.{unopened_failed, unopened_starved}
-use Rattle.gnap_tool.specs.ClientFiles.{RunsScript}
-use Rattle.gnap_tool.specs.Runs.{Over, Unopened}
-use Rattle.gnap_tool.proofs.Linked.{uses_around, over_back}
+use Rattle.world_uses.proofs.Uses.{unopened_used, fault_ends}
+use Rattle.script_runs.specs.Scripts.{RunsScript}
+use Rattle.world_uses.specs.Uses.{Over, Unopened}
+use Rattle.world_uses.proofs.Linked.{uses_around, over_back}
 use Rattle.gnap_tool.proofs.commands.script_linked.Goals as goal
 
-pub returns-in-Err-Failed-clause-world : goal.returns-in-Err-Failed-clause-world
-returns-in-Err-Failed-clause-world g c =
-    let C : WorldFault → Type 0 = λ fault. HasWorldCause (g.W.World.state c.args.world.now).faults (g.W.World.state c.open_link.new.self).faults fault in
-    unopened_failed _ _ _ _ c.in-Err-Failed.ensures.state (subst C c.in-Err-Failed.field-0-is c.in-Err-Failed.ensures.link)
+pub returns-in-Err-clause-world : goal.returns-in-Err-clause-world
+returns-in-Err-clause-world g c = unopened_used _ _ _ _ c.in-Err.fault _ c.ended_by_fault.ensures c.in-Err.ensures.state c.in-Err.ensures.link
 
-pub returns-in-Err-OutOfMemory-clause-world : goal.returns-in-Err-OutOfMemory-clause-world
-returns-in-Err-OutOfMemory-clause-world g c =
-    let C : WorldFault → Type 0 = λ fault. HasWorldCause (g.W.World.state c.args.world.now).faults (g.W.World.state c.open_link.new.self).faults fault in
-    unopened_starved _ _ _ _ c.in-Err-OutOfMemory.ensures.state (subst C c.in-Err-OutOfMemory.field-0-is c.in-Err-OutOfMemory.ensures.link)
-
-pub returns-in-Err-Failed-clause-linked : goal.returns-in-Err-Failed-clause-linked
-returns-in-Err-Failed-clause-linked g c = inl (ap (λ s. s.files) c.in-Err-Failed.ensures.state, (refl, inl refl))
-
-pub returns-in-Err-OutOfMemory-clause-linked : goal.returns-in-Err-OutOfMemory-clause-linked
-returns-in-Err-OutOfMemory-clause-linked g c = inl (ap (λ s. s.files) c.in-Err-OutOfMemory.ensures.state, (refl, inr refl))
+pub returns-in-Err-clause-linked : goal.returns-in-Err-clause-linked
+returns-in-Err-clause-linked g c = inl (ap (λ s. s.files) c.in-Err.ensures.state, (refl, fault_ends c.in-Err.fault c.ended_by_fault.result c.ended_by_fault.ensures))
 
 pub returns-in-Ok-clause-world : goal.returns-in-Ok-clause-world
 returns-in-Ok-clause-world g c =

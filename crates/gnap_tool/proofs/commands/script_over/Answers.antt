@@ -1,30 +1,21 @@
-use Rattle.std.proofs.Common.{◌∙◌, ℕ, ◌∷◌, [], ◌++◌, ap, subst, inr, refl}
-use Rattle.gnap_io.specs.Outside.{Told, Leaves, served_of}
-use Rattle.gnap_io.specs.Worlds.{HasWorldCause}
-use Rattle.gnap_io.specs.declared.world.WorldFault.{WorldFault}
-use Rattle.gnap_tool.specs.Ends.{CountsReads}
-use Rattle.gnap_tool.proofs.Uses.{unopened_failed, unopened_starved, opened_used}
-use Rattle.gnap_tool.proofs.Linked.{first_place}
+use Rattle.std.proofs.Common.{ℕ, [], ap, subst, inl, refl}
+use Rattle.gnap_io.specs.Outside.{served_of}
+use Rattle.command_inputs.specs.Ends.{CountsReads}
+use Rattle.world_uses.proofs.Uses.{unopened_used, fault_ends, opened_used, opened_over}
+use Rattle.world_uses.proofs.Linked.{first_place}
 use Rattle.gnap_tool.proofs.commands.script_over.Goals as goal
 
-pub returns-in-Err-Failed-clause-world : goal.returns-in-Err-Failed-clause-world
-returns-in-Err-Failed-clause-world g c =
-    let C : WorldFault → Type 0 = λ fault. HasWorldCause (g.W.World.state c.args.world.now).faults (g.W.World.state c.open_file.new.self).faults fault in
-    unopened_failed _ _ _ _ c.in-Err-Failed.ensures.state (subst C c.in-Err-Failed.field-0-is c.in-Err-Failed.ensures.file)
+pub returns-in-Err-clause-over : goal.returns-in-Err-clause-over
+returns-in-Err-clause-over g c = inl (ap (λ s. s.files) c.in-Err.ensures.state, ((refl, fault_ends c.in-Err.fault c.ended_by_fault.result c.ended_by_fault.ensures), c.requires.unasked))
 
-pub returns-in-Err-OutOfMemory-clause-world : goal.returns-in-Err-OutOfMemory-clause-world
-returns-in-Err-OutOfMemory-clause-world g c =
-    let C : WorldFault → Type 0 = λ fault. HasWorldCause (g.W.World.state c.args.world.now).faults (g.W.World.state c.open_file.new.self).faults fault in
-    unopened_starved _ _ _ _ c.in-Err-OutOfMemory.ensures.state (subst C c.in-Err-OutOfMemory.field-0-is c.in-Err-OutOfMemory.ensures.file)
+pub returns-in-Err-clause-world : goal.returns-in-Err-clause-world
+returns-in-Err-clause-world g c = unopened_used _ _ _ _ c.in-Err.fault _ c.ended_by_fault.ensures c.in-Err.ensures.state c.in-Err.ensures.file
 
 pub returns-in-Ok-clause-over : goal.returns-in-Ok-clause-over
 returns-in-Ok-clause-over g c =
     let source = c.run_script-ended.new.source in
     let file = served_of (g.W.File.Device.told source) (g.W.File.Device.faults source) in
-    let opened = c.in-Ok.ensures.file.1 in
-    let files = ap (λ s. s.files) c.close_file.ensures.state ∙ ap (λ s. s.files ++ file ∷ []) c.in-Ok.ensures.state in
-    let L : Told → Type 0 = λ told. Leaves (g.W.File.Device.told source).taken told.left (g.W.File.Device.told source).left in
-    inr (file, files, subst L opened c.run_script-ended.ensures.leaves, c.run_script-ended.ensures.script)
+    opened_over file _ _ _ _ _ _ _ _ c.in-Ok.ensures.state c.close_file.ensures.state c.in-Ok.ensures.file.1 c.run_script-ended.ensures.leaves c.run_script-ended.ensures.script
 
 pub returns-in-Ok-clause-world : goal.returns-in-Ok-clause-world
 returns-in-Ok-clause-world g c =

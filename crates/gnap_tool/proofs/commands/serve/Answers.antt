@@ -3,10 +3,11 @@ use Rattle.std.specs.Prelude.{None}
 use Rattle.gnap_io.specs.Worlds.{WorldState}
 use Rattle.gnap_io.specs.declared.world.Opening.TheVariants.{File, Gears}
 use Rattle.gnap_model.specs.declared.objects.Setup.{Setup}
-use Rattle.gnap_tool.specs.declared.ended.Ended.{Ended}
-use Rattle.gnap_tool.specs.Replays.{setup_in}
-use Rattle.gnap_tool.specs.Runs.{Serves, UsesWorld}
-use Rattle.gnap_tool.proofs.AfterConfig.{stopped, stopped_writes, by_setup_on, by_setup_off, uses_stopped, uses_then}
+use Rattle.command_inputs.specs.declared.ended.Ended.{Ended}
+use Rattle.command_inputs.specs.Configs.{setup_in}
+use Rattle.gnap_tool.specs.Runs.{Serves}
+use Rattle.world_uses.specs.Uses.{UsesWorld}
+use Rattle.world_uses.proofs.AfterConfig.{by_setup_on, by_setup_off, unread_used, unread_writes, uses_then}
 use Rattle.gnap_tool.proofs.ServedGears.{service_used}
 use Rattle.gnap_tool.proofs.commands.serve.Goals as goal
 
@@ -42,9 +43,10 @@ returns-in-Ok-clause-world g c =
 
 pub returns-in-Err-clause-world : goal.returns-in-Err-clause-world
 returns-in-Err-clause-world g c =
-    uses_stopped (File c.args.config.now ∷ []) (Gears c.args.listen.now c.args.workers c.args.quota ∷ []) None _ _ c.in-Err.ended c.in-Err.ensures.world
-    (stopped (λ (setup : Setup). setup) setup_in (g.W.World.text c.args.world.now c.args.config.now) (g.W.World.state c.args.world.now) (g.W.World.state c.open_config.new.world) c.in-Err.ended c.in-Err.ensures.config)
+    unread_used (λ (setup : Setup). setup) setup_in (g.W.World.text c.args.world.now c.args.config.now) (g.W.World.state c.args.world.now) (g.W.World.state c.open_config.new.world) c.in-Err.ended
+    c.in-Err.ensures.config (File c.args.config.now ∷ []) (Gears c.args.listen.now c.args.workers c.args.quota ∷ []) None c.in-Err.ensures.world
 
 pub returns-in-Err-clause-writes : goal.returns-in-Err-clause-writes
-returns-in-Err-clause-writes g c faults = stopped_writes c.in-Err.ended faults
-    (stopped (λ (setup : Setup). setup) setup_in (g.W.World.text c.args.world.now c.args.config.now) (g.W.World.state c.args.world.now) (g.W.World.state c.open_config.new.world) c.in-Err.ended c.in-Err.ensures.config)
+returns-in-Err-clause-writes g c faults =
+    unread_writes (λ (setup : Setup). setup) setup_in (g.W.World.text c.args.world.now c.args.config.now) (g.W.World.state c.args.world.now) (g.W.World.state c.open_config.new.world) c.in-Err.ended
+    c.in-Err.ensures.config faults

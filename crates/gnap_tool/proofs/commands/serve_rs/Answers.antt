@@ -3,10 +3,11 @@ use Rattle.std.specs.Prelude.{None}
 use Rattle.gnap_io.specs.Worlds.{WorldState}
 use Rattle.gnap_io.specs.declared.world.Opening.TheVariants.{File, Gears, Link}
 use Rattle.resource_server.specs.declared.setup.RsSetup.{RsSetup}
-use Rattle.gnap_tool.specs.declared.ended.Ended.{Ended}
-use Rattle.gnap_tool.specs.ResourceFiles.{rs_setup_in}
-use Rattle.gnap_tool.specs.Runs.{ServesRs, UsesWorld}
-use Rattle.gnap_tool.proofs.AfterConfig.{stopped, stopped_writes, by_setup_on, by_setup_off, uses_stopped, uses_then}
+use Rattle.command_inputs.specs.declared.ended.Ended.{Ended}
+use Rattle.gnap_tool.specs.Configs.{rs_setup_in}
+use Rattle.gnap_tool.specs.Runs.{ServesRs}
+use Rattle.world_uses.specs.Uses.{UsesWorld}
+use Rattle.world_uses.proofs.AfterConfig.{by_setup_on, by_setup_off, unread_used, unread_writes, uses_then}
 use Rattle.gnap_tool.proofs.ServedResources.{resources_used}
 use Rattle.gnap_tool.proofs.commands.serve_rs.Goals as goal
 
@@ -14,7 +15,7 @@ pub returns-in-Ok-clause-carried : goal.returns-in-Ok-clause-carried
 returns-in-Ok-clause-carried g c out =
     let text = g.W.World.text c.args.world.now in
     let before = g.W.World.state c.args.world.now in
-    let between = g.W.World.state c.open_rs_setup.new.world in
+    let between = g.W.World.state c.open_config.new.world in
     let after = g.W.World.state c.serve_resources_at.new.world in
     let ended = c.ended_service.result in
     let Then : WorldState → RsSetup → Type 0 = λ b setup. (out ≡ out) × ServesRs setup c.args.listen.now c.args.server.now c.args.quota b after ended in
@@ -24,7 +25,7 @@ returns-in-Ok-clause-carried g c out =
 pub returns-in-Err-clause-carried : goal.returns-in-Err-clause-carried
 returns-in-Err-clause-carried g c out =
     let text = g.W.World.text c.args.world.now in
-    let after = g.W.World.state c.open_rs_setup.new.world in
+    let after = g.W.World.state c.open_config.new.world in
     let ended = c.in-Err.ended in
     let Then : WorldState → RsSetup → Type 0 = λ b setup. (out ≡ out) × ServesRs setup c.args.listen.now c.args.server.now c.args.quota b after ended in
     by_setup_off (λ (setup : RsSetup). setup) rs_setup_in (text c.args.config.now) (g.W.World.state c.args.world.now) after Then out ended (λ is setup. (refl, inl (refl, is))) c.in-Err.ensures.config
@@ -32,7 +33,7 @@ returns-in-Err-clause-carried g c out =
 pub returns-in-Ok-clause-world : goal.returns-in-Ok-clause-world
 returns-in-Ok-clause-world g c =
     let before = g.W.World.state c.args.world.now in
-    let between = g.W.World.state c.open_rs_setup.new.world in
+    let between = g.W.World.state c.open_config.new.world in
     let after = g.W.World.state c.serve_resources_at.new.world in
     let openings = Link c.args.server.now ∷ Gears c.args.listen.now 1 c.args.quota ∷ [] in
     let U : Ended → Type 0 = λ ended. UsesWorld openings None between after ended in
@@ -42,9 +43,10 @@ returns-in-Ok-clause-world g c =
 
 pub returns-in-Err-clause-world : goal.returns-in-Err-clause-world
 returns-in-Err-clause-world g c =
-    uses_stopped (File c.args.config.now ∷ []) (Link c.args.server.now ∷ Gears c.args.listen.now 1 c.args.quota ∷ []) None _ _ c.in-Err.ended c.in-Err.ensures.world
-    (stopped (λ (setup : RsSetup). setup) rs_setup_in (g.W.World.text c.args.world.now c.args.config.now) (g.W.World.state c.args.world.now) (g.W.World.state c.open_rs_setup.new.world) c.in-Err.ended c.in-Err.ensures.config)
+    unread_used (λ (setup : RsSetup). setup) rs_setup_in (g.W.World.text c.args.world.now c.args.config.now) (g.W.World.state c.args.world.now) (g.W.World.state c.open_config.new.world) c.in-Err.ended
+    c.in-Err.ensures.config (File c.args.config.now ∷ []) (Link c.args.server.now ∷ Gears c.args.listen.now 1 c.args.quota ∷ []) None c.in-Err.ensures.world
 
 pub returns-in-Err-clause-writes : goal.returns-in-Err-clause-writes
-returns-in-Err-clause-writes g c faults = stopped_writes c.in-Err.ended faults
-    (stopped (λ (setup : RsSetup). setup) rs_setup_in (g.W.World.text c.args.world.now c.args.config.now) (g.W.World.state c.args.world.now) (g.W.World.state c.open_rs_setup.new.world) c.in-Err.ended c.in-Err.ensures.config)
+returns-in-Err-clause-writes g c faults =
+    unread_writes (λ (setup : RsSetup). setup) rs_setup_in (g.W.World.text c.args.world.now c.args.config.now) (g.W.World.state c.args.world.now) (g.W.World.state c.open_config.new.world) c.in-Err.ended
+    c.in-Err.ensures.config faults

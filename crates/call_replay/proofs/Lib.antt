@@ -1,0 +1,4 @@
+pub mod CallLines
+pub mod Files
+pub mod Going
+pub mod LineTurns

@@ -1,0 +1,5 @@
+pub mod ReplyLines
+pub mod CallLines
+pub mod Asked
+pub mod Replays
+pub mod Replaying

@@ -1,0 +1,48 @@
+//! One line at a desk.
+ghost use Rattle.std.specs.Prelude.{◌≡◌, ◌<◌, ◌^◌, IsUtf8, length};
+ghost use Rattle.histories.specs.History.{places};
+ghost use Rattle.call_replay.specs.CallLines.{line_step};
+ghost use Rattle.command_inputs.specs.LineRuns.{CountsPrint};
+ghost use Rattle.call_replay.specs.Replaying.{AnswersLine};
+
+use crate::call_lines::{LineStep, line_step};
+use crate::reply_lines::reply_line;
+use bytes_and_lists::bytes::Bytes;
+use bytes_and_lists::memory::Mem;
+use command_inputs::{After, say};
+use gnap_io::device::Sink;
+use gnap_model::objects::Setup;
+use grant_machine::Gnap;
+use histories::machine::Desk;
+use std::alloc::Global;
+
+/// Answers one line, of which at most one byte more than a call line may have is looked at.
+pub fn answer_line<D: Desk<M = Gnap>, O: Sink>(
+    alloc: Global,
+    setup: &Setup,
+    desk: &mut D,
+    out: &mut O,
+    line: &Bytes,
+) -> After
+    requires rules { D.rules desk.old ≡ setup.now }
+    requires base { IsUtf8 setup.now.base }
+    requires front { IsUtf8 setup.now.front }
+    requires room { (h : _) × D.seen desk.old h × (length (places (D.number desk.old) h) < 2 ^ 52) }
+    ensures rules { D.rules desk.new ≡ D.rules desk.old }
+    ensures number { D.number desk.new ≡ D.number desk.old }
+    ensures turn { (h full : _) → D.seen desk.old h → line_step setup.now full ≡ line_step setup.now line.now
+        → AnswersLine setup.now (D.number desk.old) full (D.seen desk.new) h (O.told out.old) (O.told out.new) result }
+    ensures counts { CountsPrint result (O.faults out.old) (O.faults out.new) }
+{
+    match line_step(alloc, setup, line.as_slice()) {
+        Err(Mem) => After::Starved,
+        Ok(LineStep::Say(text)) => say(out, &text),
+        Ok(LineStep::Ask(moment, draw, call)) => match desk.submit(moment, &draw, call) {
+            Err(Mem) => After::Starved,
+            Ok(reply) => match reply_line(alloc, setup, &reply) {
+                Err(Mem) => After::Starved,
+                Ok(text) => say(out, &text),
+            },
+        },
+    }
+}

@@ -1,0 +1,43 @@
+-- What holds of each command.
+use Rattle.std.proofs.Common.{◌≡◌, ℕ, List, [], refl, sym, subst, inl, inr}
+use Rattle.std.specs.Prelude.{Option, Some}
+use Rattle.gnap_io.specs.Outside.{Told}
+use Rattle.gnap_io.specs.Worlds.{WorldState}
+use Rattle.gnap_io.proofs.Devices.{writes_none}
+use Rattle.command_inputs.specs.declared.ended.Ended.{Ended}
+use Rattle.command_inputs.specs.declared.ended.Ended.TheVariants.{Memory}
+use Rattle.gnap_tool.specs.declared.command.Command.{Command}
+use Rattle.gnap_tool.specs.declared.command.Command.TheVariants.{Replay, Field, Sign, Verify, As, Rs, Client, Hash, Load}
+use Rattle.gnap_tool.specs.declared.purpose.Purpose.{Purpose}
+use Rattle.gnap_tool.specs.declared.purpose.Purpose.TheVariants as purposes
+use Rattle.gnap_tool.specs.Commands.{openings_of, input_place}
+use Rattle.gnap_tool.specs.Runs.{CarriesOut, input_of}
+use Rattle.world_uses.specs.Uses.{UsesWorld}
+
+-- the place of a purpose's input is the first
+pub first_input : (purpose : Purpose) (place : ℕ) → input_of purpose ≡ Some place → place ≡ 0
+first_input purposes.Replay place is = cc
+first_input (purposes.Field kind) place is = cc
+first_input (purposes.Sign setup key created) place is = absurd cc
+first_input (purposes.Verify setup now) place is = absurd cc
+
+-- where memory ran out before anything was opened
+pub starved_carries : (command : Command) (text : List ℕ → Option (List ℕ)) (world : WorldState) (out : Told) → CarriesOut command text world world out out Memory
+starved_carries (Replay file) text world out = inl (refl, (refl, inr refl))
+starved_carries (Field kind file) text world out = inl (refl, (refl, inr refl))
+starved_carries (Sign config key created file) text world out = inl (refl, (refl, inr refl))
+starved_carries (Verify config now file) text world out = inl (refl, (refl, inr refl))
+starved_carries (As config listen workers quota) text world out = inl (refl, (refl, inr refl))
+starved_carries (Rs config listen server quota) text world out = inl (refl, (refl, inr refl))
+starved_carries (Client config address script) text world out = inl (refl, (refl, inr refl))
+starved_carries (Hash texts) text world out = (refl, (record { sent = []; told = writes_none out; ends = refl }, inr (inr refl)))
+starved_carries (Load grants start workers) text world out = (refl, (record { sent = []; told = writes_none out; ends = refl }, inr (inr refl)))
+
+-- a command that is known to be this one
+module _ (named : Command) (before after : WorldState) (ended : Ended) (command : Command) (is : command ≡ named) where
+  pub carried_as : (text : List ℕ → Option (List ℕ)) (out out_now : Told) → CarriesOut named text before after out out_now ended
+      → CarriesOut command text before after out out_now ended
+  carried_as text out out_now carried = subst (λ (c : Command). CarriesOut c text before after out out_now ended) (sym is) carried
+
+  pub used_as : UsesWorld (openings_of named) (input_place named) before after ended → UsesWorld (openings_of command) (input_place command) before after ended
+  used_as uses = subst (λ (c : Command). UsesWorld (openings_of c) (input_place c) before after ended) (sym is) uses

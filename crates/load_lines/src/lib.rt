@@ -1,0 +1,9 @@
+//! What a load counted, printed.
+//!
+//! The contract of `print_load` says: the line tells the counts of one legal history in which so many workers put so many grants through
+//! (`specs/LoadLines`).
+#![tactic(auto)]
+
+mod counts;
+
+pub use counts::print_load;

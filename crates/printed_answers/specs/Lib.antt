@@ -1,0 +1,3 @@
+pub mod Fields
+pub mod HashLines
+pub mod MessageAnswers

@@ -1,0 +1,3 @@
+pub mod AfterConfig
+pub mod Linked
+pub mod Uses
