@@ -68,6 +68,9 @@ pub fn config_in<R: ConfigReader>(alloc: Global, text: &Bytes) -> Result<R::Conf
     match R::read(alloc, text.as_slice()) {
         Ok(config) => Ok(config),
         Err(SetupFault::OutOfMemory) => Err(Ended::Memory),
-        Err(fault) => Err(Ended::NoSetup(WrongSetup::Faulty(fault))),
+        Err(fault) => {
+            let why = WrongSetup::faulty(alloc, text.as_slice(), fault);
+            Err(Ended::NoSetup(why))
+        }
     }
 }

@@ -1,5 +1,5 @@
 -- What the words of a command line mean, and what each command opens.
-use Rattle.std.specs.Prelude.{◌≡◌, ◌≤◌, ℕ, List, [], ◌∷◌, Bool, true, false, not, ◌==◌, codes, Option, Some, None, IsSome, option_map, option_and_then, Result, MatchResult, if◌then◌else◌}
+use Rattle.std.specs.Prelude.{◌≡◌, ◌≤◌, ℕ, List, [], ◌∷◌, Bool, true, false, not, ◌==◌, codes, Option, Some, None, is_some, option_map, option_and_then, slice_get, Result, MatchResult, if◌then◌else◌}
 use Rattle.std.specs.List.{list_all}
 use Rattle.std.specs.Str.{bytes_eq}
 use Rattle.bytes_and_lists.specs.Moments.{last_moment}
@@ -9,6 +9,10 @@ use Rattle.gnap_tool.specs.declared.command.Command.{Command}
 use Rattle.gnap_tool.specs.declared.command.Command.TheVariants.{Replay, Field, Sign, Verify, As, Rs, Client, Hash, Load}
 use Rattle.printed_answers.specs.declared.fields.Kind.{Kind}
 use Rattle.printed_answers.specs.declared.fields.Kind.TheVariants.{Item, List as AList, Dictionary}
+use Rattle.gnap_tool.specs.declared.wrong_words.WordForm.{WordForm}
+use Rattle.gnap_tool.specs.declared.wrong_words.WordForm.TheVariants as forms
+use Rattle.gnap_tool.specs.declared.wrong_words.WrongWords.{WrongWords}
+use Rattle.gnap_tool.specs.declared.wrong_words.WrongWords.TheVariants as wrong
 use Rattle.gnap_tool.specs.Numbers.{number_within}
 
 -- a word that may be an argument: it isn't empty, and doesn't begin with `-`
@@ -91,9 +95,22 @@ load_words grants start workers =
     option_and_then (λ n. option_and_then (λ first. option_map (λ w. Load n first w) (number_within 1 64 workers))
     (number_within 0 18446744073709551615 start)) (number_within 1 100000 grants)
 
-abbrev pub command_of : List (List ℕ) → Option Command
-command_of [] = None
-command_of (name ∷ arguments) =
+-- how many words the command of a name takes
+abbrev pub count_of : List ℕ → Option ℕ
+count_of name =
+    if bytes_eq name (codes "replay") then Some 1
+    else if bytes_eq name (codes "field") then Some 2
+    else if bytes_eq name (codes "sign") then Some 4
+    else if bytes_eq name (codes "verify") then Some 3
+    else if bytes_eq name (codes "as") then Some 4
+    else if bytes_eq name (codes "rs") then Some 4
+    else if bytes_eq name (codes "client") then Some 3
+    else if bytes_eq name (codes "hash") then Some 5
+    else if bytes_eq name (codes "load") then Some 3
+    else None
+
+abbrev pub command_named : List ℕ → List (List ℕ) → Option Command
+command_named name arguments =
     if bytes_eq name (codes "replay") then replay_of arguments
     else if bytes_eq name (codes "field") then field_of arguments
     else if bytes_eq name (codes "sign") then with_four sign_words arguments
@@ -105,9 +122,33 @@ command_of (name ∷ arguments) =
     else if bytes_eq name (codes "load") then with_three load_words arguments
     else None
 
--- what was read of words is this; memory runs out only where they are a command
-abbrev pub IsReadAs : {E : Type 0} → Result (Option Command) E → Option Command → Type 0
-IsReadAs result reading = MatchResult result (λ command. command ≡ reading) (λ _. IsSome reading)
+abbrev pub command_of : List (List ℕ) → Option Command
+command_of [] = None
+command_of (name ∷ arguments) = command_named name arguments
+
+-- ---- how they are read
+
+-- whether a word is of a form
+abbrev pub is_of : WordForm → List ℕ → Bool
+is_of forms.Argument word = is_argument word
+is_of forms.FieldKind word = is_some (kind_of word)
+is_of forms.HashMethod word = is_some (long_method word)
+is_of forms.Moment word = is_some (moment_of word)
+is_of forms.Workers word = is_some (number_within 1 64 word)
+is_of forms.Connections word = is_some (number_within 0 1000000 word)
+is_of forms.Grants word = is_some (number_within 1 100000 word)
+is_of forms.Start word = is_some (number_within 0 18446744073709551615 word)
+
+-- Memory ran out, or the words are no command, and where one of those after the name is at fault, it isn't of this form.
+abbrev pub AreWrong : WrongWords → List (List ℕ) → Option Command → Type 0
+AreWrong wrong.OutOfMemory words reading = Unit {0}
+AreWrong wrong.NoCommand words reading = reading ≡ None
+AreWrong wrong.Count words reading = reading ≡ None
+AreWrong (wrong.Word place form) words reading = (reading ≡ None) × (option_map (is_of form) (slice_get words place) ≡ Some false)
+
+-- what was read of the words after the name is this command, or they are wrong
+abbrev pub AreRead : Result Command WrongWords → List (List ℕ) → Option Command → Type 0
+AreRead result words reading = MatchResult result (λ command. reading ≡ Some command) (λ fault. AreWrong fault words reading)
 
 -- the numbers of a command are in their ranges: moments before the year 10000, and 1 to 64 workers
 abbrev pub IsWithinRanges : Command → Type 0

@@ -1,11 +1,15 @@
 //! The commands, and which of them words are.
-ghost use Rattle.std.specs.Prelude.{◌≡◌, ◌≤◌, ℕ, List, Option, None, IfOk, IfSome, IfNone, map, string_bytes};
-ghost use Rattle.bytes_and_lists.specs.Moments.{last_moment};
-ghost use Rattle.gnap_tool.specs.Commands.{IsReadAs, IsWithinRanges, is_argument, kind_of, moment_of, replay_of, field_of, with_three, with_four, sign_words, verify_words, as_words, rs_words, client_words, long_method, hash_of, load_words, command_of};
+ghost use Rattle.std.specs.Prelude.{◌≡◌, ◌≤◌, ◌⊎◌, ℕ, List, Option, Some, None, false, true, drop, [], ◌∷◌, IfOk, IfErr, IfSome, IfNone, map, string_bytes};
+ghost use Rattle.gnap_tool.specs.Commands.{AreRead, IsWithinRanges, is_argument, kind_of, replay_of, field_of, with_three, with_four, sign_words, verify_words, as_words, rs_words, client_words, long_method, hash_of, load_words, count_of, command_named, command_of};
+ghost use Rattle.gnap_tool.specs.Numbers.{number_within};
+ghost use Rattle.gnap_tool.specs.declared.wrong_words.WrongWords.TheVariants.{Word, OutOfMemory};
+ghost use Rattle.gnap_tool.specs.declared.wrong_words.WordForm.TheVariants as forms;
 
 use crate::numbers::number_within;
+use crate::wrong_words::{WordForm, WrongWords};
 use bytes_and_lists::bytes::Bytes;
 use bytes_and_lists::memory::Mem;
+use command_words::exactly;
 use printed_answers::{HashedTexts, Kind};
 use std::alloc::Global;
 
@@ -44,6 +48,37 @@ fn is_argument(word: &str) -> bool
     }
 }
 
+// The word at this place as bytes, where it may be an argument.
+fn argument(alloc: Global, place: usize, word: &str) -> Result<Bytes, WrongWords>
+    ensures taken { IfOk result (λ bytes. (bytes ≡ word.now) × (is_argument word.now ≡ true)) }
+    ensures wrong { IfErr result (λ fault. (fault ≡ OutOfMemory) ⊎ ((fault ≡ Word place forms.Argument) × (is_argument word.now ≡ false))) }
+{
+    if !is_argument(word) {
+        return Err(WrongWords::Word(place, WordForm::Argument));
+    }
+    match Bytes::from_slice(alloc, word.as_bytes()) {
+        Ok(bytes) => Ok(bytes),
+        Err(Mem) => Err(WrongWords::OutOfMemory),
+    }
+}
+
+// The number that the word at this place is, where it is of a form with this range.
+fn number(
+    place: usize,
+    form: WordForm,
+    word: &str,
+    least: u64,
+    most: u64,
+) -> Result<u64, WrongWords>
+    ensures taken { IfOk result (λ n. (number_within least most word.now ≡ Some n) × (least ≤ n) × (n ≤ most)) }
+    ensures wrong { IfErr result (λ fault. (fault ≡ Word place form) × (number_within least most word.now ≡ None)) }
+{
+    match number_within(word, least, most) {
+        Some(number) => Ok(number),
+        None => Err(WrongWords::Word(place, form)),
+    }
+}
+
 fn kind_of(word: &str) -> Option<Kind>
     ensures { result ≡ kind_of word.now }
 {
@@ -53,167 +88,6 @@ fn kind_of(word: &str) -> Option<Kind>
         "dictionary" => Some(Kind::Dictionary),
         _ => None,
     }
-}
-
-fn moment_of(word: &str) -> Option<u64>
-    ensures value { result ≡ moment_of word.now }
-    ensures within { IfSome result (λ moment. moment ≤ last_moment) }
-{
-    number_within(word, 0, LAST_MOMENT)
-}
-
-fn owned(alloc: Global, word: &str) -> Result<Bytes, Mem>
-    ensures { IfOk result (λ bytes. bytes ≡ word.now) }
-{
-    Bytes::from_slice(alloc, word.as_bytes())
-}
-
-fn replay_of(alloc: Global, arguments: &[String]) -> Result<Option<Command>, Mem>
-    ensures read { IsReadAs result (replay_of (map string_bytes arguments.now)) }
-    ensures ranges { IfOk result (λ command. IfSome command IsWithinRanges) }
-{
-    match arguments {
-        [file] if is_argument(file.as_str()) => {
-            Ok(Some(Command::Replay(owned(alloc, file.as_str())?)))
-        }
-        _ => Ok(None),
-    }
-}
-
-fn field_of(alloc: Global, arguments: &[String]) -> Result<Option<Command>, Mem>
-    ensures read { IsReadAs result (field_of (map string_bytes arguments.now)) }
-    ensures ranges { IfOk result (λ command. IfSome command IsWithinRanges) }
-{
-    match arguments {
-        [kind, file] if is_argument(file.as_str()) => match kind_of(kind.as_str()) {
-            Some(kind) => Ok(Some(Command::Field(kind, owned(alloc, file.as_str())?))),
-            None => Ok(None),
-        },
-        _ => Ok(None),
-    }
-}
-
-// The words, where they are three.
-fn three(words: &[String]) -> Option<(&str, &str, &str)>
-    ensures some { IfSome result (λ w. (f : List ℕ → List ℕ → List ℕ → Option Command) → with_three f (map string_bytes words.now) ≡ f w.0.now w.1.now w.2.now) }
-    ensures none { IfNone result ((f : List ℕ → List ℕ → List ℕ → Option Command) → with_three f (map string_bytes words.now) ≡ None) }
-{
-    match words {
-        [first, second, third] => Some((first.as_str(), second.as_str(), third.as_str())),
-        _ => None,
-    }
-}
-
-// The words, where they are four.
-fn four(words: &[String]) -> Option<(&str, &str, &str, &str)>
-    ensures some { IfSome result (λ w. (f : List ℕ → List ℕ → List ℕ → List ℕ → Option Command)
-        → with_four f (map string_bytes words.now) ≡ f w.0.now w.1.now w.2.now w.3.now) }
-    ensures none { IfNone result ((f : List ℕ → List ℕ → List ℕ → List ℕ → Option Command) → with_four f (map string_bytes words.now) ≡ None) }
-{
-    match words {
-        [first, second, third, fourth] => Some((
-            first.as_str(),
-            second.as_str(),
-            third.as_str(),
-            fourth.as_str(),
-        )),
-        _ => None,
-    }
-}
-
-fn sign_of(alloc: Global, arguments: &[String]) -> Result<Option<Command>, Mem>
-    ensures read { IsReadAs result (with_four sign_words (map string_bytes arguments.now)) }
-    ensures ranges { IfOk result (λ command. IfSome command IsWithinRanges) }
-{
-    let Some((config, key, created, file)) = four(arguments) else {
-        return Ok(None);
-    };
-    if !(is_argument(config) && is_argument(key) && is_argument(file)) {
-        return Ok(None);
-    }
-    let Some(created) = moment_of(created) else {
-        return Ok(None);
-    };
-    let config = owned(alloc, config)?;
-    let key = owned(alloc, key)?;
-    let file = owned(alloc, file)?;
-    Ok(Some(Command::Sign(config, key, created, file)))
-}
-
-fn verify_of(alloc: Global, arguments: &[String]) -> Result<Option<Command>, Mem>
-    ensures read { IsReadAs result (with_three verify_words (map string_bytes arguments.now)) }
-    ensures ranges { IfOk result (λ command. IfSome command IsWithinRanges) }
-{
-    let Some((config, now, file)) = three(arguments) else {
-        return Ok(None);
-    };
-    if !(is_argument(config) && is_argument(file)) {
-        return Ok(None);
-    }
-    let Some(now) = moment_of(now) else {
-        return Ok(None);
-    };
-    let config = owned(alloc, config)?;
-    let file = owned(alloc, file)?;
-    Ok(Some(Command::Verify(config, now, file)))
-}
-
-// At most 64 workers, and at most 1,000,000 connections for each.
-fn as_of(alloc: Global, arguments: &[String]) -> Result<Option<Command>, Mem>
-    ensures read { IsReadAs result (with_four as_words (map string_bytes arguments.now)) }
-    ensures ranges { IfOk result (λ command. IfSome command IsWithinRanges) }
-{
-    let Some((config, listen, workers, quota)) = four(arguments) else {
-        return Ok(None);
-    };
-    if !(is_argument(config) && is_argument(listen)) {
-        return Ok(None);
-    }
-    let Some(workers) = number_within(workers, 1, 64) else {
-        return Ok(None);
-    };
-    let Some(quota) = number_within(quota, 0, 1_000_000) else {
-        return Ok(None);
-    };
-    let config = owned(alloc, config)?;
-    let listen = owned(alloc, listen)?;
-    Ok(Some(Command::As(config, listen, workers as usize, quota as u32)))
-}
-
-fn client_of(alloc: Global, arguments: &[String]) -> Result<Option<Command>, Mem>
-    ensures read { IsReadAs result (with_three client_words (map string_bytes arguments.now)) }
-    ensures ranges { IfOk result (λ command. IfSome command IsWithinRanges) }
-{
-    let Some((config, address, script)) = three(arguments) else {
-        return Ok(None);
-    };
-    if !(is_argument(config) && is_argument(address) && is_argument(script)) {
-        return Ok(None);
-    }
-    let config = owned(alloc, config)?;
-    let address = owned(alloc, address)?;
-    let script = owned(alloc, script)?;
-    Ok(Some(Command::Client(config, address, script)))
-}
-
-// At most 1,000,000 connections.
-fn rs_of(alloc: Global, arguments: &[String]) -> Result<Option<Command>, Mem>
-    ensures read { IsReadAs result (with_four rs_words (map string_bytes arguments.now)) }
-    ensures ranges { IfOk result (λ command. IfSome command IsWithinRanges) }
-{
-    let Some((config, listen, server, quota)) = four(arguments) else {
-        return Ok(None);
-    };
-    if !(is_argument(config) && is_argument(listen) && is_argument(server)) {
-        return Ok(None);
-    }
-    let Some(quota) = number_within(quota, 0, 1_000_000) else {
-        return Ok(None);
-    };
-    let config = owned(alloc, config)?;
-    let listen = owned(alloc, listen)?;
-    let server = owned(alloc, server)?;
-    Ok(Some(Command::Rs(config, listen, server, quota as u32)))
 }
 
 // Whether a hash method is the long one, where the word names one.
@@ -227,69 +101,226 @@ fn long_method(word: &str) -> Option<bool>
     }
 }
 
-fn hash_of(alloc: Global, arguments: &[String]) -> Result<Option<Command>, Mem>
-    ensures read { IsReadAs result (hash_of (map string_bytes arguments.now)) }
-    ensures ranges { IfOk result (λ command. IfSome command IsWithinRanges) }
+// The words, where they are three.
+fn three(words: &[String]) -> Option<(&str, &str, &str)>
+    ensures some { IfSome result (λ w. map string_bytes words.now ≡ w.0.now ∷ w.1.now ∷ w.2.now ∷ []) }
+    ensures none { IfNone result ((f : List ℕ → List ℕ → List ℕ → Option Command) → with_three f (map string_bytes words.now) ≡ None) }
 {
-    let Some((method, texts)) = arguments.split_first() else {
-        return Ok(None);
-    };
-    let Some((client, server, reference, endpoint)) = four(texts) else {
-        return Ok(None);
-    };
-    if !(is_argument(client)
-        && is_argument(server)
-        && is_argument(reference)
-        && is_argument(endpoint))
-    {
-        return Ok(None);
+    match words {
+        [first, second, third] => Some((first.as_str(), second.as_str(), third.as_str())),
+        _ => None,
     }
-    let Some(long) = long_method(method.as_str()) else {
-        return Ok(None);
+}
+
+// The words, where they are four.
+fn four(words: &[String]) -> Option<(&str, &str, &str, &str)>
+    ensures some { IfSome result (λ w. map string_bytes words.now ≡ w.0.now ∷ w.1.now ∷ w.2.now ∷ w.3.now ∷ []) }
+    ensures none { IfNone result ((f : List ℕ → List ℕ → List ℕ → List ℕ → Option Command) → with_four f (map string_bytes words.now) ≡ None) }
+{
+    match words {
+        [first, second, third, fourth] => Some((
+            first.as_str(),
+            second.as_str(),
+            third.as_str(),
+            fourth.as_str(),
+        )),
+        _ => None,
+    }
+}
+
+fn replay_of(alloc: Global, words: &[String]) -> Result<Command, WrongWords>
+    ensures read { AreRead result (map string_bytes words.now) (replay_of (map string_bytes words.now)) }
+    ensures ranges { IfOk result IsWithinRanges }
+{
+    let [file] = words else {
+        return Err(WrongWords::Count);
     };
-    let client_nonce = owned(alloc, client)?;
-    let server_nonce = owned(alloc, server)?;
-    let reference = owned(alloc, reference)?;
-    let endpoint = owned(alloc, endpoint)?;
-    Ok(Some(Command::Hash(HashedTexts {
+    Ok(Command::Replay(argument(alloc, 0, file.as_str())?))
+}
+
+fn field_of(alloc: Global, words: &[String]) -> Result<Command, WrongWords>
+    ensures read { AreRead result (map string_bytes words.now) (field_of (map string_bytes words.now)) }
+    ensures ranges { IfOk result IsWithinRanges }
+{
+    let [kind, file] = words else {
+        return Err(WrongWords::Count);
+    };
+    let Some(kind) = kind_of(kind.as_str()) else {
+        return Err(WrongWords::Word(0, WordForm::FieldKind));
+    };
+    Ok(Command::Field(kind, argument(alloc, 1, file.as_str())?))
+}
+
+fn sign_of(alloc: Global, words: &[String]) -> Result<Command, WrongWords>
+    ensures read { AreRead result (map string_bytes words.now) (with_four sign_words (map string_bytes words.now)) }
+    ensures ranges { IfOk result IsWithinRanges }
+{
+    let Some((config, key, created, file)) = four(words) else {
+        return Err(WrongWords::Count);
+    };
+    let config = argument(alloc, 0, config)?;
+    let key = argument(alloc, 1, key)?;
+    let created = number(2, WordForm::Moment, created, 0, LAST_MOMENT)?;
+    let file = argument(alloc, 3, file)?;
+    Ok(Command::Sign(config, key, created, file))
+}
+
+fn verify_of(alloc: Global, words: &[String]) -> Result<Command, WrongWords>
+    ensures read { AreRead result (map string_bytes words.now) (with_three verify_words (map string_bytes words.now)) }
+    ensures ranges { IfOk result IsWithinRanges }
+{
+    let Some((config, now, file)) = three(words) else {
+        return Err(WrongWords::Count);
+    };
+    let config = argument(alloc, 0, config)?;
+    let now = number(1, WordForm::Moment, now, 0, LAST_MOMENT)?;
+    let file = argument(alloc, 2, file)?;
+    Ok(Command::Verify(config, now, file))
+}
+
+// At most 64 workers, and at most 1,000,000 connections for each.
+fn as_of(alloc: Global, words: &[String]) -> Result<Command, WrongWords>
+    ensures read { AreRead result (map string_bytes words.now) (with_four as_words (map string_bytes words.now)) }
+    ensures ranges { IfOk result IsWithinRanges }
+{
+    let Some((config, listen, workers, quota)) = four(words) else {
+        return Err(WrongWords::Count);
+    };
+    let config = argument(alloc, 0, config)?;
+    let listen = argument(alloc, 1, listen)?;
+    let workers = number(2, WordForm::Workers, workers, 1, 64)?;
+    let quota = number(3, WordForm::Connections, quota, 0, 1_000_000)?;
+    Ok(Command::As(config, listen, workers as usize, quota as u32))
+}
+
+// At most 1,000,000 connections.
+fn rs_of(alloc: Global, words: &[String]) -> Result<Command, WrongWords>
+    ensures read { AreRead result (map string_bytes words.now) (with_four rs_words (map string_bytes words.now)) }
+    ensures ranges { IfOk result IsWithinRanges }
+{
+    let Some((config, listen, server, quota)) = four(words) else {
+        return Err(WrongWords::Count);
+    };
+    let config = argument(alloc, 0, config)?;
+    let listen = argument(alloc, 1, listen)?;
+    let server = argument(alloc, 2, server)?;
+    let quota = number(3, WordForm::Connections, quota, 0, 1_000_000)?;
+    Ok(Command::Rs(config, listen, server, quota as u32))
+}
+
+fn client_of(alloc: Global, words: &[String]) -> Result<Command, WrongWords>
+    ensures read { AreRead result (map string_bytes words.now) (with_three client_words (map string_bytes words.now)) }
+    ensures ranges { IfOk result IsWithinRanges }
+{
+    let Some((config, address, script)) = three(words) else {
+        return Err(WrongWords::Count);
+    };
+    let config = argument(alloc, 0, config)?;
+    let address = argument(alloc, 1, address)?;
+    let script = argument(alloc, 2, script)?;
+    Ok(Command::Client(config, address, script))
+}
+
+fn hash_of(alloc: Global, words: &[String]) -> Result<Command, WrongWords>
+    ensures read { AreRead result (map string_bytes words.now) (hash_of (map string_bytes words.now)) }
+    ensures ranges { IfOk result IsWithinRanges }
+{
+    let [method, client, server, reference, endpoint] = words else {
+        return Err(WrongWords::Count);
+    };
+    let Some(long) = long_method(method.as_str()) else {
+        return Err(WrongWords::Word(0, WordForm::HashMethod));
+    };
+    let client_nonce = argument(alloc, 1, client.as_str())?;
+    let server_nonce = argument(alloc, 2, server.as_str())?;
+    let reference = argument(alloc, 3, reference.as_str())?;
+    let endpoint = argument(alloc, 4, endpoint.as_str())?;
+    Ok(Command::Hash(HashedTexts {
         long,
         client_nonce,
         server_nonce,
         reference,
         endpoint,
-    })))
+    }))
 }
 
 // 1 to 100,000 grants, a start of 64 bits, and 1 to 64 workers.
-fn load_of(arguments: &[String]) -> Option<Command>
-    ensures read { result ≡ with_three load_words (map string_bytes arguments.now) }
-    ensures ranges { IfSome result IsWithinRanges }
+fn load_of(words: &[String]) -> Result<Command, WrongWords>
+    ensures read { AreRead result (map string_bytes words.now) (with_three load_words (map string_bytes words.now)) }
+    ensures ranges { IfOk result IsWithinRanges }
 {
-    let (grants, start, workers) = three(arguments)?;
-    let grants = number_within(grants, 1, 100_000)?;
-    let start = number_within(start, 0, 18_446_744_073_709_551_615)?;
-    let workers = number_within(workers, 1, 64)?;
-    Some(Command::Load(grants as u32, start, workers as usize))
+    let Some((grants, start, workers)) = three(words) else {
+        return Err(WrongWords::Count);
+    };
+    let grants = number(0, WordForm::Grants, grants, 1, 100_000)?;
+    let start = number(1, WordForm::Start, start, 0, 18_446_744_073_709_551_615)?;
+    let workers = number(2, WordForm::Workers, workers, 1, 64)?;
+    Ok(Command::Load(grants as u32, start, workers as usize))
 }
 
-/// The command that the words are, where they are one.
-pub fn command_of(alloc: Global, words: &[String]) -> Result<Option<Command>, Mem>
-    ensures read { IsReadAs result (command_of (map string_bytes words.now)) }
-    ensures ranges { IfOk result (λ command. IfSome command IsWithinRanges) }
+/// How many words the command of this name takes, where there is one.
+pub(crate) fn count_of(name: &str) -> Option<usize>
+    ensures count { result ≡ count_of name.now }
+    ensures within { IfSome result (λ count. (1 ≤ count) × (count ≤ 5)) }
 {
-    let Some((name, arguments)) = words.split_first() else {
-        return Ok(None);
+    match name {
+        "replay" => Some(1),
+        "field" => Some(2),
+        "sign" => Some(4),
+        "verify" => Some(3),
+        "as" => Some(4),
+        "rs" => Some(4),
+        "client" => Some(3),
+        "hash" => Some(5),
+        "load" => Some(3),
+        _ => None,
+    }
+}
+
+// The command of this name with these words.
+fn command_named(alloc: Global, name: &str, words: &[String]) -> Result<Command, WrongWords>
+    ensures read { AreRead result (map string_bytes words.now) (command_named name.now (map string_bytes words.now)) }
+    ensures ranges { IfOk result IsWithinRanges }
+{
+    match name {
+        "replay" => replay_of(alloc, words),
+        "field" => field_of(alloc, words),
+        "sign" => sign_of(alloc, words),
+        "verify" => verify_of(alloc, words),
+        "as" => as_of(alloc, words),
+        "rs" => rs_of(alloc, words),
+        "client" => client_of(alloc, words),
+        "hash" => hash_of(alloc, words),
+        "load" => load_of(words),
+        _ => Err(WrongWords::NoCommand),
+    }
+}
+
+// The command of this name with these words, which are read by `clap` as the arguments of a command that takes so many.
+fn command_with(alloc: Global, name: &str, arguments: &[String]) -> Result<Command, WrongWords>
+    ensures read { AreRead result (map string_bytes arguments.now) (command_named name.now (map string_bytes arguments.now)) }
+    ensures ranges { IfOk result IsWithinRanges }
+{
+    let Some(count) = count_of(name) else {
+        return Err(WrongWords::NoCommand);
     };
-    match name.as_str() {
-        "replay" => replay_of(alloc, arguments),
-        "field" => field_of(alloc, arguments),
-        "sign" => sign_of(alloc, arguments),
-        "verify" => verify_of(alloc, arguments),
-        "as" => as_of(alloc, arguments),
-        "rs" => rs_of(alloc, arguments),
-        "client" => client_of(alloc, arguments),
-        "hash" => hash_of(alloc, arguments),
-        "load" => Ok(load_of(arguments)),
-        _ => Ok(None),
+    match exactly(alloc, count, arguments) {
+        Ok(Some(taken)) => command_named(alloc, name, taken.as_slice()),
+        Ok(None) => Err(WrongWords::Count),
+        Err(_) => Err(WrongWords::OutOfMemory),
+    }
+}
+
+/// The command that the words are. The first word is its name.
+///
+/// Where memory doesn't run out, an error comes exactly where the words are no command. It says what is wrong with them, and of a single word that isn't
+/// of its form, which.
+pub fn command_of(alloc: Global, words: &[String]) -> Result<Command, WrongWords>
+    ensures read { AreRead result (drop 1 (map string_bytes words.now)) (command_of (map string_bytes words.now)) }
+    ensures ranges { IfOk result IsWithinRanges }
+{
+    match words.split_first() {
+        Some((name, arguments)) => command_with(alloc, name.as_str(), arguments),
+        None => Err(WrongWords::NoCommand),
     }
 }

@@ -1,12 +1,13 @@
 //! What a person is told, on standard error. Whether it is written changes nothing else.
 use crate::command::Command;
-use crate::usage::USAGE;
 use bytes_and_lists::bytes::Bytes;
 use command_inputs::{Ended, WrongSetup};
+use fault_places::FaultPlace;
 use gnap_io::device::{Sink, write_all};
 use gnap_objects::{ObjectFault, SetupFault};
 
-fn tell<E: Sink>(err: &mut E, pieces: &[&[u8]]) {
+/// Writes these pieces, as far as they can be written.
+pub(crate) fn tell<E: Sink>(err: &mut E, pieces: &[&[u8]]) {
     for piece in pieces {
         if write_all(err, piece).is_err() {
             return;
@@ -14,31 +15,86 @@ fn tell<E: Sink>(err: &mut E, pieces: &[&[u8]]) {
     }
 }
 
-fn tell_number<E: Sink>(err: &mut E, number: usize) {
+/// Writes a number in decimal digits.
+pub(crate) fn tell_number<E: Sink>(err: &mut E, number: usize) {
     let mut digits = itoa::Buffer::new();
     tell(err, &[digits.format(number).as_bytes()]);
 }
 
-/// Tells which commands there are.
-pub fn print_usage<E: Sink>(err: &mut E) {
-    for line in USAGE {
-        tell(err, &[line.as_bytes()]);
+// How many bytes of a word or a name are shown.
+const SHOWN: usize = 64;
+
+/// Writes the beginning of a text that somebody else wrote, with `?` for bytes that a terminal may act on.
+pub(crate) fn tell_shown<E: Sink>(err: &mut E, text: &[u8]) {
+    let mut shown = [b'?'; SHOWN];
+    for place in 0..SHOWN {
+        match text.get(place) {
+            Some(byte) if !byte.is_ascii_control() => shown[place] = *byte,
+            _ => {}
+        }
+    }
+    if text.len() <= SHOWN {
+        tell(err, &[&shown[..text.len()]]);
+    } else {
+        tell(err, &[&shown[..], b".."]);
+    }
+}
+
+// The form of the member of this name, of a setup or of one of its parts.
+fn form_of(name: &Bytes) -> &'static str {
+    match str::from_utf8(name.as_slice()) {
+        Ok("base" | "front" | "server" | "resource") => {
+            ": `http://` or `https://`, a host in lower case and no default port, without `/` at the end"
+        }
+        Ok("id") => ": 1 to 64 letters, digits, `.`, `_` or `-`, which no other key has",
+        Ok("secret") => ": base64 with padding, of 16 to 64 bytes",
+        Ok("role") => ": `client`, `server` or `front`",
+        Ok("auto" | "ask") => {
+            ": an array of rights, each a string or an object with `type` (docs/FORMATS.md, section 1)"
+        }
+        Ok("serves") => ": an array of strings",
+        Ok("keys") => ": an array of objects",
+        Ok("routes") => ": an array of objects, no two with one `method` and one `path`",
+        Ok("method") => ": 1 to 15 upper-case letters",
+        Ok("path") => {
+            ": `/` and at most 2,047 bytes from 0x21 to 0x7E, and no other route has it with the same `method`"
+        }
+        Ok("right") =>
+            ": one right, a string or an object with `type` (docs/FORMATS.md, section 1)",
+        Ok("text") => ": a string",
+        Ok(_) | Err(_) => "",
+    }
+}
+
+// How long the member of this name may be, or how many items it may have.
+fn limit_of(name: &Bytes) -> &'static str {
+    match str::from_utf8(name.as_slice()) {
+        Ok("keys") => ": 0 to 4,096 keys",
+        Ok("serves") => ": 0 to 256 strings",
+        Ok("routes") => ": 1 to 1,024 routes",
+        Ok("auto" | "ask" | "right") => {
+            ": a reference or a type has 1 to 256 bytes, an array of a right 1 to 16 strings (docs/FORMATS.md, section 1)"
+        }
+        Ok(_) | Err(_) => "",
     }
 }
 
 fn tell_member<E: Sink>(err: &mut E, fault: &ObjectFault) {
-    let (name, is): (&Bytes, &[u8]) = match fault {
-        ObjectFault::Missing(name) => (name, b"` is missing"),
-        ObjectFault::Wrong(name) => (name, b"` isn't of its form"),
-        ObjectFault::TooMany(name) => (name, b"` is too long or has too many items"),
-        ObjectFault::Flag(name) => (name, b"` stands twice"),
-        ObjectFault::Unknown(name) => (name, b"` isn't known here"),
+    let (name, is, form): (&Bytes, &str, &str) = match fault {
+        ObjectFault::Missing(name) => (name, "` is missing", ""),
+        ObjectFault::Wrong(name) => (name, "` isn't of its form", form_of(name)),
+        ObjectFault::TooMany(name) => (name, "` is too long or has too many items", limit_of(name)),
+        ObjectFault::Flag(name) => (name, "` stands twice", ""),
+        ObjectFault::Unknown(name) => (name, "` isn't known here", ""),
         ObjectFault::OutOfMemory => return,
     };
-    tell(err, &[b"member `", name.as_slice(), is]);
+    tell(err, &[b"member `"]);
+    tell_shown(err, name.as_slice());
+    tell(err, &[is.as_bytes(), form.as_bytes()]);
 }
 
-fn tell_setup<E: Sink>(err: &mut E, command: &Command, why: &WrongSetup) {
+// Which text is no setup.
+fn tell_no_setup<E: Sink>(err: &mut E, command: &Command) {
     match command {
         Command::Replay(file) | Command::Field(_, file) => tell(
             err,
@@ -58,22 +114,55 @@ fn tell_setup<E: Sink>(err: &mut E, command: &Command, why: &WrongSetup) {
             err,
             &[b"gnap: ", config.as_slice(), b" is no configuration: "],
         ),
-        // It reads none.
-        Command::Hash(_) | Command::Load(_, _, _) => return,
+        // They read none.
+        Command::Hash(_) | Command::Load(_, _, _) => {}
     }
-    match why {
-        WrongSetup::TooLong => tell(err, &[b"it has more than 1,048,576 bytes"]),
-        WrongSetup::Faulty(SetupFault::NotJson) => {
+}
+
+// Why a text isn't one JSON object with whole numbers.
+fn tell_no_json<E: Sink>(err: &mut E, place: &FaultPlace) {
+    match place {
+        FaultPlace::Syntax { line, column } => {
+            tell(err, &[b"it is no JSON at line "]);
+            tell_number(err, *line);
+            tell(err, &[b", column "]);
+            tell_number(err, *column);
+        }
+        FaultPlace::NoObject => tell(err, &[b"it is JSON, but no object"]),
+        FaultPlace::Number => tell(
+            err,
+            &[b"a number in it isn't a whole one from -2^63 to 2^64 - 1"],
+        ),
+        FaultPlace::Key(_) | FaultPlace::Unknown => {
             tell(err, &[b"it isn't one JSON object with whole numbers"])
         }
-        WrongSetup::Faulty(SetupFault::InSetup(fault)) => tell_member(err, fault),
-        WrongSetup::Faulty(SetupFault::InKey(place, fault)) => {
+    }
+}
+
+// Which key is at fault.
+fn tell_key<E: Sink>(err: &mut E, number: usize, place: &FaultPlace) {
+    tell(err, &[b", in the key "]);
+    if let FaultPlace::Key(id) = place {
+        tell(err, &[b"`"]);
+        tell_shown(err, id.as_slice());
+        tell(err, &[b"` "]);
+    }
+    tell(err, &[b"at place "]);
+    tell_number(err, number);
+    tell(err, &[b" of `keys`, counted from 0"]);
+}
+
+fn tell_setup<E: Sink>(err: &mut E, command: &Command, why: &WrongSetup) {
+    tell_no_setup(err, command);
+    match why {
+        WrongSetup::TooLong => tell(err, &[b"it has more than 1,048,576 bytes"]),
+        WrongSetup::Faulty(SetupFault::NotJson, place) => tell_no_json(err, place),
+        WrongSetup::Faulty(SetupFault::InSetup(fault), _) => tell_member(err, fault),
+        WrongSetup::Faulty(SetupFault::InKey(number, fault), place) => {
             tell_member(err, fault);
-            tell(err, &[b" in the key at place "]);
-            tell_number(err, *place);
-            tell(err, &[b" of `keys`, counted from 0"]);
+            tell_key(err, *number, place);
         }
-        WrongSetup::Faulty(SetupFault::OutOfMemory) => {}
+        WrongSetup::Faulty(SetupFault::OutOfMemory, _) => {}
     }
     tell(err, &[b"\n"]);
 }

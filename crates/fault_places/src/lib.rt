@@ -1,0 +1,77 @@
+//! Where in a text a person finds its fault: the line and the column of what is no JSON, or the id of a key.
+//!
+//! This is for what is said on standard error alone. Contracts say of a reader that a text is refused, and for which member; none speaks of places. Where
+//! memory runs out, or no place is known, there is none.
+#![tactic(auto)]
+
+use bytes_and_lists::bytes::Bytes;
+use gnap_objects::SetupFault;
+use json_objects::has_fraction;
+use serde_json::Value;
+use std::alloc::Global;
+
+/// Where a text that should be a setup or a configuration is at fault.
+#[derive(Drop)]
+pub enum FaultPlace {
+    /// It is no JSON: it can't be read on from this line and this column, both counted from 1.
+    Syntax { line: usize, column: usize },
+    /// It is JSON, but no object.
+    NoObject,
+    /// It is an object, but a number in it isn't a whole one from -2^63 to 2^64 - 1.
+    Number,
+    /// In the key with this id.
+    Key(Bytes),
+    /// No nearer place is known.
+    Unknown,
+}
+
+fn json_place(alloc: Global, text: &[u8]) -> FaultPlace {
+    match Value::from_slice(alloc, text) {
+        Ok(value) => {
+            if !value.is_object() {
+                return FaultPlace::NoObject;
+            }
+            if has_fraction(&value) {
+                return FaultPlace::Number;
+            }
+            FaultPlace::Unknown
+        }
+        Err(error) => {
+            if error.is_memory() || error.line() == 0 {
+                return FaultPlace::Unknown;
+            }
+            FaultPlace::Syntax {
+                line: error.line(),
+                column: error.column(),
+            }
+        }
+    }
+}
+
+// The id of the key at this place of `keys`, where it has one.
+fn id_at(value: &Value, place: usize) -> Option<&str> {
+    let keys = value.get("keys")?.as_array()?;
+    keys.get(place)?.get("id")?.as_str()
+}
+
+fn key_place(alloc: Global, text: &[u8], place: usize) -> FaultPlace {
+    let Ok(value) = Value::from_slice(alloc, text) else {
+        return FaultPlace::Unknown;
+    };
+    let Some(id) = id_at(&value, place) else {
+        return FaultPlace::Unknown;
+    };
+    match Bytes::from_slice(alloc, id.as_bytes()) {
+        Ok(id) => FaultPlace::Key(id),
+        Err(_) => FaultPlace::Unknown,
+    }
+}
+
+/// Where the text has the fault that its reader told.
+pub fn fault_place(alloc: Global, text: &[u8], fault: &SetupFault) -> FaultPlace {
+    match fault {
+        SetupFault::NotJson => json_place(alloc, text),
+        SetupFault::InKey(place, _) => key_place(alloc, text, *place),
+        SetupFault::InSetup(_) | SetupFault::OutOfMemory => FaultPlace::Unknown,
+    }
+}

@@ -1,0 +1,114 @@
+-- Words that aren't as many as a command takes, and words that are.
+use Rattle.std.proofs.Common.{◌≡◌, ℕ, List, [], ◌∷◌, length, Bool, true, false, Option, Some, None, Result, refl, sym, subst}
+use Rattle.std.specs.Prelude.{◌==◌, codes, if◌then◌else◌}
+use Rattle.std.specs.Str.{bytes_eq}
+use Rattle.command_words.specs.Positionals.{exactly}
+use Rattle.gnap_tool.specs.declared.command.Command.{Command}
+use Rattle.gnap_tool.specs.declared.wrong_words.WrongWords.{WrongWords}
+use Rattle.gnap_tool.specs.Commands.{AreRead, replay_of, field_of, with_three, with_four, sign_words, verify_words, as_words, rs_words, client_words, hash_of, load_words, count_of, command_named}
+
+no_replay : (words : List (List ℕ)) → exactly 1 words ≡ None → replay_of words ≡ None
+no_replay [] is = refl
+no_replay (a ∷ []) is = cc
+no_replay (a ∷ b ∷ words) is = refl
+
+no_field : (words : List (List ℕ)) → exactly 2 words ≡ None → field_of words ≡ None
+no_field [] is = refl
+no_field (a ∷ []) is = refl
+no_field (a ∷ b ∷ []) is = cc
+no_field (a ∷ b ∷ c ∷ words) is = refl
+
+not_three : (f : List ℕ → List ℕ → List ℕ → Option Command) (words : List (List ℕ)) → exactly 3 words ≡ None → with_three f words ≡ None
+not_three f [] is = refl
+not_three f (a ∷ []) is = refl
+not_three f (a ∷ b ∷ []) is = refl
+not_three f (a ∷ b ∷ c ∷ []) is = cc
+not_three f (a ∷ b ∷ c ∷ d ∷ words) is = refl
+
+not_four : (f : List ℕ → List ℕ → List ℕ → List ℕ → Option Command) (words : List (List ℕ)) → exactly 4 words ≡ None → with_four f words ≡ None
+not_four f [] is = refl
+not_four f (a ∷ []) is = refl
+not_four f (a ∷ b ∷ []) is = refl
+not_four f (a ∷ b ∷ c ∷ []) is = refl
+not_four f (a ∷ b ∷ c ∷ d ∷ []) is = cc
+not_four f (a ∷ b ∷ c ∷ d ∷ e ∷ words) is = refl
+
+no_hash : (words : List (List ℕ)) → exactly 5 words ≡ None → hash_of words ≡ None
+no_hash [] is = refl
+no_hash (a ∷ []) is = refl
+no_hash (a ∷ b ∷ []) is = refl
+no_hash (a ∷ b ∷ c ∷ []) is = refl
+no_hash (a ∷ b ∷ c ∷ d ∷ []) is = refl
+no_hash (a ∷ b ∷ c ∷ d ∷ e ∷ []) is = cc
+no_hash (a ∷ b ∷ c ∷ d ∷ e ∷ f ∷ words) is = refl
+
+at : (n count : ℕ) (words : List (List ℕ)) → Some n ≡ Some count → exactly count words ≡ None → exactly n words ≡ None
+at n count words is none = let same : n ≡ count = cc in subst (λ m. exactly m words ≡ None) (sym same) none
+
+-- how many words there have to be, and what they are read as, by whether the name is each of those
+abbrev number_by : (a b c d e f g h i : Bool) → Option ℕ
+number_by a b c d e f g h i =
+    if a then Some 1 else if b then Some 2 else if c then Some 4 else if d then Some 3 else if e then Some 4
+    else if f then Some 4 else if g then Some 3 else if h then Some 5 else if i then Some 3 else None
+
+abbrev reading_by : (a b c d e f g h i : Bool) → List (List ℕ) → Option Command
+reading_by a b c d e f g h i words =
+    if a then replay_of words else if b then field_of words else if c then with_four sign_words words else if d then with_three verify_words words
+    else if e then with_four as_words words else if f then with_four rs_words words else if g then with_three client_words words
+    else if h then hash_of words else if i then with_three load_words words else None
+
+counted : (a b c d e f g h i : Bool) (count : ℕ) (words : List (List ℕ))
+    → number_by a b c d e f g h i ≡ Some count
+    → exactly count words ≡ None
+    → reading_by a b c d e f g h i words ≡ None
+counted true b c d e f g h i count words is none = no_replay words (at 1 count words is none)
+counted false true c d e f g h i count words is none = no_field words (at 2 count words is none)
+counted false false true d e f g h i count words is none = not_four sign_words words (at 4 count words is none)
+counted false false false true e f g h i count words is none = not_three verify_words words (at 3 count words is none)
+counted false false false false true f g h i count words is none = not_four as_words words (at 4 count words is none)
+counted false false false false false true g h i count words is none = not_four rs_words words (at 4 count words is none)
+counted false false false false false false true h i count words is none = not_three client_words words (at 3 count words is none)
+counted false false false false false false false true i count words is none = no_hash words (at 5 count words is none)
+counted false false false false false false false false true count words is none = not_three load_words words (at 3 count words is none)
+counted false false false false false false false false false count words is none = refl
+
+-- words that aren't as many as the command of a name takes are no command
+pub miscounted : (name : List ℕ) (count : ℕ) (words : List (List ℕ)) → count_of name ≡ Some count → exactly count words ≡ None → command_named name words ≡ None
+miscounted name count words is none =
+    counted (bytes_eq name (codes "replay")) (bytes_eq name (codes "field")) (bytes_eq name (codes "sign")) (bytes_eq name (codes "verify"))
+    (bytes_eq name (codes "as")) (bytes_eq name (codes "rs")) (bytes_eq name (codes "client")) (bytes_eq name (codes "hash")) (bytes_eq name (codes "load"))
+    count words is none
+
+unnamed_by : (a b c d e f g h i : Bool) (words : List (List ℕ))
+    → number_by a b c d e f g h i ≡ None
+    → reading_by a b c d e f g h i words ≡ None
+unnamed_by true b c d e f g h i words is = cc
+unnamed_by false true c d e f g h i words is = cc
+unnamed_by false false true d e f g h i words is = cc
+unnamed_by false false false true e f g h i words is = cc
+unnamed_by false false false false true f g h i words is = cc
+unnamed_by false false false false false true g h i words is = cc
+unnamed_by false false false false false false true h i words is = cc
+unnamed_by false false false false false false false true i words is = cc
+unnamed_by false false false false false false false false true words is = cc
+unnamed_by false false false false false false false false false words is = refl
+
+-- without a command of the name there is none with it
+pub unnamed : (name : List ℕ) (words : List (List ℕ)) → count_of name ≡ None → command_named name words ≡ None
+unnamed name words is =
+    unnamed_by (bytes_eq name (codes "replay")) (bytes_eq name (codes "field")) (bytes_eq name (codes "sign")) (bytes_eq name (codes "verify"))
+    (bytes_eq name (codes "as")) (bytes_eq name (codes "rs")) (bytes_eq name (codes "client")) (bytes_eq name (codes "hash")) (bytes_eq name (codes "load"))
+    words is
+
+-- where so many words are read, they are the words
+pub same_words : (count : ℕ) (words taken : List (List ℕ)) → Some taken ≡ exactly count words → taken ≡ words
+same_words count words taken is = by (length words == count) is
+  where
+    by : (b : Bool) → Some taken ≡ (if b then Some words else None) → taken ≡ words
+    by true is = cc
+    by false is = cc
+
+-- what was read of them is what is read of the words
+pub read_again : (result : Result Command WrongWords) (name : List ℕ) (count : ℕ) (words taken : List (List ℕ)) → Some taken ≡ exactly count words
+    → AreRead result taken (command_named name taken) → AreRead result words (command_named name words)
+read_again result name count words taken is read = subst (λ ws. AreRead result ws (command_named name ws)) (same_words count words taken is) read
