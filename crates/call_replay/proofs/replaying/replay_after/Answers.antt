@@ -1,11 +1,14 @@
-use Rattle.std.proofs.Common.{refl, sym, subst}
+use Rattle.std.proofs.Common.{◌≡◌, ◌∙◌, refl, sym, subst}
+use Rattle.std.proofs.lemmas.Option.{same_Some}
+use Rattle.histories.specs.History.{Legal}
+use Rattle.gnap_model.specs.declared.objects.Setup.{Setup}
 use Rattle.histories.specs.Histories.{legal-nil}
 use Rattle.grant_machine.specs.Gnap.{gnap}
 use Rattle.command_inputs.specs.declared.ended.Ended.{Ended}
 use Rattle.call_replay.specs.Replaying.{Turns, Replays, IsLoneHistory}
 use Rattle.command_inputs.specs.Reading.{held_by}
 use Rattle.call_replay.proofs.Files.{gives_refusal, gives_starved, refusal_reads, refusal_writes, refusal_at}
-use Rattle.call_replay.proofs.Going.{none-had}
+use Rattle.call_replay.proofs.Going.{none-had, replays-weaker}
 use Rattle.command_inputs.proofs.LineRuns.{runs-starved}
 use Rattle.call_replay.proofs.replaying.replay_after.Goals as goal
 
@@ -30,3 +33,13 @@ returns-in-Err-clause-took g c = refusal_at c.in-Err.ended _ _ (gives_refusal c.
 
 pub returns-in_default-clause-replays : goal.returns-in_default-clause-replays
 returns-in_default-clause-replays g c = λ setup is. runs-starved (Turns setup 0 (IsLoneHistory setup)) _ _ _ _ (none-had setup 0 (IsLoneHistory setup) (legal-nil gnap setup, tt)) c.requires.held
+
+pub returns-clause-replays : goal.returns-clause-replays
+returns-clause-replays g c = λ setup is.
+    let read : c.in-Ok.setup ≡ setup = same_Some c.in-Ok.setup setup (sym c.in-Ok.ensures.value ∙ is) in
+    let kept : c.replay_lines.new.desk.core.rules ≡ setup = c.replay_lines.ensures.rules ∙ c.table_desk-desk.ensures.rules ∙ c.in-Ok-copy.ensures ∙ read in
+    subst (λ (s : Setup). Replays s 0 (IsLoneHistory setup) (held_by c.args.reader.now) c.args.reader.now.taken c.replay_lines.new.reader.taken
+    (g.S.Device.told c.args.source.now) (g.S.Device.told c.replay_lines.new.source) (g.O.Device.told c.args.out.now) (g.O.Device.told c.replay_lines.new.out)
+    c.replay_lines.result) read
+    (replays-weaker c.in-Ok.setup 0 _ (IsLoneHistory setup) _ _ _ _ _ _ _ _
+    (λ h seen. (subst (λ (s : Setup). Legal gnap s h) kept seen.0.rows.is_legal, seen.1)) c.replay_lines.ensures.replays)
