@@ -68,11 +68,14 @@ abbrev pub resolved : Option SetNote → Answer SetReply SetNote
 resolved (Some note) = record { reply = Resolved note.server note.rights; notes = [] }
 resolved None = set_refused InvalidRequest
 
--- the answer to a call, and its notes (RFC 9767, section 3.4)
-abbrev pub set_answer : Setup → List SetNote → ℕ → List ℕ → SetCall → Answer SetReply SetNote
-set_answer rules notes now words (Register server rights) =
+abbrev pub registration : Setup → List SetNote → List ℕ → Text → List Right → Answer SetReply SetNote
+registration rules notes words server rights =
     if serves_all (server_names (key_of rules server)) (Some rights) then registered (set_of server rights notes) notes words server rights
     else set_refused InvalidAccess
+
+-- the answer to a call, and its notes (RFC 9767, section 3.4)
+abbrev pub set_answer : Setup → List SetNote → ℕ → List ℕ → SetCall → Answer SetReply SetNote
+set_answer rules notes now words (Register server rights) = registration rules notes words server rights
 set_answer rules notes now words (Resolve asker reference) = resolved (set_named reference notes)
 set_answer rules notes now words Lapse = record { reply = Lapsed; notes = [] }
 
