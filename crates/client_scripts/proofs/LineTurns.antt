@@ -1,6 +1,6 @@
 -- One line's turn, put together.
-use Rattle.std.proofs.Common.{◌≡◌, ◌∙◌, ℕ, List, [], ◌∷◌, ◌++◌, Bool, true, false, refl, sym, ap, subst, append-nil}
-use Rattle.std.specs.Prelude.{Option, Some, None, Result, Ok, Err, ◌≢◌}
+use Rattle.std.proofs.Common.{◌≡◌, ◌∙◌, ℕ, List, [], ◌++◌, Bool, true, false, sym, ap, subst, append-nil}
+use Rattle.std.specs.Prelude.{Some, None, Result, Ok, Err, ◌≢◌}
 use Rattle.gnap_io.specs.Links.{Exchange, LinkState, Exchanges}
 use Rattle.gnap_io.specs.declared.link.LinkFault.{LinkFault}
 use Rattle.gnap_io.specs.declared.link.LinkFault.TheVariants as link_faults
@@ -9,8 +9,8 @@ use Rattle.gnap_client.specs.declared.client.Client.{Client}
 use Rattle.gnap_client.specs.declared.client.ClientFault.{ClientFault}
 use Rattle.gnap_client.specs.declared.client.ClientFault.TheVariants as faults
 use Rattle.client_scripts.specs.declared.deeds.Deed.{Deed}
-use Rattle.client_scripts.specs.declared.lines.LineFault.{LineFault}
-use Rattle.client_scripts.specs.declared.turns.LineSaid.{LineSaid}
+use Rattle.client_scripts.specs.declared.line_faults.BadLine.{BadLine}
+use Rattle.client_scripts.specs.declared.line_faults.LineFault.{LineFault}
 use Rattle.client_scripts.specs.Deeds.{Called, said_line, is_fine, bad_line}
 use Rattle.client_scripts.specs.Lines.{line_deed}
 use Rattle.client_scripts.specs.Carrying.{CarriesDeed, unasked, sent}
@@ -25,9 +25,9 @@ adds_exchange request before after (Ok reply) is = ap (λ (s : LinkState). s.ask
 adds_exchange request before after (Err link_faults.Failed) is = ap (λ (s : LinkState). s.asked) is.0
 adds_exchange request before after (Err link_faults.OutOfMemory) is = ap (λ (s : LinkState). s.asked) is ∙ sym (append-nil before.asked)
 
-pub bad_turn : (line text : List ℕ) (c : Client) (asked : List Exchange) → line_deed line ≡ Err LineFault.BadLine → text ≡ bad_line
+pub bad_turn : (line text : List ℕ) (c : Client) (asked : List Exchange) (why : BadLine) → line_deed line ≡ Err (LineFault.BadLine why) → text ≡ bad_line
     → HasScriptTurn line c c asked asked (Some (record { text = text; fine = false }))
-bad_turn line text c asked none is = rw is (record { at = 0; exchanges = []; turn = turns.bad line 0 c none; adds = sym (append-nil asked) })
+bad_turn line text c asked why none is = rw is (record { at = 0; exchanges = []; turn = turns.bad line 0 c why none; adds = sym (append-nil asked) })
 
 pub starved_turn : (line : List ℕ) (c : Client) (asked : List Exchange) → HasScriptTurn line c c asked asked None
 starved_turn line c asked = record { at = 0; exchanges = []; turn = turns.starved line 0 c; adds = sym (append-nil asked) }

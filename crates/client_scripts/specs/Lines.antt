@@ -10,60 +10,86 @@ use Rattle.gnap_model.specs.declared.objects.GrantRequest.{GrantRequest}
 use Rattle.gnap_objects.specs.declared.fault.ObjectFault.{ObjectFault}
 use Rattle.gnap_objects.specs.Grants.{request_of}
 use Rattle.signed_requests.specs.Forms.{is_method, is_target}
-use Rattle.client_scripts.specs.declared.lines.LineFault.{LineFault}
-use Rattle.client_scripts.specs.declared.lines.LineFault.TheVariants as faults
+use Rattle.gnap_objects.specs.declared.fault.ObjectFault.TheVariants as object_faults
+use Rattle.client_scripts.specs.declared.line_faults.LineMember.{LineMember}
+use Rattle.client_scripts.specs.declared.line_faults.LineMember.TheVariants.{At, Do, Body, Hash, Reference, Token, Method, Path}
+use Rattle.client_scripts.specs.declared.line_faults.BadLine.TheVariants as bad
+use Rattle.client_scripts.specs.declared.line_faults.LineFault.{LineFault}
+use Rattle.client_scripts.specs.declared.line_faults.LineFault.TheVariants as faults
 use Rattle.client_scripts.specs.declared.deeds.Deed.{Deed}
 use Rattle.client_scripts.specs.declared.deeds.Deed.TheVariants.{Begin, Poll, Finish, Patch, Cancel, Rotate, Revoke, Use}
 
 -- ---- members, which must be there
 
--- the member of that name
-abbrev pub line_member : List ℕ → Data → Result Data LineFault
-line_member name d = or_fault faults.BadLine (get name d)
+abbrev pub name_of : LineMember → List ℕ
+name_of At = codes "at"
+name_of Do = codes "do"
+name_of Body = codes "body"
+name_of Hash = codes "hash"
+name_of Reference = codes "reference"
+name_of Token = codes "token"
+name_of Method = codes "method"
+name_of Path = codes "path"
+
+-- the member is absent, or isn't of its form
+abbrev pub missing : LineMember → LineFault
+missing member = faults.BadLine (bad.Missing member)
+
+abbrev pub wrong : LineMember → LineFault
+wrong member = faults.BadLine (bad.Wrong member)
+
+-- the value of that member
+abbrev pub line_member : LineMember → Data → Result Data LineFault
+line_member member d = or_fault (missing member) (get (name_of member) d)
 
 -- a string
-abbrev pub line_text : List ℕ → Data → Result (List ℕ) LineFault
-line_text name d = line_member name d >>= λ m. or_fault faults.BadLine (as_str m)
+abbrev pub line_text : LineMember → Data → Result (List ℕ) LineFault
+line_text member d = line_member member d >>= λ m. or_fault (wrong member) (as_str m)
 
 -- a whole number from 0 to 2^64 - 1
-abbrev pub line_number : List ℕ → Data → Result ℕ LineFault
-line_number name d = line_member name d >>= λ m. or_fault faults.BadLine (option_and_then as_u64 (as_number m))
+abbrev pub line_number : LineMember → Data → Result ℕ LineFault
+line_number member d = line_member member d >>= λ m. or_fault (wrong member) (option_and_then as_u64 (as_number m))
 
 -- `at`: seconds since 1970, up to the year 9999
 abbrev pub timely : ℕ → Result ℕ LineFault
-timely n = if nat_le n 253402300799 then Ok n else Err faults.BadLine
+timely n = if nat_le n 253402300799 then Ok n else Err (wrong At)
 
 unfoldable pub line_moment : Data → Result ℕ LineFault
-line_moment d = line_number (codes "at") d >>= timely
+line_moment d = line_number At d >>= timely
 
 -- `body`: an object in which each number is whole
 abbrev pub line_object : Data → Result Data LineFault
-line_object d = if is_some (as_object d) && not (has_float d) then Ok d else Err faults.BadLine
+line_object d = if is_some (as_object d) && not (has_float d) then Ok d else Err (wrong Body)
+
+-- what a fault of the body is for the line
+abbrev pub in_body : ObjectFault → LineFault
+in_body object_faults.OutOfMemory = faults.OutOfMemory
+in_body fault = faults.BadLine (bad.InBody fault)
 
 abbrev pub readable_request : Result GrantRequest ObjectFault → Result GrantRequest LineFault
 readable_request (Ok request) = Ok request
-readable_request (Err fault) = Err faults.BadLine
+readable_request (Err fault) = Err (in_body fault)
 
 -- a grant request, or a modification
 unfoldable pub line_request : Bool → Data → Result GrantRequest LineFault
-line_request modify d = line_member (codes "body") d >>= line_object >>= λ body. readable_request (request_of modify body)
+line_request modify d = line_member Body d >>= line_object >>= λ body. readable_request (request_of modify body)
 
-abbrev pub passing : (List ℕ → Bool) → List ℕ → Result (List ℕ) LineFault
-passing test s = if test s then Ok s else Err faults.BadLine
+abbrev pub passing : (List ℕ → Bool) → LineMember → List ℕ → Result (List ℕ) LineFault
+passing test member s = if test s then Ok s else Err (wrong member)
 
 -- ---- the deed
 
 unfoldable pub finish_in : Data → Result Deed LineFault
 finish_in d = do
-  hash ← line_text (codes "hash") d
-  reference ← line_text (codes "reference") d
+  hash ← line_text Hash d
+  reference ← line_text Reference d
   Ok (Finish hash reference)
 
 unfoldable pub use_in : Data → Result Deed LineFault
 use_in d = do
-  token ← line_number (codes "token") d
-  method ← line_text (codes "method") d >>= passing is_method
-  path ← line_text (codes "path") d >>= passing is_target
+  token ← line_number Token d
+  method ← line_text Method d >>= passing is_method Method
+  path ← line_text Path d >>= passing is_target Path
   Ok (Use token method path)
 
 unfoldable pub deed_named : List ℕ → Data → Result Deed LineFault
@@ -73,22 +99,26 @@ deed_named word d =
     else if bytes_eq word (codes "finish") then finish_in d
     else if bytes_eq word (codes "patch") then (line_request true d >>= λ r. Ok (Patch r))
     else if bytes_eq word (codes "cancel") then Ok Cancel
-    else if bytes_eq word (codes "rotate") then (line_number (codes "token") d >>= λ i. Ok (Rotate i))
-    else if bytes_eq word (codes "revoke") then (line_number (codes "token") d >>= λ i. Ok (Revoke i))
+    else if bytes_eq word (codes "rotate") then (line_number Token d >>= λ i. Ok (Rotate i))
+    else if bytes_eq word (codes "revoke") then (line_number Token d >>= λ i. Ok (Revoke i))
     else if bytes_eq word (codes "use") then use_in d
-    else Err faults.BadLine
+    else Err (wrong Do)
 
 unfoldable pub object_deed : Data → Result (ℕ × Deed) LineFault
 object_deed d = do
   at ← line_moment d
-  word ← line_text (codes "do") d
+  word ← line_text Do d
   deed ← deed_named word d
   Ok (at, deed)
 
+-- no JSON text in UTF-8
+abbrev pub not_json : LineFault
+not_json = faults.BadLine bad.NotJson
+
 abbrev pub read_deed : Option Data → Result (ℕ × Deed) LineFault
-read_deed None = Err faults.BadLine
+read_deed None = Err not_json
 read_deed (Some d) = object_deed d
 
 -- the moment and the deed of a line
 unfoldable pub line_deed : List ℕ → Result (ℕ × Deed) LineFault
-line_deed line = if is_utf8 line then read_deed (read line) else Err faults.BadLine
+line_deed line = if is_utf8 line then read_deed (read line) else Err not_json

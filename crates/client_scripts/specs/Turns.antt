@@ -1,6 +1,6 @@
 -- A script, line by line: what the client carried out over a link, and what was printed.
 use Rattle.std.specs.Prelude.{◌≡◌, ◌≢◌, ℕ, Bool, true, false, List, [], ◌∷◌, ◌++◌, flat_map, Option, Some, None, Result, Ok, Err}
-use Rattle.gnap_io.specs.Links.{Exchange, LinkState}
+use Rattle.gnap_io.specs.Links.{Exchange}
 use Rattle.gnap_io.specs.declared.link.LinkFault.{LinkFault}
 use Rattle.gnap_io.specs.declared.link.LinkFault.TheVariants as link_faults
 use Rattle.histories.specs.Turns.{Turn}
@@ -10,7 +10,8 @@ use Rattle.gnap_client.specs.declared.client.ClientFault.{ClientFault}
 use Rattle.gnap_client.specs.declared.client.ClientFault.TheVariants as faults
 use Rattle.gnap_client.specs.Sending.{HasExchanged}
 use Rattle.client_scripts.specs.declared.deeds.Deed.{Deed}
-use Rattle.client_scripts.specs.declared.lines.LineFault.{LineFault}
+use Rattle.client_scripts.specs.declared.line_faults.BadLine.{BadLine}
+use Rattle.client_scripts.specs.declared.line_faults.LineFault.{LineFault}
 use Rattle.client_scripts.specs.declared.turns.LineSaid.{LineSaid}
 use Rattle.client_scripts.specs.Deeds.{Called, said_line, is_fine, bad_line}
 use Rattle.client_scripts.specs.Lines.{line_deed}
@@ -44,7 +45,7 @@ turn_of line at before after exchanges bytes fine on = record {
 -- A line's turn is one of these.
 pub data IsScriptTurn : ScriptTurn → Type 0 where
   -- the line isn't one of a script
-  bad : (line : List ℕ) → (at : ℕ) → (c : Client) → line_deed line ≡ Err LineFault.BadLine → IsScriptTurn (turn_of line at c c [] bad_line false true)
+  bad : (line : List ℕ) → (at : ℕ) → (c : Client) → (why : BadLine) → line_deed line ≡ Err (LineFault.BadLine why) → IsScriptTurn (turn_of line at c c [] bad_line false true)
   -- the client had no request to send, and stays as it was
   unasked : (line : List ℕ) → (at : ℕ) → (deed : Deed) → line_deed line ≡ Ok (at, deed)
       → (c : Client) → (fault : ClientFault) → Called deed at c c (Err fault) → fault ≢ faults.OutOfMemory

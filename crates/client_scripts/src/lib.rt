@@ -7,9 +7,11 @@
 
 pub mod carrying;
 pub mod deeds;
+mod line_faults;
 mod lines;
 pub mod turns;
 
 pub use deeds::Deed;
-pub use lines::{LineFault, read_line};
+pub use line_faults::{BadLine, LineFault, LineMember};
+pub use lines::read_line;
 pub use turns::{LineSaid, script_line};

@@ -9,71 +9,57 @@ ghost use Rattle.json_objects.specs.Bodies.{IsBody};
 ghost use Rattle.json_objects.specs.Reading.{Gives};
 ghost use Rattle.gnap_objects.specs.Grants.{request_of};
 ghost use Rattle.signed_requests.specs.Forms.{is_method, is_target};
-ghost use Rattle.client_scripts.specs.declared.lines.LineFault.TheVariants.{OutOfMemory};
+ghost use Rattle.client_scripts.specs.declared.line_faults.LineFault.TheVariants.{OutOfMemory};
+ghost use Rattle.client_scripts.specs.declared.line_faults.LineMember.TheVariants as forms;
 ghost use Rattle.client_scripts.specs.Deeds.{CanBeShown, DeedFits};
 ghost use Rattle.client_scripts.specs.Lines.{line_member, line_text, line_number, line_moment, line_object, readable_request, line_request, passing, finish_in, use_in, deed_named, object_deed, line_deed};
 
 use crate::deeds::Deed;
+use crate::line_faults::{BadLine, LineFault, LineMember, missing, wrong};
 use bytes_and_lists::bytes::Bytes;
-use bytes_and_lists::memory::Mem;
 use gnap_model::objects::GrantRequest;
-use gnap_objects::{ObjectFault, read_grant};
+use gnap_objects::read_grant;
 use json_objects::{has_fraction, member_within};
 use serde_json::Value;
 use signed_requests::{is_method, is_target};
 use std::alloc::Global;
 
-/// Why a line is none.
-#[derive(Clone, Copy, Debug, PartialEq, Eq)]
-pub enum LineFault {
-    BadLine,
-    OutOfMemory,
-}
-
-impl From<Mem> for LineFault {
-    ghost from_gives = { λ _ e. e ≡ OutOfMemory };
-
-    fn from(_e: Mem) -> LineFault {
-        LineFault::OutOfMemory
-    }
-}
-
 // The last second of the year 9999, in seconds since 1970.
 const LAST_MOMENT: u64 = 253_402_300_799;
 
-fn line_member<'v>(value: &'v Value, name: &str) -> Result<&'v Value, LineFault>
+fn line_member(value: &Value, member: LineMember) -> Result<&Value, LineFault>
     requires { depth (view value.now) ≤ max_depth }
-    ensures value { Gives OutOfMemory (λ v. view v.now) result (line_member name.now (view value.now)) }
+    ensures value { Gives OutOfMemory (λ v. view v.now) result (line_member member (view value.now)) }
     ensures shallow { IfOk result (λ v. depth (view v.now) ≤ max_depth) }
 {
-    match member_within(value, name) {
-        Some(member) => Ok(member),
-        None => Err(LineFault::BadLine),
+    match member_within(value, member.name()) {
+        Some(found) => Ok(found),
+        None => Err(missing(member)),
     }
 }
 
-fn line_text(alloc: Global, value: &Value, name: &str) -> Result<Bytes, LineFault>
-    ensures value { Gives OutOfMemory (λ b. b) result (line_text name.now (view value.now)) }
+fn line_text(alloc: Global, value: &Value, member: LineMember) -> Result<Bytes, LineFault>
+    ensures value { Gives OutOfMemory (λ b. b) result (line_text member (view value.now)) }
     ensures utf8 { IfOk result IsUtf8 }
 {
-    let Some(member) = value.get(name) else {
-        return Err(LineFault::BadLine);
+    let Some(found) = value.get(member.name()) else {
+        return Err(missing(member));
     };
-    match member.as_str() {
+    match found.as_str() {
         Some(text) => Ok(Bytes::from_slice(alloc, text.as_bytes())?),
-        None => Err(LineFault::BadLine),
+        None => Err(wrong(member)),
     }
 }
 
-fn line_number(value: &Value, name: &str) -> Result<u64, LineFault>
-    ensures { Gives OutOfMemory (λ n. n) result (line_number name.now (view value.now)) }
+fn line_number(value: &Value, member: LineMember) -> Result<u64, LineFault>
+    ensures { Gives OutOfMemory (λ n. n) result (line_number member (view value.now)) }
 {
-    let Some(member) = value.get(name) else {
-        return Err(LineFault::BadLine);
+    let Some(found) = value.get(member.name()) else {
+        return Err(missing(member));
     };
-    match member.as_u64() {
+    match found.as_u64() {
         Some(number) => Ok(number),
-        None => Err(LineFault::BadLine),
+        None => Err(wrong(member)),
     }
 }
 
@@ -82,11 +68,11 @@ fn line_moment(value: &Value) -> Result<u64, LineFault>
     ensures moment { Gives OutOfMemory (λ n. n) result (line_moment (view value.now)) }
     ensures in_time { IfOk result (λ at. at ≤ 253402300799) }
 {
-    let at = line_number(value, "at")?;
+    let at = line_number(value, LineMember::At)?;
     if at <= LAST_MOMENT {
         Ok(at)
     } else {
-        Err(LineFault::BadLine)
+        Err(wrong(LineMember::At))
     }
 }
 
@@ -98,7 +84,7 @@ fn line_object(value: &Value) -> Result<&Value, LineFault>
     if value.is_object() && !has_fraction(value) {
         Ok(value)
     } else {
-        Err(LineFault::BadLine)
+        Err(wrong(LineMember::Body))
     }
 }
 
@@ -107,15 +93,7 @@ fn readable_request(alloc: Global, body: &Value, modify: bool) -> Result<GrantRe
     ensures value { Gives OutOfMemory (λ r. r) result (readable_request (request_of modify (view body.now))) }
     ensures fits { IfOk result CanBeShown }
 {
-    match read_grant(alloc, body, modify) {
-        Ok(request) => Ok(request),
-        Err(ObjectFault::OutOfMemory) => Err(LineFault::OutOfMemory),
-        Err(ObjectFault::Missing(_)) => Err(LineFault::BadLine),
-        Err(ObjectFault::Wrong(_)) => Err(LineFault::BadLine),
-        Err(ObjectFault::TooMany(_)) => Err(LineFault::BadLine),
-        Err(ObjectFault::Flag(_)) => Err(LineFault::BadLine),
-        Err(ObjectFault::Unknown(_)) => Err(LineFault::BadLine),
-    }
+    Ok(read_grant(alloc, body, modify)?)
 }
 
 #[tactic(auto, unfolding(crate::specs::Lines::line_request))]
@@ -124,30 +102,30 @@ fn line_request(alloc: Global, value: &Value, modify: bool) -> Result<GrantReque
     ensures value { Gives OutOfMemory (λ r. r) result (line_request modify (view value.now)) }
     ensures fits { IfOk result CanBeShown }
 {
-    let member = line_member(value, "body")?;
+    let member = line_member(value, LineMember::Body)?;
     let body = line_object(member)?;
     readable_request(alloc, body, modify)
 }
 
 fn method_in(text: Bytes) -> Result<Bytes, LineFault>
-    ensures value { Gives OutOfMemory (λ b. b) result (passing is_method text) }
+    ensures value { Gives OutOfMemory (λ b. b) result (passing is_method forms.Method text) }
     ensures is { IfOk result (λ b. is_method b ≡ true) }
 {
     if is_method(text.as_slice()) {
         Ok(text)
     } else {
-        Err(LineFault::BadLine)
+        Err(wrong(LineMember::Method))
     }
 }
 
 fn path_in(text: Bytes) -> Result<Bytes, LineFault>
-    ensures value { Gives OutOfMemory (λ b. b) result (passing is_target text) }
+    ensures value { Gives OutOfMemory (λ b. b) result (passing is_target forms.Path text) }
     ensures is { IfOk result (λ b. is_target b ≡ true) }
 {
     if is_target(text.as_slice()) {
         Ok(text)
     } else {
-        Err(LineFault::BadLine)
+        Err(wrong(LineMember::Path))
     }
 }
 
@@ -156,8 +134,8 @@ fn finish_in(alloc: Global, value: &Value) -> Result<Deed, LineFault>
     ensures value { Gives OutOfMemory (λ d. d) result (finish_in (view value.now)) }
     ensures fits { IfOk result DeedFits }
 {
-    let hash = line_text(alloc, value, "hash")?;
-    let reference = line_text(alloc, value, "reference")?;
+    let hash = line_text(alloc, value, LineMember::Hash)?;
+    let reference = line_text(alloc, value, LineMember::Reference)?;
     Ok(Deed::Finish { hash, reference })
 }
 
@@ -166,9 +144,9 @@ fn use_in(alloc: Global, value: &Value) -> Result<Deed, LineFault>
     ensures value { Gives OutOfMemory (λ d. d) result (use_in (view value.now)) }
     ensures fits { IfOk result DeedFits }
 {
-    let token = line_number(value, "token")? as usize;
-    let method = method_in(line_text(alloc, value, "method")?)?;
-    let path = path_in(line_text(alloc, value, "path")?)?;
+    let token = line_number(value, LineMember::Token)? as usize;
+    let method = method_in(line_text(alloc, value, LineMember::Method)?)?;
+    let path = path_in(line_text(alloc, value, LineMember::Path)?)?;
     Ok(Deed::Use {
         token,
         method,
@@ -201,15 +179,15 @@ fn deed_named(alloc: Global, word: &Bytes, value: &Value) -> Result<Deed, LineFa
     } else if is_word(b"cancel", word) {
         Ok(Deed::Cancel)
     } else if is_word(b"rotate", word) {
-        let token = line_number(value, "token")?;
+        let token = line_number(value, LineMember::Token)?;
         Ok(Deed::Rotate(token as usize))
     } else if is_word(b"revoke", word) {
-        let token = line_number(value, "token")?;
+        let token = line_number(value, LineMember::Token)?;
         Ok(Deed::Revoke(token as usize))
     } else if is_word(b"use", word) {
         use_in(alloc, value)
     } else {
-        Err(LineFault::BadLine)
+        Err(wrong(LineMember::Do))
     }
 }
 
@@ -221,12 +199,13 @@ fn object_deed(alloc: Global, value: &Value) -> Result<(u64, Deed), LineFault>
     ensures fits { IfOk result (λ s. DeedFits s.1) }
 {
     let at = line_moment(value)?;
-    let word = line_text(alloc, value, "do")?;
+    let word = line_text(alloc, value, LineMember::Do)?;
     let deed = deed_named(alloc, &word, value)?;
     Ok((at, deed))
 }
 
-/// The moment, in seconds since 1970, and the deed of a line. `BadLine` comes exactly where it has none.
+/// The moment, in seconds since 1970, and the deed of a line. `BadLine` comes exactly where it has none, with the first fault in the order in
+/// which the members are named here.
 ///
 /// A line is a JSON object with `at`, at most 253,402,300,799, `do`, and what the deed takes: `begin` and `patch` take `body`, an object that is a grant
 /// request or a modification (`gnap_objects::read_grant`); `finish` takes the strings `hash` and `reference`; `rotate` and `revoke` take `token`, a
@@ -242,7 +221,7 @@ pub fn read_line(alloc: Global, line: &[u8]) -> Result<(u64, Deed), LineFault>
         Err(e) => if e.is_memory() {
             Err(LineFault::OutOfMemory)
         } else {
-            Err(LineFault::BadLine)
+            Err(LineFault::BadLine(BadLine::NotJson))
         },
     }
 }

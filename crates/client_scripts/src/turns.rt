@@ -5,7 +5,8 @@ ghost use Rattle.client_scripts.specs.Starving.{is_memory};
 ghost use Rattle.client_scripts.specs.Turns.{HasScriptTurn};
 
 use crate::carrying::{carry_out, said_line};
-use crate::lines::{LineFault, read_line};
+use crate::line_faults::LineFault;
+use crate::lines::read_line;
 use bytes_and_lists::bytes::Bytes;
 use bytes_and_lists::memory::Mem;
 use gnap_client::{Client, ClientFault, Took};
@@ -57,7 +58,7 @@ pub fn script_line<L: Link>(
 {
     let (at, deed) = match read_line(alloc, line) {
         Ok(step) => step,
-        Err(LineFault::BadLine) => match Bytes::from_slice(alloc, b"bad line\n") {
+        Err(LineFault::BadLine(_)) => match Bytes::from_slice(alloc, b"bad line\n") {
             Ok(text) => return Some(LineSaid { text, fine: false }),
             Err(Mem) => return None,
         },
