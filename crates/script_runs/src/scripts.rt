@@ -6,6 +6,7 @@ ghost use Rattle.command_inputs.specs.LineRuns.{CountsPrint, RunsLines, is_last}
 ghost use Rattle.command_inputs.specs.Reading.{held_by};
 ghost use Rattle.command_inputs.specs.Ends.{CountsReads, CountsWrites, EndsAt, Took};
 
+use crate::line_hints::explain_line;
 use bytes_and_lists::bytes::Bytes;
 use client_scripts::script_line;
 use command_inputs::{After, Ended, LineEnd, LineReader, emptied, say};
@@ -17,12 +18,14 @@ use std::alloc::Global;
 // So many bytes of a line are looked at: all of them, since a source has no more.
 const SCRIPT_LINE_LIMIT: usize = 1_073_741_824;
 
-// Has the client do what the line says, and prints what is said. `fine` tells whether all lines were ok so far, this one with them.
-fn say_line<L: Link, O: Sink>(
+// Has the client do what the line of this number says, and prints what is said. `fine` tells whether all lines were ok so far, this one with them.
+fn say_line<L: Link, O: Sink, E: Sink>(
     alloc: Global,
     client: &mut Client,
     link: &mut L,
     out: &mut O,
+    err: &mut E,
+    number: u64,
     line: &Bytes,
     fine: &mut bool,
 ) -> After
@@ -36,6 +39,9 @@ fn say_line<L: Link, O: Sink>(
         }
         Some(said) => {
             *fine = both(*fine, said.fine);
+            if !said.fine {
+                explain_line(alloc, err, number, line.as_slice());
+            }
             say(out, &said.text)
         }
     }
@@ -63,13 +69,14 @@ fn is_behind_last(end: LineEnd, line: &Bytes) -> bool
 }
 
 // Has the client carry out the lines that the source has left.
-fn run_lines<L: Link, S: Source, O: Sink>(
+fn run_lines<L: Link, S: Source, O: Sink, E: Sink>(
     alloc: Global,
     client: &mut Client,
     link: &mut L,
     reader: &mut LineReader,
     source: &mut S,
     out: &mut O,
+    err: &mut E,
 ) -> Ended
     requires held { length (held_by reader.old) ≤ reader.old.taken }
     ensures runs { RunsLines (ScriptHad client.old (L.link link.old).asked client.new (L.link link.new).asked) EndsScript (held_by reader.old)
@@ -80,6 +87,7 @@ fn run_lines<L: Link, S: Source, O: Sink>(
 {
     let mut line = Bytes::new(alloc);
     let mut fine = true;
+    let mut number: u64 = 0;
     'lines: loop {
         let end = reader.next_line(source, &mut line, SCRIPT_LINE_LIMIT, true);
         if let Some(ended) = end.stopped() {
@@ -88,7 +96,8 @@ fn run_lines<L: Link, S: Source, O: Sink>(
         if is_behind_last(end, &line) {
             return ended_script(fine);
         }
-        match say_line(alloc, client, link, out, &line, &mut fine) {
+        number = number.saturating_add(1);
+        match say_line(alloc, client, link, out, err, number, &line, &mut fine) {
             After::On => {
                 if end.is_last() {
                     return ended_script(fine);
@@ -102,13 +111,15 @@ fn run_lines<L: Link, S: Source, O: Sink>(
 }
 
 /// Has the client carry out the lines of a source of which nothing was read, over a link that nothing was asked through, and prints a line for each.
-/// What stands behind the last LF is a line where it isn't empty.
-pub fn run_script<L: Link, S: Source, O: Sink>(
+/// What stands behind the last LF is a line where it isn't empty. Why a line is none is told on `err`, with its number and the name of the member that
+/// is at fault; whether that is written changes nothing else.
+pub fn run_script<L: Link, S: Source, O: Sink, E: Sink>(
     alloc: Global,
     client: &mut Client,
     link: &mut L,
     source: &mut S,
     out: &mut O,
+    err: &mut E,
 ) -> Ended
     requires fresh { (S.told source.old).taken ≡ [] }
     requires unasked { (L.link link.old).asked ≡ [] }
@@ -121,5 +132,5 @@ pub fn run_script<L: Link, S: Source, O: Sink>(
     ensures end { result ≡ Ended.Done → IsAtEnd (S.told source.new) }
 {
     let mut reader = LineReader::new(alloc);
-    run_lines(alloc, client, link, &mut reader, source, out)
+    run_lines(alloc, client, link, &mut reader, source, out, err)
 }
