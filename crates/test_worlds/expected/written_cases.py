@@ -35,22 +35,22 @@ FIELDS = {
 NONCES = ["VJLO6A4CATR0KRO", "MBDOFXG4Y5CVJCX821LH", "4IFWWIKYB2PQ6U56NL1", "https://server.example.com/tx"]
 
 FRONT_ALONE = '{"base":"https://a","front":"https://b","keys":[{"id":"f1","role":"front","secret":"x"}]}'
-NO_OBJECT = "it isn't one JSON object with whole numbers\n"
+NO_JSON = "it is no JSON at line 1, column 1\n"
 
 # The words, the text of the file f, and what a person is told.
 TOLD = [
     (["replay", "f"], "{}", "gnap: the first line of f is no setup: member `base` is missing\n"),
-    (["replay", "f"], FRONT_ALONE, "gnap: the first line of f is no setup: member `secret` isn't of its form in the key at place 0 of `keys`, counted from 0\n"),
-    (["replay", "f"], "[", "gnap: the first line of f is no setup: " + NO_OBJECT),
+    (["replay", "f"], FRONT_ALONE, "gnap: the first line of f is no setup: member `secret` isn't of its form: base64 with padding, of 16 to 64 bytes, in the key `f1` at place 0 of `keys`, counted from 0\n"),
+    (["replay", "f"], "[", "gnap: the first line of f is no setup: " + NO_JSON),
     (["replay", "g"], "", "gnap: g can't be opened or read\n"),
-    (["verify", "f", "0", "s"], "x", "gnap: f is no setup: " + NO_OBJECT),
+    (["verify", "f", "0", "s"], "x", "gnap: f is no setup: " + NO_JSON),
     (["verify", "s", "253402300799", "f"], "x", "gnap: the message in f is refused for what was printed\n"),
     (["sign", "g", "k", "0", "f"], "x", "gnap: g or f can't be opened or read\n"),
     (["sign", "s", "k", "0", "g"], "x", "gnap: s or g can't be opened or read\n"),
     (["field", "item", "f"], "1.", "gnap: f isn't a valid field\n"),
     (["as", "s", "b", "1", "1"], "x", "gnap: s or b can't be opened or read\n"),
     (["client", "f", "a", "s"], "{}", "gnap: f is no configuration: member `server` is missing\n"),
-    (["client", "f", "a", "s"], CONFIG_TEXT, "gnap: a line of s wasn't ok\n"),
+    (["client", "f", "a", "s"], CONFIG_TEXT, "gnap: line 1: member `at` is missing\ngnap: a line of s wasn't ok\n"),
     (["client", "g", "a", "f"], "x", "gnap: g, a or f can't be opened or read\n"),
     (["rs", "s", "a", "a", "1"], "x", "gnap: s is no setup: member `server` is missing\n"),
     (["rs", "f", "a", "b", "1"], latin(RS_TEXT.encode()), "gnap: f, b or a can't be opened or read\n"),
