@@ -109,5 +109,7 @@ impl<C: Core<M = Gnap> + Passes, N: Nonces> Core for Remembering<C, N> {
 
     ghost legal = { λ r h stands. stands.legal };
 
-    ghost renumbers = { λ r h k same stands. signed-renumbered SignedFits (C.stands r.core) (N.until r.nonces) (N.many r.nonces) (C.rules r.core) r.latest h k (λ a b. C.renumbers r.core a b) same stands };
+    ghost renumbers = { λ r h k same stands.
+        signed-renumbered SignedFits (C.stands r.core) (N.until r.nonces) (N.many r.nonces) (C.rules r.core) r.latest h k
+        (λ a b. C.renumbers r.core a b) same stands };
 }

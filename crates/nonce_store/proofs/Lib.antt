@@ -1,0 +1,2 @@
+mod Under
+mod Covered

@@ -1,0 +1,250 @@
+-- Trees under texts: what a change at one text leaves at any other, and what it makes of the nonces.
+use Rattle.std.proofs.Common.{◌≡◌, ◌∙◌, ℕ, ◌+◌, Bool, true, false, true≢false, cond, ◌&&◌, nat_le, List, refl, ap, sym, arith, Result, Ok, Err, subst, ◌∷◌, OnOk, OnErr, IfSome, is_some, [], Option, Some, None, if◌then◌else◌}
+use Rattle.std.specs.Option.{option_and_then, option_map, unwrap_or}
+use Rattle.std.specs.Global.{Vec}
+use Rattle.std.specs.List.{sum_by, All}
+use Rattle.std.specs.List.Sorted.{IsStrictlySortedBy}
+use Rattle.std.proofs.lemmas.List.Elements.{All-head, All-tail}
+use Rattle.std.proofs.lemmas.Map.Keys.{IsDistinct-from_sorted}
+use Rattle.std.proofs.lemmas.Map.Views.{All-values-set_value, All-values-insert_entry, All-values_from_lookup, IfSome-lookup_from_All}
+use Rattle.std.specs.Str.{bytes_eq}
+use Rattle.std.specs.Ordering.{is_eq, nat_cmp, eq_by_cmp}
+use Rattle.std.specs.Cmp.{IsTotalOrder, eq_by_cmp_equiv, on_total}
+use Rattle.std.specs.Cmp.Lexicographic.{slice_cmp, nat_list_cmp_total}
+use Rattle.std.specs.Map.{lookup, IsKeyTest, AreApart, KeepsOthers, values_of, keys_of, set_value, remove_entry}
+use Rattle.std.specs.BTreeMap.{BTreeMap, is_at, insert_entry, UpdatesBy, IsOrdered}
+use Rattle.std.proofs.lemmas.Bool.{le-leb}
+use Rattle.std.proofs.lemmas.List.Sums.{sum_by-cons}
+use Rattle.std.proofs.lemmas.Slice.Eq.{bytes_eq-Decides}
+use Rattle.std.proofs.lemmas.Map.Text.{is_eq-slice_cmp}
+use Rattle.std.proofs.lemmas.Map.Entries.{sum_by-set_value, sum_by-insert_entry, sum_by-remove_entry}
+use Rattle.signed_calls.specs.Remembering.{is_live_at}
+use Rattle.nonce_store.specs.Kept.{Untils, Keys, under, until_in, many_of, many_in, text_order, AreOrdered}
+
+pub text_total : IsTotalOrder text_order
+text_total = on_total (λ (v : Vec ℕ). v.items) nat_list_cmp_total
+
+other_entries : {K X : Type 0} (eq : K → K → Bool) (test : K → Bool) (old new : List (K × X)) → KeepsOthers eq test old new
+    → (other : K → Bool) → IsKeyTest eq other → AreApart test other → lookup other new ≡ lookup other old
+unfolding KeepsOthers
+other_entries eq test old new keeps = keeps
+
+flipped : (text q : List ℕ) (b : Bool) → bytes_eq text q ≡ false → bytes_eq q text ≡ b → bytes_eq q text ≡ false
+flipped text q true other t = absurd (true≢false (sym ((bytes_eq-Decides text q).1 (sym ((bytes_eq-Decides q text).0 t))) ∙ other))
+flipped text q false other t = t
+
+apart : (text q key : List ℕ) → bytes_eq text q ≡ false → is_eq (slice_cmp nat_cmp text key) ≡ true → is_eq (slice_cmp nat_cmp q key) ≡ false
+apart text q key other same =
+    let is : text ≡ key = (bytes_eq-Decides text key).0 (sym (is_eq-slice_cmp text key) ∙ same) in
+    is_eq-slice_cmp q key ∙ sym (ap (bytes_eq q) is) ∙ flipped text q (bytes_eq q text) other refl
+
+-- one text takes another value
+pub under_after : {X : Type 0} (old new : BTreeMap (Vec ℕ) X) (text : List ℕ) (value : Option X)
+    → UpdatesBy text_order (λ key. slice_cmp nat_cmp text key.items) old new value
+    → (q : List ℕ) → under new q ≡ cond (bytes_eq text q) value (under old q)
+under_after {X} old new text value updates q = by (bytes_eq text q) refl
+  where
+    by : (b : Bool) → bytes_eq text q ≡ b → under new q ≡ cond b value (under old q)
+    by true t = sym (ap (under new) ((bytes_eq-Decides text q).0 t)) ∙ updates.1
+    by false t = other_entries (eq_by_cmp text_order) (is_at (λ (key : Vec ℕ). slice_cmp nat_cmp text key.items)) old.entries new.entries updates.3
+        (λ key. is_eq (slice_cmp nat_cmp q key.items)) (λ x y. (eq_by_cmp_equiv nat_list_cmp_total).congr q x.items y.items) (λ key. apart text q key.items t)
+
+-- of one key a nonce takes another moment
+pub until_after : (old new : Keys) (key nonce : List ℕ) (untils : Untils) (until : Option ℕ)
+    → ((q : List ℕ) → under new q ≡ cond (bytes_eq key q) (Some untils) (under old q))
+    → ((q : List ℕ) → under untils q ≡ cond (bytes_eq nonce q) until (until_in old key q))
+    → (k n : List ℕ) → until_in new k n ≡ cond (bytes_eq key k && bytes_eq nonce n) until (until_in old k n)
+until_after old new key nonce untils until keys_are nonces_are k n =
+    ap (option_and_then (λ (u : Untils). under u n)) (keys_are k) ∙ by (bytes_eq key k) refl
+  where
+    by : (b : Bool) → bytes_eq key k ≡ b
+        → option_and_then (λ (u : Untils). under u n) (cond b (Some untils) (under old k)) ≡ cond (b && bytes_eq nonce n) until (until_in old k n)
+    by true t = nonces_are n ∙ ap (λ (x : List ℕ). cond (bytes_eq nonce n) until (until_in old x n)) ((bytes_eq-Decides key k).0 t)
+    by false t = refl
+
+-- of one key nothing changes
+pub until_same : (old new : Keys) (key : List ℕ) (was untils : Untils)
+    → ((q : List ℕ) → under new q ≡ cond (bytes_eq key q) (Some untils) (under old q)) → under old key ≡ Some was → untils.entries ≡ was.entries
+    → (k n : List ℕ) → until_in new k n ≡ until_in old k n
+until_same old new key was untils keys_are there same k n =
+    ap (option_and_then (λ (u : Untils). under u n)) (keys_are k) ∙ by (bytes_eq key k) refl
+  where
+    by : (b : Bool) → bytes_eq key k ≡ b → option_and_then (λ (u : Untils). under u n) (cond b (Some untils) (under old k)) ≡ until_in old k n
+    by true t = ap (lookup (λ (v : Vec ℕ). is_eq (slice_cmp nat_cmp n v.items))) same
+        ∙ sym (ap (option_and_then (λ (u : Untils). under u n)) (sym (ap (under old) ((bytes_eq-Decides key k).0 t)) ∙ there))
+    by false t = refl
+
+-- ---- a sum over the values
+
+pub sum_inserted : {X : Type 0} (f : X → ℕ) (old new : BTreeMap (Vec ℕ) X) (key : Vec ℕ) (value : X) → IsOrdered text_order old
+    → new.entries ≡ insert_entry text_order old.entries key value → under old key.items ≡ None
+    → sum_by f (values_of new.entries) ≡ sum_by f (values_of old.entries) + f value
+sum_inserted {X} f old new key value ordered is none =
+    let sums = sum_by-insert_entry f text_total old.entries key value ordered in
+    let new_is : sum_by f (values_of new.entries) ≡ sum_by f (values_of (insert_entry text_order old.entries key value)) = ap (λ (es : List (Vec ℕ × X)). sum_by f (values_of es)) is in
+    let nothing : unwrap_or (option_map f (lookup (is_at (text_order key)) old.entries)) 0 ≡ 0 = ap (λ (o : Option X). unwrap_or (option_map f o) 0) none in
+    omega (arith, sums, new_is, nothing)
+
+pub sum_written : {X : Type 0} (f : X → ℕ) (old new : BTreeMap (Vec ℕ) X) (text : List ℕ) (was value : X)
+    → new.entries ≡ set_value (is_at (λ (key : Vec ℕ). slice_cmp nat_cmp text key.items)) old.entries value → under old text ≡ Some was
+    → sum_by f (values_of new.entries) + f was ≡ sum_by f (values_of old.entries) + f value
+sum_written {X} f old new text was value is there =
+    ap (λ (es : List (Vec ℕ × X)). sum_by f (values_of es) + f was) is
+    ∙ sum_by-set_value f (is_at (λ (key : Vec ℕ). slice_cmp nat_cmp text key.items)) old.entries was value there
+
+pub sum_removed : {X : Type 0} (f : X → ℕ) (old new : BTreeMap (Vec ℕ) X) (text : List ℕ)
+    → new.entries ≡ remove_entry (is_at (λ (key : Vec ℕ). slice_cmp nat_cmp text key.items)) old.entries
+    → sum_by f (values_of new.entries) + unwrap_or (option_map f (under old text)) 0 ≡ sum_by f (values_of old.entries)
+sum_removed {X} f old new text is =
+    ap (λ (es : List (Vec ℕ × X)). sum_by f (values_of es) + unwrap_or (option_map f (under old text)) 0) is
+    ∙ sum_by-remove_entry f (is_at (λ (key : Vec ℕ). slice_cmp nat_cmp text key.items)) old.entries
+
+-- ---- the trees of keys and nonces
+
+pub on_ok_map : {A E : Type 0} (r : Result A E) (P Q : Type 0) → (P → Q) → OnOk r P → OnOk r Q
+on_ok_map (Ok x) P Q more is = more is
+on_ok_map (Err e) P Q more is = tt
+
+pub on_err_map : {A E : Type 0} (r : Result A E) (P Q : Type 0) → (P → Q) → OnErr r P → OnErr r Q
+on_err_map (Ok x) P Q more is = tt
+on_err_map (Err e) P Q more is = more is
+
+-- a key that is there takes other nonces
+pub until_set : (keys new : Keys) (key kept nonce : List ℕ) (was untils : Untils) (until : Option ℕ) → kept ≡ nonce → under keys key ≡ Some was
+    → UpdatesBy text_order (λ k. slice_cmp nat_cmp key k.items) keys new (Some untils)
+    → ((n : List ℕ) → under untils n ≡ cond (bytes_eq kept n) until (under was n))
+    → (k n : List ℕ) → until_in new k n ≡ cond (bytes_eq key k && bytes_eq nonce n) until (until_in keys k n)
+until_set keys new key kept nonce was untils until same there updates rows =
+    until_after keys new key nonce untils until (under_after keys new key (Some untils) updates) (λ q.
+    rows q ∙ ap (λ (x : List ℕ). cond (bytes_eq x q) until (under was q)) same
+    ∙ sym (ap (λ (o : Option Untils). cond (bytes_eq nonce q) until (option_and_then (λ (u : Untils). under u q) o)) there))
+
+pub many_set : (keys new : Keys) (key : List ℕ) (was untils : Untils) (end m : ℕ) → under keys key ≡ Some was
+    → new.entries ≡ set_value (is_at (λ (k : Vec ℕ). slice_cmp nat_cmp key k.items)) keys.entries untils
+    → many_of m untils ≡ many_of m was + (if nat_le m end then 1 else 0)
+    → many_in new m ≡ many_in keys m + (if nat_le m end then 1 else 0)
+many_set keys new key was untils end m there is more =
+    let all = sum_written (many_of m) keys new key was untils is there in
+    omega (arith, all, more)
+
+pub many_same : (keys new : Keys) (key : List ℕ) (was untils : Untils) → under keys key ≡ Some was
+    → new.entries ≡ set_value (is_at (λ (k : Vec ℕ). slice_cmp nat_cmp key k.items)) keys.entries untils
+    → untils.entries ≡ was.entries → (m : ℕ) → many_in new m ≡ many_in keys m
+many_same keys new key was untils there is same m =
+    let all = sum_written (many_of m) keys new key was untils is there in
+    let equal : many_of m untils ≡ many_of m was = ap (λ (es : List (Vec ℕ × ℕ)). sum_by (λ until. if nat_le m until then 1 else 0) (values_of es)) same in
+    omega (arith, all, equal)
+
+abbrev one_where : Bool → ℕ
+one_where b = if b then 1 else 0
+
+weight : (m : ℕ) (o : Option ℕ) → unwrap_or (option_map (λ until. one_where (nat_le m until)) o) 0 ≡ one_where (is_live_at m o)
+weight m None = refl
+weight m (Some until) = refl
+
+pub many_taken : (keys new : Keys) (key nonce : List ℕ) (was untils : Untils) → under keys key ≡ Some was
+    → new.entries ≡ set_value (is_at (λ (k : Vec ℕ). slice_cmp nat_cmp key k.items)) keys.entries untils
+    → untils.entries ≡ remove_entry (is_at (λ (k : Vec ℕ). slice_cmp nat_cmp nonce k.items)) was.entries
+    → (m : ℕ) → many_in new m + (if is_live_at m (until_in keys key nonce) then 1 else 0) ≡ many_in keys m
+many_taken keys new key nonce was untils there is removed m =
+    let all = sum_written (many_of m) keys new key was untils is there in
+    let less = sum_removed (λ until. if nat_le m until then 1 else 0) was untils nonce removed in
+    let one : unwrap_or (option_map (λ until. one_where (nat_le m until)) (under was nonce)) 0 ≡ one_where (is_live_at m (until_in keys key nonce))
+    = weight m (under was nonce) ∙ sym (ap (λ (o : Option Untils). one_where (is_live_at m (option_and_then (λ (u : Untils). under u nonce) o))) there) in
+    omega (arith, all, less, one)
+
+-- a key that isn't there comes with one nonce
+pub until_first : (keys new : Keys) (key kept nonce : List ℕ) (empty untils : Untils) (end : ℕ) → kept ≡ key → under keys key ≡ None → empty.entries ≡ []
+    → UpdatesBy text_order (λ k. slice_cmp nat_cmp kept k.items) keys new (Some untils)
+    → ((n : List ℕ) → under untils n ≡ cond (bytes_eq nonce n) (Some end) (under empty n))
+    → (k n : List ℕ) → until_in new k n ≡ cond (bytes_eq key k && bytes_eq nonce n) (Some end) (until_in keys k n)
+until_first keys new key kept nonce empty untils end same absent none updates rows =
+    until_after keys new key nonce untils (Some end)
+    (λ q. under_after keys new kept (Some untils) updates q ∙ ap (λ (x : List ℕ). cond (bytes_eq x q) (Some untils) (under keys q)) same) (λ q.
+    rows q ∙ ap (λ (es : List (Vec ℕ × ℕ)). cond (bytes_eq nonce q) (Some end) (lookup (λ (v : Vec ℕ). is_eq (slice_cmp nat_cmp q v.items)) es)) none
+    ∙ sym (ap (λ (o : Option Untils). cond (bytes_eq nonce q) (Some end) (option_and_then (λ (u : Untils). under u q) o)) absent))
+
+pub many_first : (keys new : Keys) (key : List ℕ) (kept : Vec ℕ) (empty untils : Untils) (end m : ℕ) → kept.items ≡ key → under keys key ≡ None → empty.entries ≡ []
+    → IsOrdered text_order keys → new.entries ≡ insert_entry text_order keys.entries kept untils
+    → many_of m untils ≡ many_of m empty + (if nat_le m end then 1 else 0)
+    → many_in new m ≡ many_in keys m + (if nat_le m end then 1 else 0)
+many_first keys new key kept empty untils end m same absent none ordered is more =
+    let all = sum_inserted (many_of m) keys new kept untils ordered is (ap (under keys) same ∙ absent) in
+    let nothing : many_of m empty ≡ 0 = ap (λ (es : List (Vec ℕ × ℕ)). sum_by (λ until. one_where (nat_le m until)) (values_of es)) none in
+    omega (arith, all, more, nothing)
+
+-- ---- the order of the keys, and of the nonces of each
+
+-- what is said of the nonces of each key
+abbrev All_ordered : List (Vec ℕ × Untils) → Type 0
+All_ordered es = All (λ (untils : Untils). IsOrdered text_order untils) (values_of es)
+
+pub ordered_set : (keys new : Keys) (test : Vec ℕ → Bool) (untils : Untils) → new.entries ≡ set_value test keys.entries untils
+    → IsOrdered text_order new → IsOrdered text_order untils → AreOrdered keys → AreOrdered new
+ordered_set keys new test untils is ordered of_key were =
+    (ordered, subst All_ordered (sym is) (All-values-set_value test (λ (u : Untils). IsOrdered text_order u) keys.entries untils were.1 of_key))
+
+pub ordered_first : (keys new : Keys) (kept : Vec ℕ) (untils : Untils) → new.entries ≡ insert_entry text_order keys.entries kept untils
+    → IsOrdered text_order new → IsOrdered text_order untils → AreOrdered keys → AreOrdered new
+ordered_first keys new kept untils is ordered of_key were =
+    (ordered, subst All_ordered (sym is) (All-values-insert_entry text_order kept untils (λ (u : Untils). IsOrdered text_order u) keys.entries were.1 of_key))
+
+pub ordered_same : (keys new : Keys) → new.entries ≡ keys.entries → AreOrdered keys → AreOrdered new
+ordered_same keys new is were = subst (λ (es : List (Vec ℕ × Untils)). IsStrictlySortedBy text_order (keys_of es) × All_ordered es) (sym is) were
+
+-- ---- where all are remembered
+
+same_sums : {X : Type 0} (f g : X → ℕ) (xs : List X) → All (λ x. f x ≡ g x) xs → sum_by f xs ≡ sum_by g xs
+same_sums f g [] all = refl
+same_sums {X} f g (x ∷ xs) all =
+    let head = All-head (λ (y : X). f y ≡ g y) x xs all in
+    let rest = same_sums f g xs (All-tail (λ (y : X). f y ≡ g y) x xs all) in
+    let of_f = sum_by-cons f x xs in
+    let of_g = sum_by-cons g x xs in
+    omega (arith, head, rest, of_f, of_g)
+
+each_found : {X : Type 0} (P : X → Type 0) (tree : BTreeMap (Vec ℕ) X) → IsOrdered text_order tree
+    → ((text : List ℕ) (x : X) → under tree text ≡ Some x → P x) → All P (values_of tree.entries)
+each_found {X} P tree ordered found =
+    All-values_from_lookup (eq_by_cmp_equiv text_total) P tree.entries (IsDistinct-from_sorted text_order (keys_of tree.entries) ordered)
+    (λ q. by q.items (under tree q.items) refl)
+  where
+    by : (text : List ℕ) (o : Option X) → under tree text ≡ o → IfSome o P
+    by text None is = tt
+    by text (Some x) is = found text x is
+
+pub all_counted : (keys : Keys) (m : ℕ) → AreOrdered keys → ((k n : List ℕ) → is_some (until_in keys k n) ≡ is_live_at m (until_in keys k n))
+    → many_in keys 0 ≡ many_in keys m
+all_counted keys m ordered live =
+    same_sums (many_of 0) (many_of m) (values_of keys.entries) (each_found (λ untils. many_of 0 untils ≡ many_of m untils) keys ordered.0 of_key)
+  where
+    one : (end : ℕ) → true ≡ nat_le m end → one_where (nat_le 0 end) ≡ one_where (nat_le m end)
+    one end is = ap one_where (le-leb 0 end (omega arith) ∙ is)
+
+    of_key : (key : List ℕ) (untils : Untils) → under keys key ≡ Some untils → many_of 0 untils ≡ many_of m untils
+    of_key key untils there =
+        same_sums (λ until. one_where (nat_le 0 until)) (λ until. one_where (nat_le m until)) (values_of untils.entries)
+        (each_found (λ until. one_where (nat_le 0 until) ≡ one_where (nat_le m until)) untils
+        (subst (λ o. IfSome o (λ (u : Untils). IsOrdered text_order u)) there
+        (IfSome-lookup_from_All (λ (u : Untils). IsOrdered text_order u) (λ (k : Vec ℕ). is_eq (slice_cmp nat_cmp key k.items)) keys.entries ordered.1))
+        (λ nonce end is. one end
+        (sym (ap is_some (ap (option_and_then (λ (u : Untils). under u nonce)) there ∙ is)) ∙ live key nonce
+        ∙ ap (is_live_at m) (ap (option_and_then (λ (u : Untils). under u nonce)) there ∙ is))))
+
+live_from_0 : (o : Option ℕ) → is_live_at 0 o ≡ is_some o
+live_from_0 None = refl
+live_from_0 (Some end) = le-leb 0 end (omega arith)
+
+pub counted_more : (keys new : Keys) (count end : ℕ) → count ≡ many_in keys 0
+    → ((m : ℕ) → many_in new m ≡ many_in keys m + (if nat_le m end then 1 else 0)) → count + 1 ≡ many_in new 0
+counted_more keys new count end was more =
+    let now = more 0 in
+    let one : one_where (nat_le 0 end) ≡ 1 = ap one_where (le-leb 0 end (omega arith)) in
+    omega (arith, was, now, one)
+
+pub counted_less : (keys new : Keys) (key nonce : List ℕ) (count : ℕ) (there b : Bool) → there ≡ is_some (until_in keys key nonce) → there ≡ b → count ≡ many_in keys 0
+    → ((m : ℕ) → many_in new m + (if is_live_at m (until_in keys key nonce) then 1 else 0) ≡ many_in keys m) → many_in new 0 + one_where b ≡ count
+counted_less keys new key nonce count there b is same was less =
+    let now = less 0 in
+    let one : one_where (is_live_at 0 (until_in keys key nonce)) ≡ one_where b = ap one_where (live_from_0 (until_in keys key nonce) ∙ sym is ∙ same) in
+    omega (arith, was, now, one)

@@ -1,0 +1,145 @@
+//! The nonces of each key, in two levels of trees: clients choose nonces, and could choose such as collide under a hash.
+ghost use Rattle.std.specs.Prelude.{◌≡◌, ℕ, ◌+◌, ◌&&◌, List, if◌then◌else◌, OnOk, OnErr, nat_le, is_some, Some, None};
+ghost use Rattle.std.specs.BTreeMap.{IsOrdered};
+ghost use Rattle.gnap_model.specs.Common.{same_text};
+ghost use Rattle.signed_calls.specs.Remembering.{is_live_at};
+ghost use Rattle.nonce_store.specs.Kept.{under, until_in, many_of, many_in, text_order, AreOrdered};
+
+use bytes_and_lists::memory::Mem;
+use std::alloc::Global;
+use std::collections::BTreeMap;
+
+/// Of one key, up to which moment each nonce is remembered.
+pub type Untils = BTreeMap<Vec<u8>, u64>;
+
+/// The nonces of each key.
+pub type Keys = BTreeMap<Vec<u8>, Untils>;
+
+// Puts in a nonce that isn't there. An `Err` changes nothing.
+fn put_under(untils: &mut Untils, nonce: Vec<u8>, end: u64) -> Result<(), Mem>
+    requires { under untils.old nonce.items ≡ None }
+    ensures rows { OnOk result ((n : List ℕ) → under untils.new n ≡ (if same_text nonce.items n then Some end else under untils.old n)) }
+    ensures counts { OnOk result ((m : ℕ) → many_of m untils.new ≡ many_of m untils.old + (if nat_le m end then 1 else 0)) }
+    ensures err { OnErr result (untils.new.entries ≡ untils.old.entries) }
+    ensures ordered { IsOrdered text_order untils.new }
+{
+    untils.insert(nonce, end)?;
+    Ok(())
+}
+
+// Puts in a key with one nonce. An `Err` changes nothing.
+fn put_first(
+    alloc: Global,
+    keys: &mut Keys,
+    key: &[u8],
+    nonce: Vec<u8>,
+    end: u64,
+) -> Result<(), Mem>
+    requires { under keys.old key.now ≡ None }
+    ensures rows { OnOk result ((k n : List ℕ) → until_in keys.new k n
+        ≡ (if same_text key.now k && same_text nonce.items n then Some end else until_in keys.old k n)) }
+    ensures counts { OnOk result ((m : ℕ) → many_in keys.new m ≡ many_in keys.old m + (if nat_le m end then 1 else 0)) }
+    ensures err { OnErr result (keys.new.entries ≡ keys.old.entries) }
+    ensures ordered { AreOrdered keys.old → AreOrdered keys.new }
+{
+    let mut untils = BTreeMap::new(alloc);
+    put_under(&mut untils, nonce, end)?;
+    keys.insert(Vec::from_slice(alloc, key)?, untils)?;
+    Ok(())
+}
+
+// Puts in a nonce that isn't there. An `Err` changes nothing.
+fn put_in(alloc: Global, keys: &mut Keys, key: &[u8], nonce: &[u8], end: u64) -> Result<(), Mem>
+    requires { until_in keys.old key.now nonce.now ≡ None }
+    ensures rows { OnOk result ((k n : List ℕ) → until_in keys.new k n
+        ≡ (if same_text key.now k && same_text nonce.now n then Some end else until_in keys.old k n)) }
+    ensures counts { OnOk result ((m : ℕ) → many_in keys.new m ≡ many_in keys.old m + (if nat_le m end then 1 else 0)) }
+    ensures err { OnErr result (((k n : List ℕ) → until_in keys.new k n ≡ until_in keys.old k n) × ((m : ℕ) → many_in keys.new m ≡ many_in keys.old m)) }
+    ensures ordered { AreOrdered keys.old → AreOrdered keys.new }
+{
+    let kept = Vec::from_slice(alloc, nonce)?;
+    match keys.get_mut(key) {
+        Some(untils) => put_under(untils, kept, end),
+        None => put_first(alloc, keys, key, kept, end),
+    }
+}
+
+// Takes the nonce out, and says whether it was there.
+fn take_out(keys: &mut Keys, key: &[u8], nonce: &[u8]) -> bool
+    ensures there { result ≡ is_some (until_in keys.old key.now nonce.now) }
+    ensures rows { (k n : List ℕ) → until_in keys.new k n ≡ (if same_text key.now k && same_text nonce.now n then None else until_in keys.old k n) }
+    ensures counts { (m : ℕ) → many_in keys.new m + (if is_live_at m (until_in keys.old key.now nonce.now) then 1 else 0) ≡ many_in keys.old m }
+    ensures ordered { AreOrdered keys.old → AreOrdered keys.new }
+{
+    match keys.get_mut(key) {
+        Some(untils) => untils.remove(nonce).is_some(),
+        None => false,
+    }
+}
+
+/// The nonces of each key, and how many there are. A key whose nonces are all taken out keeps its place.
+#[derive(Drop)]
+pub struct KeyedNonces {
+    keys: Keys,
+    count: usize,
+    ghost counted: { count ≡ many_in keys 0 },
+    ghost ordered: { ∥ AreOrdered keys ∥₁ },
+}
+
+impl KeyedNonces {
+    /// No nonces. Takes no memory.
+    pub fn new(alloc: Global) -> KeyedNonces
+        ensures none { (k n : List ℕ) → until_in result.keys k n ≡ None }
+        ensures many { (m : ℕ) → many_in result.keys m ≡ 0 }
+    {
+        KeyedNonces {
+            keys: BTreeMap::new(alloc),
+            count: 0,
+        }
+    }
+
+    /// Up to which moment the key's nonce is remembered.
+    pub fn until(&self, key: &[u8], nonce: &[u8]) -> Option<u64>
+        ensures { result ≡ until_in self.now.keys key.now nonce.now }
+    {
+        let untils = self.keys.get(key)?;
+        untils.get(nonce).copied()
+    }
+
+    /// How many there are, which is how many are remembered at a moment at which all are.
+    pub fn count(&self) -> usize
+        ensures { (m : ℕ) → ((k n : List ℕ) → is_some (until_in self.now.keys k n) ≡ is_live_at m (until_in self.now.keys k n))
+            → result ≡ many_in self.now.keys m }
+    {
+        self.count
+    }
+
+    /// Puts in a nonce that isn't there. An `Err` changes nothing.
+    pub fn put(&mut self, alloc: Global, key: &[u8], nonce: &[u8], end: u64) -> Result<(), Mem>
+        requires { until_in self.old.keys key.now nonce.now ≡ None }
+        ensures rows { OnOk result ((k n : List ℕ) → until_in self.new.keys k n
+            ≡ (if same_text key.now k && same_text nonce.now n then Some end else until_in self.old.keys k n)) }
+        ensures counts { OnOk result ((m : ℕ) → many_in self.new.keys m ≡ many_in self.old.keys m + (if nat_le m end then 1 else 0)) }
+        ensures err { OnErr result (((k n : List ℕ) → until_in self.new.keys k n ≡ until_in self.old.keys k n)
+            × ((m : ℕ) → many_in self.new.keys m ≡ many_in self.old.keys m)) }
+    {
+        if self.count == usize::MAX {
+            return Err(Mem);
+        }
+        put_in(alloc, &mut self.keys, key, nonce, end)?;
+        self.count += 1;
+        Ok(())
+    }
+
+    /// Takes the nonce out, where it is there.
+    pub fn take(&mut self, key: &[u8], nonce: &[u8])
+        ensures rows { (k n : List ℕ) → until_in self.new.keys k n
+            ≡ (if same_text key.now k && same_text nonce.now n then None else until_in self.old.keys k n) }
+        ensures counts { (m : ℕ) → many_in self.new.keys m + (if is_live_at m (until_in self.old.keys key.now nonce.now) then 1 else 0)
+            ≡ many_in self.old.keys m }
+    {
+        if take_out(&mut self.keys, key, nonce) {
+            self.count -= 1;
+        }
+    }
+}
