@@ -1,5 +1,5 @@
 use Rattle.signed_calls.proofs.RememberingSteps.{signed-nil}
-use Rattle.remembering_core.specs.SignedGnap.{SignedFits}
+use Rattle.grant_machine.specs.Gnap.{SignedFits}
 use Rattle.remembering_core.proofs.remembering.Remembering.new.Goals as goal
 
 pub returns-clause-empty : goal.returns-clause-empty

@@ -1,24 +1,11 @@
-//! What the core is made of.
-ghost use Rattle.std.specs.Prelude.{◌≡◌, ◌≤◌, ℕ, List, is_some, IfOk, OnErr};
+//! What keeps the nonces that are remembered.
+ghost use Rattle.std.specs.Prelude.{◌≡◌, ℕ, List, is_some, IfOk, OnErr};
 ghost use Rattle.std.specs.declared.option.Option.{Option};
 ghost use Rattle.std.specs.declared.option.Option.TheVariants.{None, Some};
-ghost use Rattle.histories.specs.History.{last_moment};
-ghost use Rattle.histories.specs.Steps.{Lapses};
 ghost use Rattle.signed_calls.specs.Remembering.{is_live_at, IsSwept, HasOneMore, HasOneLess};
 
 use bytes_and_lists::bytes::Bytes;
 use bytes_and_lists::memory::Mem;
-use histories::machine::Core;
-
-/// A core that can let time go on without a call, and takes no memory for it.
-pub trait Passes: Core {
-    /// Stands for the history with a lapse at this moment.
-    fn pass(&mut self, moment: u64)
-        requires in_time { moment ≤ last_moment }
-        ensures rules { Self.rules self.new ≡ Self.rules self.old }
-        ensures lapses { (h : _) (draw : List ℕ) → Self.stands self.old h
-            → Lapses Self.M.law (Self.rules self.old) h moment draw (Self.stands self.new) };
-}
 
 /// The nonces that are remembered.
 pub trait Nonces {
