@@ -1,5 +1,5 @@
 //! A core that remembers nonces, over a core that doesn't.
-ghost use Rattle.std.specs.Prelude.{◌≡◌, ℕ, max, List, [], false, count_by};
+ghost use Rattle.std.specs.Prelude.{◌≡◌, ℕ, max, List, [], false, count_by, None};
 ghost use Rattle.histories.specs.History.{now, notes_of};
 ghost use Rattle.signed_calls.specs.declared.signed.SignedNote.{SignedNote};
 ghost use Rattle.signed_calls.specs.Marks.{SignedEvent, is_remembered};
@@ -46,7 +46,8 @@ impl<C: Core<M = Grants> + Passes, N: Nonces> Remembering<C, N> {
     /// The machine with marks over a core of the machine without. Where that stands for the empty history and no nonce is remembered, so does this.
     pub fn new(core: C, nonces: N) -> Remembering<C, N>
         ensures rules { ⟦<Remembering<C, N> as Core>⟧.rules result ≡ C.rules core }
-        ensures empty { C.stands core [] → TellsOf (N.until nonces) (N.many nonces) [] 0 → ⟦<Remembering<C, N> as Core>⟧.stands result [] }
+        ensures empty { C.stands core [] → ((k n : List ℕ) → N.until nonces k n ≡ None) → ((m : ℕ) → N.many nonces m ≡ 0)
+            → ⟦<Remembering<C, N> as Core>⟧.stands result [] }
     {
         Remembering {
             core,

@@ -1,5 +1,5 @@
 use Rattle.table_core.proofs.PlanLemmas.{carried_ok, counted_few}
-use Rattle.table_core.proofs.table_core.answer_by_plan.Goals as goal
+use Rattle.table_core.proofs.row_core.answer_by_plan.Goals as goal
 
 pub plan_call-requires-clause-few : goal.plan_call-requires-clause-few
 plan_call-requires-clause-few c = c.requires.fits.0

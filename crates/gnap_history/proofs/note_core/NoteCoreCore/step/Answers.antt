@@ -4,7 +4,7 @@ use Rattle.histories.specs.ByNotes.{answers-by_notes, lapses-by_notes}
 use Rattle.gnap_model.specs.Answer.{gnap_answer}
 use Rattle.gnap_model.specs.declared.calls.Call.TheVariants.{Lapse}
 use Rattle.grant_machine.specs.Gnap.{GnapFits}
-use Rattle.gnap_history.proofs.list_core.ListCoreCore.step.Goals as goal
+use Rattle.gnap_history.proofs.note_core.NoteCoreCore.step.Goals as goal
 
 pub returns-clause-ok : goal.returns-clause-ok
 returns-clause-ok c =

@@ -1,4 +1,4 @@
-use Rattle.gnap_history.proofs.list_core.answer_call.Goals as goal
+use Rattle.gnap_history.proofs.note_core.answer_call.Goals as goal
 
 pub returns-in-Continue : goal.returns-in-Continue
 returns-in-Continue c = rw c.in-Continue.is c.continue_grant.ensures

@@ -1,7 +1,7 @@
 use Rattle.std.proofs.Common.{subst, sym}
 use Rattle.gnap_history.specs.Terms.{AskForFew}
 use Rattle.gnap_history.proofs.Terms.{answer_few}
-use Rattle.gnap_history.proofs.list_core.enter_call.Goals as goal
+use Rattle.gnap_history.proofs.note_core.enter_call.Goals as goal
 
 pub append-requires : goal.append-requires
 append-requires c =

@@ -3,7 +3,7 @@ use Rattle.std.proofs.lemmas.Result.{IfOk-weaker, on_err_weaker}
 use Rattle.gnap_tables.specs.ActionsByRows.{row_supply}
 use Rattle.table_core.specs.CallEffects.{tables_in}
 use Rattle.table_core.proofs.PlannedCalls.{planned_else, frugal_unplanned}
-use Rattle.table_core.proofs.table_core.answer_call.Goals as goal
+use Rattle.table_core.proofs.row_core.answer_call.Goals as goal
 
 pub returns-in-Introspect-clause-ok : goal.returns-in-Introspect-clause-ok
 returns-in-Introspect-clause-ok c =
