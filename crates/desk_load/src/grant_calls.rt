@@ -1,6 +1,6 @@
 //! The calls that put a grant through.
 ghost use Rattle.std.specs.Prelude.{◌≡◌, option_map, codes, IfOk};
-ghost use Rattle.desk_load.specs.LoadCalls.{photos_request, token_in, value_of, manage_of, door_in, opening_call, question_about, rotation_of, cancellation_of};
+ghost use Rattle.desk_load.specs.LoadCalls.{photos_request, token_in, value_of, manage_of, door_in, opening_call, question_about, rotation_of, cancellation_of, mark_at, marked, unmarked};
 
 use crate::setup::reference_to;
 use bytes_and_lists::bytes::Bytes;
@@ -8,7 +8,12 @@ use bytes_and_lists::memory::Mem;
 use bytes_and_lists::seq::Seq;
 use gnap_model::calls::{Call, Reply, TokenOut};
 use gnap_model::objects::{Ask, GrantRequest};
+use itoa::Buffer;
+use signed_calls::signed::{Mark, Signed};
 use std::alloc::Global;
+
+/// The moment of all calls, and of the client's signatures.
+pub const MOMENT: u64 = 1_000_000;
 
 fn token_in(reply: &Reply) -> Option<&TokenOut>
     ensures { option_map (λ t. t.now) result ≡ token_in reply.now }
@@ -111,4 +116,34 @@ pub fn cancellation_of(alloc: Global, reply: &Reply) -> Result<Call, Mem>
         key: Bytes::from_slice(alloc, b"c1")?,
         value: door_in(alloc, reply)?,
     })
+}
+
+// The mark of the client's call with this place among those of a grant.
+fn mark_at(alloc: Global, grant: u32, place: u32) -> Result<Mark, Mem>
+    ensures { IfOk result (λ mark. mark ≡ mark_at grant place) }
+{
+    let mut nonce = Bytes::from_slice(alloc, Buffer::new().format(grant).as_bytes())?;
+    nonce.push(b'-')?;
+    nonce.extend(Buffer::new().format(place).as_bytes())?;
+    Ok(Mark {
+        nonce,
+        created: MOMENT,
+    })
+}
+
+/// A call of the client, with its place among those of a grant.
+pub fn marked(alloc: Global, grant: u32, place: u32, call: Call) -> Result<Signed, Mem>
+    ensures call { IfOk result (λ signed. signed ≡ marked grant place call) }
+{
+    Ok(Signed {
+        mark: Some(mark_at(alloc, grant, place)?),
+        call,
+    })
+}
+
+/// A question of the resource server.
+pub fn unmarked(call: Call) -> Signed
+    ensures { result ≡ unmarked call }
+{
+    Signed { mark: None, call }
 }

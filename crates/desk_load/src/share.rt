@@ -4,7 +4,9 @@ ghost use Rattle.desk_load.specs.Loads.{HasRoom, Asks, PutsThrough, IsPutThrough
 ghost use Rattle.desk_load.specs.Tallies.{counted_in, none_counted};
 
 use crate::asking::ask;
-use crate::grant_calls::{cancellation_of, opening_call, question_about, rotation_of};
+use crate::grant_calls::{
+    cancellation_of, marked, opening_call, question_about, rotation_of, unmarked,
+};
 use crate::tally::Tally;
 use crate::words::Words;
 use bytes_and_lists::memory::Mem;
@@ -13,6 +15,13 @@ use grant_machine::Gnap;
 use histories::machine::Desk;
 use std::alloc::Global;
 
+// The places of the client's calls among those of a grant.
+const OPENING: u32 = 1;
+
+const ROTATION: u32 = 3;
+
+const CANCELLATION: u32 = 6;
+
 // Ends a grant where that is to be, and asks about its token once more.
 fn end_grant<D: Desk<M = Gnap>>(
     alloc: Global,
@@ -20,6 +29,7 @@ fn end_grant<D: Desk<M = Gnap>>(
     words: &mut Words,
     tally: &mut Tally,
     ends: bool,
+    grant: u32,
     opened: &Reply,
     rotated: &Reply,
 ) -> Result<(), Mem>
@@ -29,7 +39,7 @@ fn end_grant<D: Desk<M = Gnap>>(
     ensures number { D.number desk.new ≡ D.number desk.old }
     ensures home { D.home desk.new ≡ D.home desk.old }
     ensures ends { IfOk result (λ _. (h : _) → D.seen desk.old h
-        → PutsThrough (EndsGrant ends opened.now rotated.now) (D.number desk.old) (D.seen desk.new) h tally.old tally.new) }
+        → PutsThrough (EndsGrant ends grant opened.now rotated.now) (D.number desk.old) (D.seen desk.new) h tally.old tally.new) }
     ensures room { IsOk result → (m : ℕ) → HasRoom (D.number desk.old) (D.seen desk.old) (m + 2)
         → HasRoom (D.number desk.new) (D.seen desk.new) m }
     ensures most { counted_in tally.new ≤ counted_in tally.old + 2 }
@@ -37,8 +47,14 @@ fn end_grant<D: Desk<M = Gnap>>(
     if !ends {
         return Ok(());
     }
-    ask(desk, words, tally, cancellation_of(alloc, opened)?)?;
-    ask(desk, words, tally, question_about(alloc, rotated)?)?;
+    let cancellation = marked(alloc, grant, CANCELLATION, cancellation_of(alloc, opened)?)?;
+    ask(desk, words, tally, cancellation)?;
+    ask(
+        desk,
+        words,
+        tally,
+        unmarked(question_about(alloc, rotated)?),
+    )?;
     Ok(())
 }
 
@@ -49,6 +65,7 @@ fn put_through<D: Desk<M = Gnap>>(
     words: &mut Words,
     tally: &mut Tally,
     ends: bool,
+    grant: u32,
 ) -> Result<(), Mem>
     requires room { HasRoom (D.number desk.old) (D.seen desk.old) 7 }
     requires few { counted_in tally.old + 7 < 2 ^ 64 }
@@ -56,17 +73,34 @@ fn put_through<D: Desk<M = Gnap>>(
     ensures number { D.number desk.new ≡ D.number desk.old }
     ensures home { D.home desk.new ≡ D.home desk.old }
     ensures puts { IfOk result (λ _. (h : _) → D.seen desk.old h
-        → PutsThrough (IsPutThrough ends) (D.number desk.old) (D.seen desk.new) h tally.old tally.new) }
+        → PutsThrough (IsPutThrough ends grant) (D.number desk.old) (D.seen desk.new) h tally.old tally.new) }
     ensures room { IsOk result → (m : ℕ) → HasRoom (D.number desk.old) (D.seen desk.old) (m + 7)
         → HasRoom (D.number desk.new) (D.seen desk.new) m }
     ensures most { counted_in tally.new ≤ counted_in tally.old + 7 }
 {
-    let opened = ask(desk, words, tally, opening_call(alloc)?)?;
-    ask(desk, words, tally, question_about(alloc, &opened)?)?;
-    let rotated = ask(desk, words, tally, rotation_of(alloc, &opened)?)?;
-    ask(desk, words, tally, question_about(alloc, &opened)?)?;
-    ask(desk, words, tally, question_about(alloc, &rotated)?)?;
-    end_grant(alloc, desk, words, tally, ends, &opened, &rotated)
+    let opening = marked(alloc, grant, OPENING, opening_call(alloc)?)?;
+    let opened = ask(desk, words, tally, opening)?;
+    ask(
+        desk,
+        words,
+        tally,
+        unmarked(question_about(alloc, &opened)?),
+    )?;
+    let rotation = marked(alloc, grant, ROTATION, rotation_of(alloc, &opened)?)?;
+    let rotated = ask(desk, words, tally, rotation)?;
+    ask(
+        desk,
+        words,
+        tally,
+        unmarked(question_about(alloc, &opened)?),
+    )?;
+    ask(
+        desk,
+        words,
+        tally,
+        unmarked(question_about(alloc, &rotated)?),
+    )?;
+    end_grant(alloc, desk, words, tally, ends, grant, &opened, &rotated)
 }
 
 // Puts a grant through where it is the worker's. Each grant of an even number is ended.
@@ -90,7 +124,7 @@ fn do_part<D: Desk<M = Gnap>>(
     ensures most { counted_in tally.new ≤ counted_in tally.old + 7 }
 {
     if mine {
-        return put_through(alloc, desk, words, tally, grant % 2 == 0);
+        return put_through(alloc, desk, words, tally, grant % 2 == 0, grant);
     }
     Ok(())
 }
