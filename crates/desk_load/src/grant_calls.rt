@@ -1,6 +1,6 @@
 //! The calls that put a grant through.
 ghost use Rattle.std.specs.Prelude.{◌≡◌, option_map, codes, IfOk};
-ghost use Rattle.desk_load.specs.LoadCalls.{photos_request, token_in, value_of, manage_of, door_in, opening_call, question_about, rotation_of, cancellation_of, mark_at, marked, unmarked};
+ghost use Rattle.desk_load.specs.LoadCalls.{photos_request, token_in, value_of, manage_of, door_in, opening_call, question_about, rotation_of, cancellation_of, mark_at, marked, unmarked, opening_place, rotation_place, cancellation_place};
 
 use crate::setup::reference_to;
 use bytes_and_lists::bytes::Bytes;
@@ -14,6 +14,13 @@ use std::alloc::Global;
 
 /// The moment of all calls, and of the client's signatures.
 pub const MOMENT: u64 = 1_000_000;
+
+// The places of the client's calls among all calls of a grant.
+const OPENING: u32 = 1;
+
+const ROTATION: u32 = 3;
+
+const CANCELLATION: u32 = 6;
 
 fn token_in(reply: &Reply) -> Option<&TokenOut>
     ensures { option_map (λ t. t.now) result ≡ token_in reply.now }
@@ -74,50 +81,6 @@ fn photos_request(alloc: Global) -> Result<GrantRequest, Mem>
     })
 }
 
-/// The client asks for a token for photos.
-pub fn opening_call(alloc: Global) -> Result<Call, Mem>
-    ensures call { IfOk result (λ call. call ≡ opening_call) }
-{
-    Ok(Call::Begin {
-        key: Bytes::from_slice(alloc, b"c1")?,
-        request: photos_request(alloc)?,
-        not_after: None,
-    })
-}
-
-/// The resource server asks about the token of a reply.
-pub fn question_about(alloc: Global, reply: &Reply) -> Result<Call, Mem>
-    ensures call { IfOk result (λ call. call ≡ question_about reply.now) }
-{
-    Ok(Call::Introspect {
-        server: Bytes::from_slice(alloc, b"r1")?,
-        value: value_of(alloc, token_in(reply))?,
-        binding: None,
-        wanted: None,
-    })
-}
-
-/// The client exchanges the token of a reply.
-pub fn rotation_of(alloc: Global, reply: &Reply) -> Result<Call, Mem>
-    ensures call { IfOk result (λ call. call ≡ rotation_of reply.now) }
-{
-    Ok(Call::Rotate {
-        key: Bytes::from_slice(alloc, b"c1")?,
-        value: manage_of(alloc, token_in(reply))?,
-        new_key: None,
-    })
-}
-
-/// The client ends the grant of a reply.
-pub fn cancellation_of(alloc: Global, reply: &Reply) -> Result<Call, Mem>
-    ensures call { IfOk result (λ call. call ≡ cancellation_of reply.now) }
-{
-    Ok(Call::Cancel {
-        key: Bytes::from_slice(alloc, b"c1")?,
-        value: door_in(alloc, reply)?,
-    })
-}
-
 // The mark of the client's call with this place among those of a grant.
 fn mark_at(alloc: Global, grant: u32, place: u32) -> Result<Mark, Mem>
     ensures { IfOk result (λ mark. mark ≡ mark_at grant place) }
@@ -131,9 +94,9 @@ fn mark_at(alloc: Global, grant: u32, place: u32) -> Result<Mark, Mem>
     })
 }
 
-/// A call of the client, with its place among those of a grant.
-pub fn marked(alloc: Global, grant: u32, place: u32, call: Call) -> Result<Signed, Mem>
-    ensures call { IfOk result (λ signed. signed ≡ marked grant place call) }
+// A call of the client, with its mark.
+fn marked(alloc: Global, grant: u32, place: u32, call: Call) -> Result<Signed, Mem>
+    ensures { IfOk result (λ signed. signed ≡ marked grant place call) }
 {
     Ok(Signed {
         mark: Some(mark_at(alloc, grant, place)?),
@@ -141,9 +104,50 @@ pub fn marked(alloc: Global, grant: u32, place: u32, call: Call) -> Result<Signe
     })
 }
 
-/// A question of the resource server.
-pub fn unmarked(call: Call) -> Signed
-    ensures { result ≡ unmarked call }
+/// The client asks for a token for photos, in the grant with this number.
+pub fn opening_call(alloc: Global, grant: u32) -> Result<Signed, Mem>
+    ensures call { IfOk result (λ signed. signed ≡ marked grant opening_place opening_call) }
 {
-    Signed { mark: None, call }
+    let call = Call::Begin {
+        key: Bytes::from_slice(alloc, b"c1")?,
+        request: photos_request(alloc)?,
+        not_after: None,
+    };
+    marked(alloc, grant, OPENING, call)
+}
+
+/// The resource server asks about the token of a reply.
+pub fn question_about(alloc: Global, reply: &Reply) -> Result<Signed, Mem>
+    ensures call { IfOk result (λ signed. signed ≡ unmarked (question_about reply.now)) }
+{
+    let call = Call::Introspect {
+        server: Bytes::from_slice(alloc, b"r1")?,
+        value: value_of(alloc, token_in(reply))?,
+        binding: None,
+        wanted: None,
+    };
+    Ok(Signed { mark: None, call })
+}
+
+/// The client exchanges the token of a reply.
+pub fn rotation_of(alloc: Global, grant: u32, reply: &Reply) -> Result<Signed, Mem>
+    ensures call { IfOk result (λ signed. signed ≡ marked grant rotation_place (rotation_of reply.now)) }
+{
+    let call = Call::Rotate {
+        key: Bytes::from_slice(alloc, b"c1")?,
+        value: manage_of(alloc, token_in(reply))?,
+        new_key: None,
+    };
+    marked(alloc, grant, ROTATION, call)
+}
+
+/// The client ends the grant of a reply.
+pub fn cancellation_of(alloc: Global, grant: u32, reply: &Reply) -> Result<Signed, Mem>
+    ensures call { IfOk result (λ signed. signed ≡ marked grant cancellation_place (cancellation_of reply.now)) }
+{
+    let call = Call::Cancel {
+        key: Bytes::from_slice(alloc, b"c1")?,
+        value: door_in(alloc, reply)?,
+    };
+    marked(alloc, grant, CANCELLATION, call)
 }

@@ -4,9 +4,7 @@ ghost use Rattle.desk_load.specs.Loads.{HasRoom, Asks, PutsThrough, IsPutThrough
 ghost use Rattle.desk_load.specs.Tallies.{counted_in, none_counted};
 
 use crate::asking::ask;
-use crate::grant_calls::{
-    cancellation_of, marked, opening_call, question_about, rotation_of, unmarked,
-};
+use crate::grant_calls::{cancellation_of, opening_call, question_about, rotation_of};
 use crate::tally::Tally;
 use crate::words::Words;
 use bytes_and_lists::memory::Mem;
@@ -14,13 +12,6 @@ use gnap_model::calls::Reply;
 use grant_machine::Gnap;
 use histories::machine::Desk;
 use std::alloc::Global;
-
-// The places of the client's calls among those of a grant.
-const OPENING: u32 = 1;
-
-const ROTATION: u32 = 3;
-
-const CANCELLATION: u32 = 6;
 
 // Ends a grant where that is to be, and asks about its token once more.
 fn end_grant<D: Desk<M = Gnap>>(
@@ -47,14 +38,8 @@ fn end_grant<D: Desk<M = Gnap>>(
     if !ends {
         return Ok(());
     }
-    let cancellation = marked(alloc, grant, CANCELLATION, cancellation_of(alloc, opened)?)?;
-    ask(desk, words, tally, cancellation)?;
-    ask(
-        desk,
-        words,
-        tally,
-        unmarked(question_about(alloc, rotated)?),
-    )?;
+    ask(desk, words, tally, cancellation_of(alloc, grant, opened)?)?;
+    ask(desk, words, tally, question_about(alloc, rotated)?)?;
     Ok(())
 }
 
@@ -78,28 +63,11 @@ fn put_through<D: Desk<M = Gnap>>(
         → HasRoom (D.number desk.new) (D.seen desk.new) m }
     ensures most { counted_in tally.new ≤ counted_in tally.old + 7 }
 {
-    let opening = marked(alloc, grant, OPENING, opening_call(alloc)?)?;
-    let opened = ask(desk, words, tally, opening)?;
-    ask(
-        desk,
-        words,
-        tally,
-        unmarked(question_about(alloc, &opened)?),
-    )?;
-    let rotation = marked(alloc, grant, ROTATION, rotation_of(alloc, &opened)?)?;
-    let rotated = ask(desk, words, tally, rotation)?;
-    ask(
-        desk,
-        words,
-        tally,
-        unmarked(question_about(alloc, &opened)?),
-    )?;
-    ask(
-        desk,
-        words,
-        tally,
-        unmarked(question_about(alloc, &rotated)?),
-    )?;
+    let opened = ask(desk, words, tally, opening_call(alloc, grant)?)?;
+    ask(desk, words, tally, question_about(alloc, &opened)?)?;
+    let rotated = ask(desk, words, tally, rotation_of(alloc, grant, &opened)?)?;
+    ask(desk, words, tally, question_about(alloc, &opened)?)?;
+    ask(desk, words, tally, question_about(alloc, &rotated)?)?;
     end_grant(alloc, desk, words, tally, ends, grant, &opened, &rotated)
 }
 

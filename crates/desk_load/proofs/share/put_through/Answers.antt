@@ -1,5 +1,5 @@
-use Rattle.std.proofs.Common.{◌∙◌, ◌+◌, refl, ap, sym, subst, arith}
-use Rattle.desk_load.specs.LoadCalls.{marked, unmarked, opening_place, rotation_place}
+use Rattle.std.proofs.Common.{◌+◌, refl, sym, subst, arith}
+use Rattle.desk_load.specs.LoadCalls.{opening_place, rotation_place}
 use Rattle.desk_load.specs.Loads.{MayBeMade}
 use Rattle.desk_load.proofs.Fitting.{opening_may, question_may, rotation_may}
 use Rattle.desk_load.proofs.Growing.{less-room, asks-as, put_through, if-ok-then}
@@ -7,25 +7,20 @@ use Rattle.desk_load.proofs.share.put_through.Goals as goal
 
 pub ask-requires-clause-may : goal.ask-requires-clause-may
 ask-requires-clause-may g c =
-    subst MayBeMade (sym (c.in_ok-opening.ensures.call ∙ ap (marked c.args.grant opening_place) c.in_ok-opening_call.ensures.call))
-    (opening_may c.args.grant opening_place (omega arith) (omega arith))
+    subst MayBeMade (sym c.in_ok-opening_call.ensures.call) (opening_may c.args.grant opening_place (omega arith) (omega arith))
 
 pub ask-requires-2-clause-may : goal.ask-requires-2-clause-may
-ask-requires-2-clause-may g c =
-    subst MayBeMade (sym (c.unmarked.ensures ∙ ap unmarked c.in_ok-question_about.ensures.call)) (question_may c.in_ok-opened.opened)
+ask-requires-2-clause-may g c = subst MayBeMade (sym c.in_ok-question_about.ensures.call) (question_may c.in_ok-opened.opened)
 
 pub ask-requires-3-clause-may : goal.ask-requires-3-clause-may
 ask-requires-3-clause-may g c =
-    subst MayBeMade (sym (c.in_ok-rotation.ensures.call ∙ ap (marked c.args.grant rotation_place) c.in_ok-rotation_of.ensures.call))
-    (rotation_may c.args.grant rotation_place c.in_ok-opened.opened (omega arith) (omega arith))
+    subst MayBeMade (sym c.in_ok-rotation_of.ensures.call) (rotation_may c.args.grant rotation_place c.in_ok-opened.opened (omega arith) (omega arith))
 
 pub ask-requires-4-clause-may : goal.ask-requires-4-clause-may
-ask-requires-4-clause-may g c =
-    subst MayBeMade (sym (c.unmarked-2.ensures ∙ ap unmarked c.in_ok-question_about-2.ensures.call)) (question_may c.in_ok-opened.opened)
+ask-requires-4-clause-may g c = subst MayBeMade (sym c.in_ok-question_about-2.ensures.call) (question_may c.in_ok-opened.opened)
 
 pub ask-requires-5-clause-may : goal.ask-requires-5-clause-may
-ask-requires-5-clause-may g c =
-    subst MayBeMade (sym (c.unmarked-3.ensures ∙ ap unmarked c.in_ok-question_about-3.ensures.call)) (question_may c.in_ok-rotated.rotated)
+ask-requires-5-clause-may g c = subst MayBeMade (sym c.in_ok-question_about-3.ensures.call) (question_may c.in_ok-rotated.rotated)
 
 pub ask-requires-3-clause-room : goal.ask-requires-3-clause-room
 ask-requires-3-clause-room g c =
@@ -65,9 +60,9 @@ returns-clause-puts g c =
     c.args.tally.now c.ask.new.tally c.ask-2.new.tally c.ask-3.new.tally c.ask-4.new.tally c.ask-5.new.tally c.end_grant.new.tally
     c.args.ends c.in_ok-opened.opened c.in_ok-ask.field-0 c.in_ok-rotated.rotated c.in_ok-ask-2.field-0 c.in_ok-ask-3.field-0
     c.ask.ensures.number c.ask-2.ensures.number c.ask-3.ensures.number c.ask-4.ensures.number c.ask-5.ensures.number
-    (asks-as _ _ _ _ _ _ _ _ (c.in_ok-opening.ensures.call ∙ ap (marked c.args.grant opening_place) c.in_ok-opening_call.ensures.call) c.in_ok-opened.ensures.asks)
-    (asks-as _ _ _ _ _ _ _ _ (c.unmarked.ensures ∙ ap unmarked c.in_ok-question_about.ensures.call) c.in_ok-ask.ensures.asks)
-    (asks-as _ _ _ _ _ _ _ _ (c.in_ok-rotation.ensures.call ∙ ap (marked c.args.grant rotation_place) c.in_ok-rotation_of.ensures.call) c.in_ok-rotated.ensures.asks)
-    (asks-as _ _ _ _ _ _ _ _ (c.unmarked-2.ensures ∙ ap unmarked c.in_ok-question_about-2.ensures.call) c.in_ok-ask-2.ensures.asks)
-    (asks-as _ _ _ _ _ _ _ _ (c.unmarked-3.ensures ∙ ap unmarked c.in_ok-question_about-3.ensures.call) c.in_ok-ask-3.ensures.asks)
+    (asks-as _ _ _ _ _ _ _ _ c.in_ok-opening_call.ensures.call c.in_ok-opened.ensures.asks)
+    (asks-as _ _ _ _ _ _ _ _ c.in_ok-question_about.ensures.call c.in_ok-ask.ensures.asks)
+    (asks-as _ _ _ _ _ _ _ _ c.in_ok-rotation_of.ensures.call c.in_ok-rotated.ensures.asks)
+    (asks-as _ _ _ _ _ _ _ _ c.in_ok-question_about-2.ensures.call c.in_ok-ask-2.ensures.asks)
+    (asks-as _ _ _ _ _ _ _ _ c.in_ok-question_about-3.ensures.call c.in_ok-ask-3.ensures.asks)
     end)
