@@ -10,7 +10,6 @@ use std::alloc::Global;
 
 /// The nonce that the line of this number has where it names none: its moment `at` (in seconds since 1970) in decimal, `-`, and the number in decimal.
 /// It has 3 to 41 bytes.
-#[tactic(auto, using(crate::proofs::LineNonces::line_is_nonce), unfolding(crate::specs::Nonces::line_nonce))]
 pub fn line_nonce(alloc: Global, at: u64, number: u64) -> Result<Bytes, Mem>
     ensures value { IfOk result (λ b. b ≡ line_nonce at number) }
     ensures nonce { IfOk result (λ b. is_nonce b ≡ true) }
