@@ -17,7 +17,7 @@ use Rattle.gnap_model.specs.Standing.{GrantState, opening_in, grant_state, named
 use Rattle.gnap_model.specs.Standing.GrantState.{IsPending, IsApproved, IsFinalized}
 use Rattle.gnap_model.specs.Judging.{Settled, settle, suits, serves_all}
 use Rattle.gnap_model.specs.Judging.Settled.{AtOnce, ByAsking, Never}
-use Rattle.gnap_model.specs.Actions.{Action, Supply, on_found, with_key}
+use Rattle.gnap_model.specs.Actions.{Action, Supply, on_found, with_key, with_owner}
 use Rattle.gnap_model.specs.Actions.Action.{Refuse, ShowToken, ShowInactive, ShowHandle, TakeDecision, OpenAtOnce, OpenAsking, RenewDoor, CollectDecision, WrongReference, LastWrongReference, RefuseAndFinalize, ModifyAtOnce, ModifyAsking}
 use Rattle.gnap_model.specs.Begin.{begin_by, is_past, opening, pass_limit, show_token, ask_user}
 use Rattle.gnap_model.specs.Continue.{with_grant, decided_asks, collect_by, collect_or_renew, is_wrong, is_early, wrong_reference, continue_round, continue_at}
@@ -60,13 +60,13 @@ found_fits : {X : Type 0} (P : X → Type 0) (code : ErrorCode) (act : X → Act
 found_fits P code act None fit each = tt
 found_fits P code act (Some x) fit each = each x fit
 
-with_key_fits : (act : OpeningNote → Action) (key : Text) (o : OpeningNote) → ActionFits (act o) → ActionFits (with_key act key o)
-with_key_fits act key o fit = if_both ActionFits (same_text o.key key) (act o) (Refuse InvalidClient) fit tt
+with_owner_fits : (act : OpeningNote → Action) (owner key : Text) (o : OpeningNote) → ActionFits (act o) → ActionFits (with_owner act owner key o)
+with_owner_fits act owner key o fit = if_both ActionFits (same_text owner key) (act o) (Refuse InvalidClient) fit tt
 
 with_grant_fits : (trail : List Note) (now : ℕ) (key value : Text) (act : OpeningNote → Action) → NotesFit trail → ((o : OpeningNote) → OpeningFits o → ActionFits (act o))
     → ActionFits (with_grant act key (named_grant trail now value))
 with_grant_fits trail now key value act fit each =
-    found_fits OpeningFits InvalidContinuation (with_key act key) (named_grant trail now value) (named_fits trail now value trail fit) (λ o h. with_key_fits act key o (each o h))
+    found_fits OpeningFits InvalidContinuation (with_key act key) (named_grant trail now value) (named_fits trail now value trail fit) (λ o h. with_owner_fits act o.key key o (each o h))
 
 ask_user_fits : (ask : Modes → Action) (modes : Option Modes) → ModesFitOr modes → ((m : Modes) → ModesFit m → ActionFits (ask m)) → ActionFits (ask_user ask modes)
 ask_user_fits ask None fit each = tt
@@ -122,14 +122,14 @@ continue_at_fits (IsPending round) trail now o reference fit key =
     if_both ActionFits (not (is_some reference) && is_early trail now o) (Refuse TooFast) (continue_round trail now o reference (decision_of trail o.grant) round) tt
     (continue_round_fits trail now o reference (decision_of trail o.grant) round fit key (decision_of_fits trail o.grant fit))
 
-rotate_key_fits : (new_key : Option Text) (t : TokenNote) (o : OpeningNote) → TokenNoteFits t → OpeningFits o → ActionFits (rotate_key new_key t o)
-rotate_key_fits None t o token key = (key, token)
-rotate_key_fits (Some new_key) t o token key = tt
+rotate_key_fits : (new_key : Option Text) (t : TokenNote) (o : OpeningNote) → TokenNoteFits t → ActionFits (rotate_key new_key t o)
+rotate_key_fits None t o token = (token, token.2)
+rotate_key_fits (Some new_key) t o token = tt
 
 on_grant_fits : (code : ErrorCode) (trail : List Note) (key : Text) (t : TokenNote) (act : OpeningNote → Action) → NotesFit trail → ((o : OpeningNote) → OpeningFits o → ActionFits (act o))
     → ActionFits (on_grant code trail key t act)
-on_grant_fits code trail key t act fit each = found_fits OpeningFits code (with_key act key) (first_of (opening_in t.grant) trail) (opening_fits t.grant trail fit)
-    (λ o h. with_key_fits act key o (each o h))
+on_grant_fits code trail key t act fit each = found_fits OpeningFits code (with_owner act t.key key) (first_of (opening_in t.grant) trail) (opening_fits t.grant trail fit)
+    (λ o h. with_owner_fits act t.key key o (each o h))
 
 show_token_fits : (names : List Text) (binding : Option Binding) (wanted : Option (List Right)) (t : Option TokenNote) → IfSome t TokenNoteFits → ActionFits (show_token names binding wanted t)
 show_token_fits names binding wanted None fit = tt
@@ -164,7 +164,7 @@ action_fits rules supply trail (Cancel key value) fit fits = with_grant_fits tra
 action_fits rules supply trail (Rotate key value new_key) fit fits =
     found_fits TokenNoteFits InvalidRotation _ (managed_token trail supply.now value) (token_fits _ trail fit)
     (λ t h. if_both ActionFits (is_live trail supply.now t) (on_grant InvalidRotation trail key t (rotate_key new_key t)) (Refuse InvalidRotation)
-    (on_grant_fits InvalidRotation trail key t (rotate_key new_key t) fit (λ o k. rotate_key_fits new_key t o h k)) tt)
+    (on_grant_fits InvalidRotation trail key t (rotate_key new_key t) fit (λ o k. rotate_key_fits new_key t o h)) tt)
 action_fits rules supply trail (Revoke key value) fit fits =
     found_fits TokenNoteFits InvalidRequest _ (managed_token trail supply.now value) (token_fits _ trail fit)
     (λ t h. on_grant_fits InvalidRequest trail key t _ fit (λ o k. tt))
