@@ -9,6 +9,7 @@ use bytes_and_lists::bytes::Bytes;
 use bytes_and_lists::memory::Mem;
 use desk_load::load_setup;
 use gnap_model::calls::Call;
+use grant_machine::Gnap;
 use histories::machine::Core;
 use itoa::Buffer;
 use signed_calls::signed::{Mark, Signed};
@@ -39,23 +40,32 @@ fn poll(alloc: Global, created: u64, number: u64) -> Result<Signed, Mem>
 }
 
 // Enters a poll behind so many calls.
-fn enter(alloc: Global, core: &mut TableCore, moment: u64, taken: u64) -> Result<(), Mem>
+fn enter<C: Core<M = Gnap>>(alloc: Global, core: &mut C, moment: u64, taken: u64) -> Result<(), Mem>
     requires in_time { moment ≤ last_moment }
     requires few { taken < 2 ^ 58 }
-    requires taken { HasTaken (⟦<TableCore as Core>⟧.stands core.old) taken }
-    ensures { IsOk result → HasTaken (⟦<TableCore as Core>⟧.stands core.new) (taken + 1) }
+    requires taken { HasTaken (C.stands core.old) taken }
+    ensures { IsOk result → HasTaken (C.stands core.new) (taken + 1) }
 {
     let signed = poll(alloc, moment, taken)?;
     core.step(moment, &[0; 48], &signed)?;
     Ok(())
 }
 
+// Enters so many polls of one second.
+fn enter_polls<C: Core<M = Gnap>>(alloc: Global, core: &mut C, polls: u32) -> Result<(), Mem>
+    requires { HasTaken (C.stands core.old) 0 }
+    ensures { IsOk result → HasTaken (C.stands core.new) polls }
+{
+    for taken in 0..polls {
+        enter(alloc, core, SECOND, taken as u64)?;
+    }
+    Ok(())
+}
+
 // How many nonces are remembered after so many polls of one second, after one more at the last second at which theirs are, and after one a second later.
 fn counts(alloc: Global, polls: u32) -> Result<[usize; 3], Mem> {
     let mut core = TableCore::new(alloc, load_setup(alloc)?);
-    for taken in 0..polls {
-        enter(alloc, &mut core, SECOND, taken as u64)?;
-    }
+    enter_polls(alloc, &mut core, polls)?;
     let of_the_second = core.marks();
     enter(alloc, &mut core, SECOND + 300, polls as u64)?;
     let with_the_last = core.marks();
