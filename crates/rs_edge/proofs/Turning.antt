@@ -10,7 +10,7 @@ use Rattle.http_edge.specs.Replies.{reply_bytes, busy_reply}
 use Rattle.resource_server.specs.declared.setup.RsSetup.{RsSetup}
 use Rattle.resource_server.specs.declared.guarded.Guarded.{Guarded}
 use Rattle.resource_server.specs.declared.guarded.Guarded.TheVariants as guarded
-use Rattle.resource_server.specs.Guarding.{GuardsOver}
+use Rattle.resource_server.specs.Guarding.{Guards, GuardsOver}
 use Rattle.serving.specs.MessageTurns.{HasWrittenText}
 use Rattle.serving.specs.declared.ends.AfterTurn.{AfterTurn}
 use Rattle.serving.specs.declared.ends.AfterTurn.TheVariants.{MoreMayCome, OutOfMemory}
@@ -19,13 +19,13 @@ use Rattle.rs_edge.specs.RsReplies.{rs_reply}
 use Rattle.rs_edge.specs.RsTurns.{answered, starved, TakesRsTurn}
 
 module _ (setup : RsSetup) (last : Bool) (m : Message) (moment : ℕ) (answer : Guarded) (link link_now : LinkState) (gear gear_now : GearState) (conn conn_now : Told)
-    (faults faults_now : ℕ) (after : AfterTurn) (over : GuardsOver setup m moment link link_now answer) (used : gear_now ≡ with_moment moment gear) where
+    (faults faults_now : ℕ) (after : AfterTurn) (over : GuardsOver (Guards setup m moment) link link_now answer) (used : gear_now ≡ with_moment moment gear) where
   pub answered_turn : (reply : HttpReply) → reply ≡ rs_reply setup m last answer → answer ≢ guarded.Memory
       → HasWrittenText (reply_bytes reply) conn conn_now faults faults_now after → after ≢ OutOfMemory
       → TakesRsTurn setup last m link link_now gear gear_now conn conn_now faults faults_now after
   answered_turn reply is fed written on = record {
     turn = record { message = m; moment = moment; entries = over.exchanges; bytes = reply_bytes (rs_reply setup m last answer); on = true };
-    is_turn = answered m moment over.exchanges answer over.guards fed;
+    is_turn = answered m moment over.exchanges answer over.guarded fed;
     message = refl;
     follows = follows_on after on;
     over = over.over;
@@ -37,7 +37,7 @@ module _ (setup : RsSetup) (last : Bool) (m : Message) (moment : ℕ) (answer : 
       → TakesRsTurn setup last m link link_now gear gear_now conn conn_now faults faults_now after
   starved_turn written off = record {
     turn = record { message = m; moment = moment; entries = over.exchanges; bytes = reply_bytes busy_reply; on = false };
-    is_turn = starved m moment over.exchanges answer over.guards;
+    is_turn = starved m moment over.exchanges answer over.guarded;
     message = refl;
     follows = follows_none after off;
     over = over.over;

@@ -91,6 +91,8 @@ def read_resource_setup(text):
         except Fault as fault:
             raise KeyFault(place, fault.kind, fault.member) from None
         secrets[client] = client_secret
+    if len(secrets) > 4_096:
+        raise Fault("TooMany", "keys")
     listed = items_at(value, "routes")
     if not 1 <= len(listed) <= 1_024:
         raise Fault("TooMany" if listed else "Wrong", "routes")
