@@ -7,7 +7,7 @@ use Rattle.http_edge.specs.declared.fault.EdgeFault.TheVariants as faults
 use Rattle.http_edge.specs.Reads.{HasFault, IsNextMessage}
 use Rattle.serving.specs.Reading.{FindsMessage, ReadsMessage}
 use Rattle.serving.specs.declared.ends.NoMessage.{NoMessage}
-use Rattle.as_edge.specs.EdgeWire.{edge_wire, no_message}
+use Rattle.http_serving.specs.EdgeWire.{edge_wire, no_message}
 
 pub finds_fault : (bytes rest : List ℕ) (told : Told) (fault : EdgeFault) → HasFault bytes told fault → FindsMessage edge_wire bytes rest told (Err (no_message fault))
 finds_fault bytes rest told faults.BadHead is = is
