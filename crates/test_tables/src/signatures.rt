@@ -7,96 +7,14 @@
 //! A message is its base, method, target, body and fields. What is expected was worked out by the tables of RFC 9421 and `docs/SIGNATURES.md` in another
 //! language, apart from this code.
 
+use crate::messages::{Parts, fields_from, message_in, ring, text_of};
 use base64::engine::general_purpose::STANDARD;
 use bytes_and_lists::bytes::Bytes;
 use bytes_and_lists::memory::Mem;
-use bytes_and_lists::message::{Field, Fields, Message};
-use hmac_key::{Keyring, hmac};
+use hmac_key::hmac;
 use message_signature::{BaseFault, SigFault, SignFault, base_of, sign, verify};
 use std::alloc::Global;
 use structured_fields::{InnerList, Member, read_list};
-
-// The keys of the table. The last is that of RFC 9421, appendix B.1.5.
-const KEYS: [(&str, &str); 3] = [
-    ("c1", "c2VjcmV0LWtleS1vZi1jMQ=="),
-    ("c2", "c2VjcmV0LWtleS1vZi1jMg=="),
-    (
-        "test-shared-secret",
-        "uzvJfB4u3N0Jy4T7NZ75MDVcr8zSTInedJtkgcu46YW4XByzNJjxBdtjUkdJPBtbmHhIDi6pcl8jsasjlTMtDQ==",
-    ),
-];
-
-// The parts of a line that are left.
-#[derive(Drop)]
-struct Parts<'a> {
-    left: Option<&'a str>,
-}
-
-impl<'a> Parts<'a> {
-    fn next(&mut self) -> Option<&'a str> {
-        let line = self.left?;
-        match line.split_once('|') {
-            Some((part, left)) => {
-                self.left = Some(left);
-                Some(part)
-            }
-            None => {
-                self.left = None;
-                Some(line)
-            }
-        }
-    }
-
-    fn bytes(&mut self, alloc: Global) -> Result<Bytes, Mem> {
-        Bytes::from_slice(alloc, self.next().unwrap_or("").as_bytes())
-    }
-}
-
-fn fields_in(alloc: Global, parts: &mut Parts) -> Result<Fields, Mem> {
-    let mut fields = Fields::new(alloc);
-    for _ in 0..64 {
-        let Some(part) = parts.next() else {
-            return Ok(fields);
-        };
-        let (name, value) = part.split_once(": ").unwrap_or((part, ""));
-        fields.push(Field {
-            name: Bytes::from_slice(alloc, name.as_bytes())?,
-            value: Bytes::from_slice(alloc, value.as_bytes())?,
-        })?;
-    }
-    Ok(fields)
-}
-
-// A message, and its base.
-fn message_in(alloc: Global, parts: &mut Parts) -> Result<(Bytes, Message), Mem> {
-    let base = parts.bytes(alloc)?;
-    let message = Message {
-        method: parts.bytes(alloc)?,
-        target: parts.bytes(alloc)?,
-        body: parts.bytes(alloc)?,
-        fields: fields_in(alloc, parts)?,
-        last: false,
-    };
-    Ok((base, message))
-}
-
-fn ring(alloc: Global) -> Result<Keyring, Mem> {
-    let mut ring = Keyring::new(alloc);
-    for (id, secret) in KEYS {
-        let Ok(secret) = STANDARD.decode(alloc, secret.as_bytes()) else {
-            return Err(Mem);
-        };
-        ring.add(
-            &Bytes::from_slice(alloc, id.as_bytes())?,
-            &Bytes::from_vec(secret),
-        )?;
-    }
-    Ok(ring)
-}
-
-fn text_of(alloc: Global, bytes: &[u8]) -> Result<String, Mem> {
-    Ok(String::from_str(alloc, std::str::from_utf8(bytes).unwrap_or("no text"))?)
-}
 
 fn verified(alloc: Global, parts: &mut Parts) -> Result<String, Mem> {
     let now = parts.next().unwrap_or("").parse::<u64>().unwrap_or(0);
@@ -137,20 +55,6 @@ fn based(alloc: Global, parts: &mut Parts) -> Result<String, Mem> {
     }
 }
 
-// The fields from a place on, one a line.
-fn fields_from(alloc: Global, fields: &Fields, from: usize) -> Result<String, Mem> {
-    let mut out = String::new(alloc);
-    for field in fields.as_slice().iter().skip(from) {
-        if !out.is_empty() {
-            out.push('\n')?;
-        }
-        out.push_str(text_of(alloc, field.name.as_slice())?.as_str())?;
-        out.push_str(": ")?;
-        out.push_str(text_of(alloc, field.value.as_slice())?.as_str())?;
-    }
-    Ok(out)
-}
-
 fn signed(alloc: Global, parts: &mut Parts) -> Result<String, Mem> {
     let created = parts.next().unwrap_or("").parse::<u64>().unwrap_or(0);
     let (base, mut message) = message_in(alloc, parts)?;
@@ -170,7 +74,7 @@ fn signed(alloc: Global, parts: &mut Parts) -> Result<String, Mem> {
 
 /// What verifying, the signature base or signing gives for a line's message.
 pub fn answer(alloc: Global, line: &str) -> Result<String, Mem> {
-    let mut parts = Parts { left: Some(line) };
+    let mut parts = Parts::of(line);
     match parts.next() {
         Some("verify") => verified(alloc, &mut parts),
         Some("base") => based(alloc, &mut parts),
