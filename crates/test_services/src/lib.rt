@@ -3,7 +3,15 @@
 #![tactic(auto)]
 
 #[cfg(test)]
+mod changed_bits;
+#[cfg(test)]
 mod client_configs;
+#[cfg(test)]
+mod conversations;
+#[cfg(test)]
+mod cut_connections;
+#[cfg(test)]
+mod four_workers;
 #[cfg(test)]
 mod gates;
 #[cfg(test)]
