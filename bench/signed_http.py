@@ -26,16 +26,29 @@ SETUP = json.dumps({"base": BASE, "front": "https://front.example", "keys": [
 ]})
 
 
+def signed_request(method, path, key, body, value=None, created=None):
+    """The bytes of a request that a key of the setup signs, with a body, with a presented value, or without."""
+    created = int(time.time()) if created is None else created
+    covered = [("@method", method), ("@target-uri", BASE + path)]
+    head = [f"{method} {path} HTTP/1.1", "Host: as.example"]
+    if body:
+        digest = f"sha-256=:{text_of(hashlib.sha256(body).digest())}:"
+        covered.append(("content-digest", digest))
+        head += ["Content-Type: application/json", f"Content-Length: {len(body)}", f"Content-Digest: {digest}"]
+    if value is not None:
+        covered.append(("authorization", f"GNAP {value}"))
+        head.append(f"Authorization: GNAP {value}")
+    names = " ".join(f'"{name}"' for name, _ in covered)
+    params = f'({names});created={created};keyid="{key}";tag="gnap"'
+    signature_base = "".join(f'"{name}": {text}\n' for name, text in covered) + f'"@signature-params": {params}'
+    code = text_of(hmac.new(SECRETS[key], signature_base.encode(), hashlib.sha256).digest())
+    head += [f"Signature-Input: sig1={params}", f"Signature: sig1=:{code}:"]
+    return ("\r\n".join(head) + "\r\n\r\n").encode() + body
+
+
 def signed_post(path, key, body, created=None):
     """The bytes of a POST with a body, signed by a key of the setup."""
-    created = int(time.time()) if created is None else created
-    digest = f"sha-256=:{text_of(hashlib.sha256(body).digest())}:"
-    params = f'("@method" "@target-uri" "content-digest");created={created};keyid="{key}";tag="gnap"'
-    signature_base = f'"@method": POST\n"@target-uri": {BASE}{path}\n"content-digest": {digest}\n"@signature-params": {params}'
-    code = text_of(hmac.new(SECRETS[key], signature_base.encode(), hashlib.sha256).digest())
-    head = [f"POST {path} HTTP/1.1", "Host: as.example", "Content-Type: application/json", f"Content-Length: {len(body)}",
-            f"Content-Digest: {digest}", f"Signature-Input: sig1={params}", f"Signature: sig1=:{code}:"]
-    return ("\r\n".join(head) + "\r\n\r\n").encode() + body
+    return signed_request("POST", path, key, body, created=created)
 
 
 def grant_request():
