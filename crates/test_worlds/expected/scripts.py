@@ -3,7 +3,7 @@
 from dataclasses import dataclass
 from typing import Optional
 
-from machine import value_text
+from machine import MARK_SECONDS, value_text
 from rights import compact
 
 BASE = "https://as.example"
@@ -20,11 +20,11 @@ class Step:
     answer: str
     draw: Optional[list] = None
 
-    def line(self):
+    def line(self, **more):
         members = {"at": self.at, "call": self.call, "key": self.key}
         members.update({name: given for name, given in
                         (("value", self.value), ("body", self.body), ("draw", self.draw)) if given is not None})
-        return compact(members)
+        return compact({**members, **more})
 
 
 @dataclass
@@ -33,8 +33,19 @@ class Run:
     setup: dict
     steps: list
 
+    def signed_at(self):
+        """When each step's call is signed: at its moment. What was signed long ago is refused, so a step that goes back far is signed at the latest moment."""
+        latest = 0
+        for step in self.steps:
+            latest = max(latest, step.at)
+            yield step.at if latest <= step.at + MARK_SECONDS else latest
+
+    def lines(self):
+        for step, created in zip(self.steps, self.signed_at()):
+            yield step.line() if created == step.at else step.line(created=created)
+
     def file(self):
-        return "".join(line + "\n" for line in [compact(self.setup)] + [step.line() for step in self.steps])
+        return "".join(line + "\n" for line in [compact(self.setup), *self.lines()])
 
     def answers(self):
         return "".join(step.answer + "\n" for step in self.steps)
