@@ -65,7 +65,7 @@ class Meeting:
             self.before = reply
             self.given.append(shown)
             return shown
-        printed, _ = carried_out(self.client, compact(line).encode(), exchange)
+        printed, _ = carried_out(self.client, compact(line).encode(), len(self.lines), exchange)
         if printed.endswith("LinkFault\n"):
             self.tell(do, at + 10, **takes)
         return self.before

@@ -142,7 +142,7 @@ class ResourceServer:
 
     def introspection(self, right, proof, value, moment):
         form = {"access": [right], "access_token": value, "proof": proof, "resource_server": self.setup.id}
-        return self.signer.request(moment, self.setup.server, "POST", "/introspect", body=compact(form).encode())
+        return self.signer.request(moment, None, self.setup.server, "POST", "/introspect", body=compact(form).encode())
 
     def has_signed(self, key, request, moment):
         try:

@@ -3,6 +3,8 @@
 from dataclasses import dataclass
 from typing import Optional
 
+from calls import Server
+from json_forms import read_setup
 from machine import MARK_SECONDS, value_text
 from rights import compact
 
@@ -34,11 +36,12 @@ class Run:
     steps: list
 
     def signed_at(self):
-        """When each step's call is signed: at its moment. What was signed long ago is refused, so a step that goes back far is signed at the latest moment."""
-        latest = 0
+        """When each step's call is signed: at its moment, or now where the step goes back so far that its signature would be too old."""
+        server = Server(read_setup(compact(self.setup).encode()))
         for step in self.steps:
-            latest = max(latest, step.at)
-            yield step.at if latest <= step.at + MARK_SECONDS else latest
+            now = server.machine.now
+            yield step.at if now <= step.at + MARK_SECONDS else now
+            server.answer(step.at, step.draw or [], step.call, step.key, step.value or "", step.body)
 
     def lines(self):
         for step, created in zip(self.steps, self.signed_at()):
