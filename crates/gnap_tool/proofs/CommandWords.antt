@@ -5,7 +5,7 @@ use Rattle.std.specs.Str.{bytes_eq}
 use Rattle.command_words.specs.Positionals.{exactly}
 use Rattle.gnap_tool.specs.declared.command.Command.{Command}
 use Rattle.gnap_tool.specs.declared.wrong_words.WrongWords.{WrongWords}
-use Rattle.gnap_tool.specs.Commands.{AreRead, replay_of, field_of, with_three, with_four, sign_words, verify_words, as_words, rs_words, client_words, hash_of, load_words, count_of, command_named}
+use Rattle.gnap_tool.specs.Commands.{AreRead, replay_of, field_of, with_three, with_four, sign_of, verify_words, as_words, rs_words, client_words, hash_of, load_words, counts_of, count_among, command_named}
 
 no_replay : (words : List (List ℕ)) → exactly 1 words ≡ None → replay_of words ≡ None
 no_replay [] is = refl
@@ -25,6 +25,15 @@ not_three f (a ∷ b ∷ []) is = refl
 not_three f (a ∷ b ∷ c ∷ []) is = cc
 not_three f (a ∷ b ∷ c ∷ d ∷ words) is = refl
 
+not_sign : (words : List (List ℕ)) → exactly (count_among 4 5 (length words)) words ≡ None → sign_of words ≡ None
+not_sign [] is = refl
+not_sign (a ∷ []) is = refl
+not_sign (a ∷ b ∷ []) is = refl
+not_sign (a ∷ b ∷ c ∷ []) is = refl
+not_sign (a ∷ b ∷ c ∷ d ∷ []) is = cc
+not_sign (a ∷ b ∷ c ∷ d ∷ e ∷ []) is = cc
+not_sign (a ∷ b ∷ c ∷ d ∷ e ∷ f ∷ words) is = refl
+
 not_four : (f : List ℕ → List ℕ → List ℕ → List ℕ → Option Command) (words : List (List ℕ)) → exactly 4 words ≡ None → with_four f words ≡ None
 not_four f [] is = refl
 not_four f (a ∷ []) is = refl
@@ -42,42 +51,62 @@ no_hash (a ∷ b ∷ c ∷ d ∷ []) is = refl
 no_hash (a ∷ b ∷ c ∷ d ∷ e ∷ []) is = cc
 no_hash (a ∷ b ∷ c ∷ d ∷ e ∷ f ∷ words) is = refl
 
-at : (n count : ℕ) (words : List (List ℕ)) → Some n ≡ Some count → exactly count words ≡ None → exactly n words ≡ None
-at n count words is none = let same : n ≡ count = cc in subst (λ m. exactly m words ≡ None) (sym same) none
+-- of two equal counts either is the one
+one_count : (n : ℕ) (b : Bool) → (if b then n else n) ≡ n
+one_count n true = refl
+one_count n false = refl
+
+-- these words aren't as many as they have to be
+abbrev IsMiscount : ℕ → ℕ → List (List ℕ) → Type 0
+IsMiscount least most words = exactly (count_among least most (length words)) words ≡ None
+
+at : (n least most : ℕ) (words : List (List ℕ)) → Some (n, n) ≡ Some (least, most) → IsMiscount least most words → exactly n words ≡ None
+at n least most words is none =
+    let first : n ≡ least = cc in
+    let last : n ≡ most = cc in
+    let one : IsMiscount n n words = subst (λ l. IsMiscount l n words) (sym first) (subst (λ m. IsMiscount least m words) (sym last) none) in
+    subst (λ m. exactly m words ≡ None) (one_count n (length words == n)) one
 
 -- how many words there have to be, and what they are read as, by whether the name is each of those
-abbrev number_by : (a b c d e f g h i : Bool) → Option ℕ
+abbrev number_by : (a b c d e f g h i : Bool) → Option (ℕ × ℕ)
 number_by a b c d e f g h i =
-    if a then Some 1 else if b then Some 2 else if c then Some 4 else if d then Some 3 else if e then Some 4
-    else if f then Some 4 else if g then Some 3 else if h then Some 5 else if i then Some 3 else None
+    if a then Some (1, 1) else if b then Some (2, 2) else if c then Some (4, 5) else if d then Some (3, 3) else if e then Some (4, 4)
+    else if f then Some (4, 4) else if g then Some (3, 3) else if h then Some (5, 5) else if i then Some (3, 3) else None
 
 abbrev reading_by : (a b c d e f g h i : Bool) → List (List ℕ) → Option Command
 reading_by a b c d e f g h i words =
-    if a then replay_of words else if b then field_of words else if c then with_four sign_words words else if d then with_three verify_words words
+    if a then replay_of words else if b then field_of words else if c then sign_of words else if d then with_three verify_words words
     else if e then with_four as_words words else if f then with_four rs_words words else if g then with_three client_words words
     else if h then hash_of words else if i then with_three load_words words else None
 
-counted : (a b c d e f g h i : Bool) (count : ℕ) (words : List (List ℕ))
-    → number_by a b c d e f g h i ≡ Some count
-    → exactly count words ≡ None
+sign_miscount : (least most : ℕ) (words : List (List ℕ)) → Some (4, 5) ≡ Some (least, most) → IsMiscount least most words → sign_of words ≡ None
+sign_miscount least most words is none =
+    let first : 4 ≡ least = cc in
+    let last : 5 ≡ most = cc in
+    not_sign words (subst (λ l. IsMiscount l 5 words) (sym first) (subst (λ m. IsMiscount least m words) (sym last) none))
+
+counted : (a b c d e f g h i : Bool) (least most : ℕ) (words : List (List ℕ))
+    → number_by a b c d e f g h i ≡ Some (least, most)
+    → IsMiscount least most words
     → reading_by a b c d e f g h i words ≡ None
-counted true b c d e f g h i count words is none = no_replay words (at 1 count words is none)
-counted false true c d e f g h i count words is none = no_field words (at 2 count words is none)
-counted false false true d e f g h i count words is none = not_four sign_words words (at 4 count words is none)
-counted false false false true e f g h i count words is none = not_three verify_words words (at 3 count words is none)
-counted false false false false true f g h i count words is none = not_four as_words words (at 4 count words is none)
-counted false false false false false true g h i count words is none = not_four rs_words words (at 4 count words is none)
-counted false false false false false false true h i count words is none = not_three client_words words (at 3 count words is none)
-counted false false false false false false false true i count words is none = no_hash words (at 5 count words is none)
-counted false false false false false false false false true count words is none = not_three load_words words (at 3 count words is none)
-counted false false false false false false false false false count words is none = refl
+counted true b c d e f g h i least most words is none = no_replay words (at 1 least most words is none)
+counted false true c d e f g h i least most words is none = no_field words (at 2 least most words is none)
+counted false false true d e f g h i least most words is none = sign_miscount least most words is none
+counted false false false true e f g h i least most words is none = not_three verify_words words (at 3 least most words is none)
+counted false false false false true f g h i least most words is none = not_four as_words words (at 4 least most words is none)
+counted false false false false false true g h i least most words is none = not_four rs_words words (at 4 least most words is none)
+counted false false false false false false true h i least most words is none = not_three client_words words (at 3 least most words is none)
+counted false false false false false false false true i least most words is none = no_hash words (at 5 least most words is none)
+counted false false false false false false false false true least most words is none = not_three load_words words (at 3 least most words is none)
+counted false false false false false false false false false least most words is none = refl
 
 -- words that aren't as many as the command of a name takes are no command
-pub miscounted : (name : List ℕ) (count : ℕ) (words : List (List ℕ)) → count_of name ≡ Some count → exactly count words ≡ None → command_named name words ≡ None
-miscounted name count words is none =
+pub miscounted : (name : List ℕ) (least most : ℕ) (words : List (List ℕ)) → counts_of name ≡ Some (least, most)
+    → exactly (count_among least most (length words)) words ≡ None → command_named name words ≡ None
+miscounted name least most words is none =
     counted (bytes_eq name (codes "replay")) (bytes_eq name (codes "field")) (bytes_eq name (codes "sign")) (bytes_eq name (codes "verify"))
     (bytes_eq name (codes "as")) (bytes_eq name (codes "rs")) (bytes_eq name (codes "client")) (bytes_eq name (codes "hash")) (bytes_eq name (codes "load"))
-    count words is none
+    least most words is none
 
 unnamed_by : (a b c d e f g h i : Bool) (words : List (List ℕ))
     → number_by a b c d e f g h i ≡ None
@@ -94,7 +123,7 @@ unnamed_by false false false false false false false false true words is = cc
 unnamed_by false false false false false false false false false words is = refl
 
 -- without a command of the name there is none with it
-pub unnamed : (name : List ℕ) (words : List (List ℕ)) → count_of name ≡ None → command_named name words ≡ None
+pub unnamed : (name : List ℕ) (words : List (List ℕ)) → counts_of name ≡ None → command_named name words ≡ None
 unnamed name words is =
     unnamed_by (bytes_eq name (codes "replay")) (bytes_eq name (codes "field")) (bytes_eq name (codes "sign")) (bytes_eq name (codes "verify"))
     (bytes_eq name (codes "as")) (bytes_eq name (codes "rs")) (bytes_eq name (codes "client")) (bytes_eq name (codes "hash")) (bytes_eq name (codes "load"))

@@ -1,6 +1,8 @@
 -- How a run of a command ends, and what it did.
-use Rattle.std.specs.Prelude.{◌≡◌, ◌<◌, ◌^◌, ◌⊎◌, ℕ, List, [], ◌++◌, Option, Some, None, Result, Ok, Err}
+use Rattle.std.specs.Prelude.{◌≡◌, ◌<◌, ◌^◌, ◌⊎◌, ℕ, List, [], ◌++◌, true, Option, Some, None, IfSome, Result, Ok, Err}
 use Rattle.std.specs.Io.BufRead.{strip_last}
+use Rattle.std.specs.Option.{option_copied}
+use Rattle.message_signature.specs.Marks.{is_nonce}
 use Rattle.gnap_io.specs.Outside.{Told}
 use Rattle.gnap_io.specs.Worlds.{WorldState}
 use Rattle.gnap_io.specs.declared.world.WorldFault.{WorldFault}
@@ -32,21 +34,22 @@ use Rattle.world_uses.specs.Uses.{Over, Unopened, Linked, BySetup, ended_by_faul
 abbrev pub Answers : Purpose → List ℕ → List ℕ → Told → Told → Ended → Type 0
 Answers purposes.Replay taken rest out out_now ended = ReplaysFile taken rest out out_now ended
 Answers (purposes.Field kind) taken rest out out_now ended = PrintsField kind (strip_last 10 (taken ++ rest)) out out_now ended
-Answers (purposes.Sign setup key created) taken rest out out_now ended = PrintsFor (SignsFile setup.now key.now created (taken ++ rest)) out out_now ended
+Answers (purposes.Sign setup key created nonce) taken rest out out_now ended =
+    PrintsFor (SignsFile setup.now key.now created (option_copied nonce) (taken ++ rest)) out out_now ended
 Answers (purposes.Verify setup now) taken rest out out_now ended = PrintsFor (VerifiesFile setup.now now (taken ++ rest)) out out_now ended
 
--- The setup of a purpose is one that was read, and what is signed is created at a moment.
+-- The setup of a purpose is one that was read, and what is signed is created at a moment, with a nonce that can be written.
 abbrev pub IsValid : Purpose → Type 0
 IsValid purposes.Replay = Unit {0}
 IsValid (purposes.Field kind) = Unit {0}
-IsValid (purposes.Sign setup key created) = IsSetup setup.now × (created < 10 ^ 15)
+IsValid (purposes.Sign setup key created nonce) = IsSetup setup.now × (created < 10 ^ 15) × IfSome (option_copied nonce) (λ n. is_nonce n ≡ true)
 IsValid (purposes.Verify setup now) = Unit {0}
 
 -- where the file of a purpose stands among the inputs that may be too long
 abbrev pub input_of : Purpose → Option ℕ
 input_of purposes.Replay = Some 0
 input_of (purposes.Field kind) = Some 0
-input_of (purposes.Sign setup key created) = None
+input_of (purposes.Sign setup key created nonce) = None
 input_of (purposes.Verify setup now) = None
 
 -- ---- a server at an address
@@ -74,9 +77,9 @@ CarriesOut (Replay file) text before after out out_now ended =
     Over (text file) before after (Unopened out out_now ended) (λ taken rest. ReplaysFile taken rest out out_now ended)
 CarriesOut (Field kind file) text before after out out_now ended =
     Over (text file) before after (Unopened out out_now ended) (λ taken rest. PrintsField kind (strip_last 10 (taken ++ rest)) out out_now ended)
-CarriesOut (Sign config key created file) text before after out out_now ended =
+CarriesOut (Sign config key created file nonce) text before after out out_now ended =
     BySetup setup_in (text config) before after out out_now ended (λ between setup.
-    Over (text file) between after (Unopened out out_now ended) (λ taken rest. PrintsFor (SignsFile setup key created (taken ++ rest)) out out_now ended))
+    Over (text file) between after (Unopened out out_now ended) (λ taken rest. PrintsFor (SignsFile setup key created nonce (taken ++ rest)) out out_now ended))
 CarriesOut (Verify config now file) text before after out out_now ended =
     BySetup setup_in (text config) before after out out_now ended (λ between setup.
     Over (text file) between after (Unopened out out_now ended) (λ taken rest. PrintsFor (VerifiesFile setup now (taken ++ rest)) out out_now ended))

@@ -104,7 +104,7 @@ fn tell_no_setup<E: Sink>(err: &mut E, command: &Command) {
                 b" is no setup: ",
             ],
         ),
-        Command::Sign(config, _, _, _)
+        Command::Sign(config, _, _, _, _)
         | Command::Verify(config, _, _)
         | Command::As(config, _, _, _)
         | Command::Rs(config, _, _, _) => {
@@ -171,7 +171,7 @@ fn tell_setup<E: Sink>(err: &mut E, command: &Command, why: &WrongSetup) {
 fn tell_files<E: Sink>(err: &mut E, command: &Command) {
     match command {
         Command::Replay(file) | Command::Field(_, file) => tell(err, &[file.as_slice()]),
-        Command::Sign(config, _, _, file) | Command::Verify(config, _, file) => {
+        Command::Sign(config, _, _, file, _) | Command::Verify(config, _, file) => {
             tell(err, &[config.as_slice(), b" or ", file.as_slice()])
         }
         Command::As(config, listen, _, _) => {
@@ -210,7 +210,7 @@ fn tell_refusal<E: Sink>(err: &mut E, command: &Command) {
                 &[b"gnap: ", file.as_slice(), b" isn't a valid field\n"],
             )
         }
-        Command::Sign(_, _, _, file) | Command::Verify(_, _, file) => tell(
+        Command::Sign(_, _, _, file, _) | Command::Verify(_, _, file) => tell(
             err,
             &[
                 b"gnap: the message in ",

@@ -1,13 +1,14 @@
 //! What the program says of itself.
 
 /// The usage, line by line. The script that runs the program prints these strings too, so each stands on a line of its own.
-pub const USAGE: [&str; 14] = [
+pub const USAGE: [&str; 15] = [
     "usage: gnap COMMAND WORDS\n",
     "  gnap replay FILE            answers the calls in FILE, whose first line is a setup\n",
     "  gnap field item FILE        prints the canonical text of the structured field in FILE\n",
     "  gnap field list FILE        the same of a list\n",
     "  gnap field dictionary FILE  the same of a dictionary\n",
     "  gnap sign CONFIG KEY CREATED FILE  prints the request in FILE, signed by KEY of CONFIG at CREATED (0 to 253402300799, seconds since 1970)\n",
+    "  gnap sign CONFIG KEY CREATED FILE NONCE  the same, with NONCE in the signature (1 to 64 letters, digits, `.`, `_` or `-`)\n",
     "  gnap verify CONFIG NOW FILE  prints which key of the setup signed the request in FILE, at the moment NOW (0 to 253402300799, seconds since 1970)\n",
     "  gnap as CONFIG LISTEN WORKERS QUOTA  serves the setup in CONFIG over HTTP, by WORKERS (1 to 64), each for QUOTA connections (0 to 1000000)\n",
     "  gnap rs CONFIG LISTEN SERVER QUOTA  serves the resource server in CONFIG for QUOTA connections (0 to 1000000), the authorization server is at SERVER\n",
