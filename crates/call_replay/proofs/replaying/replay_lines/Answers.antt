@@ -16,6 +16,7 @@ lines-init g c = record {
   rules = refl;
   number = refl;
   empty = c.new-line.ensures;
+  line_number = refl;
   goes = goes-start (Turns c.args.setup.now (g.D.Desk.number c.args.desk.now) (g.D.Desk.seen c.args.desk.now)) _ _ _ _ (none-had _ _ _ c.requires.fresh) c.requires.held;
   reads = refl;
   writes = refl;
@@ -61,13 +62,15 @@ lines-preserved g c =
     let none = sym c.in_default.ensures in
     let short = not_long c.next_line-end.result c.next_line-end.ensures.long in
     let parts = whole_parts _ _ _ _ _ _ _ _ c.next_line-end.result none (sym c.is_last.ensures ∙ c.if-is_last.false) short read in
-    let same = kept_step c.args.setup.now read.full ∙ ap (line_step c.args.setup.now) (sym (read.kept (not_starved c.next_line-end.result none))) in
-    let A : ℕ → Type 0 = λ n. AnswersLine c.args.setup.now n read.full (g.D.Desk.seen c.answer_line.new.desk) inv.goes.had.history (g.O.Device.told c.lines.out) (g.O.Device.told c.answer_line.new.out) after.On in
-    let answer = subst A inv.number (c.in-On.ensures.turn inv.goes.had.history read.full inv.goes.had.seen_now same) in
+    let same = kept_step c.args.setup.now c.lines.number read.full ∙ ap (line_step c.args.setup.now c.lines.number) (sym (read.kept (not_starved c.next_line-end.result none))) in
+    let A : ℕ → Type 0 = λ n. AnswersLine c.args.setup.now n c.lines.number read.full (g.D.Desk.seen c.answer_line.new.desk) inv.goes.had.history (g.O.Device.told c.lines.out) (g.O.Device.told c.answer_line.new.out) after.On in
+    let B : ℕ → Type 0 = λ n. AnswersLine c.args.setup.now (g.D.Desk.number c.args.desk.now) n read.full (g.D.Desk.seen c.answer_line.new.desk) inv.goes.had.history (g.O.Device.told c.lines.out) (g.O.Device.told c.answer_line.new.out) after.On in
+    let answer = subst B inv.line_number (subst A inv.number (c.in-On.ensures.turn inv.goes.had.history read.full inv.goes.had.seen_now same)) in
     record {
       rules = c.in-On.ensures.rules ∙ inv.rules;
       number = c.in-On.ensures.number ∙ inv.number;
       empty = c.emptied-line.ensures;
+      line_number = ap (λ n. n + 1) inv.line_number ∙ ap (λ n. 2 + n) (sym (length-next inv.goes.turns answer.turn));
       goes = goes-next _ _ _ _ _ _ _ _ _ inv.goes read.full read.bytes _ _ read.came read.is_line (g.O.Device.told c.answer_line.new.out) (Turns c.args.setup.now (g.D.Desk.number c.args.desk.now) (g.D.Desk.seen c.answer_line.new.desk)) answer.turn (had-next _ _ _ _ inv.goes.turns _ _ _ _ inv.goes.had answer) answer.message _ parts answer.goes answer.prints;
       reads = read_counts c.next_line-end.result _ _ none c.next_line-end.ensures.cause ∙ inv.reads;
       writes = c.in-On.ensures.counts ∙ inv.writes;
@@ -79,9 +82,10 @@ returns-then-is_last-clause-replays g c =
     let read = c.next_line-end.ensures.read in
     let none = sym c.in_default.ensures in
     let parts = last_parts _ _ _ _ _ _ _ _ c.next_line-end.result (sym c.is_last.ensures ∙ c.if-is_last.true) read in
-    let same = kept_step c.args.setup.now read.full ∙ ap (line_step c.args.setup.now) (sym (read.kept (not_starved c.next_line-end.result none))) in
-    let A : ℕ → Type 0 = λ n. AnswersLine c.args.setup.now n read.full (g.D.Desk.seen c.answer_line.new.desk) inv.goes.had.history (g.O.Device.told c.lines.out) (g.O.Device.told c.answer_line.new.out) after.On in
-    let answer = subst A inv.number (c.in-On.ensures.turn inv.goes.had.history read.full inv.goes.had.seen_now same) in
+    let same = kept_step c.args.setup.now c.lines.number read.full ∙ ap (line_step c.args.setup.now c.lines.number) (sym (read.kept (not_starved c.next_line-end.result none))) in
+    let A : ℕ → Type 0 = λ n. AnswersLine c.args.setup.now n c.lines.number read.full (g.D.Desk.seen c.answer_line.new.desk) inv.goes.had.history (g.O.Device.told c.lines.out) (g.O.Device.told c.answer_line.new.out) after.On in
+    let B : ℕ → Type 0 = λ n. AnswersLine c.args.setup.now (g.D.Desk.number c.args.desk.now) n read.full (g.D.Desk.seen c.answer_line.new.desk) inv.goes.had.history (g.O.Device.told c.lines.out) (g.O.Device.told c.answer_line.new.out) after.On in
+    let answer = subst B inv.line_number (subst A inv.number (c.in-On.ensures.turn inv.goes.had.history read.full inv.goes.had.seen_now same)) in
     turned-done _ _ _ _ _ _ _ _ _ inv.goes read.full read.bytes _ _ read.came read.is_line (g.O.Device.told c.answer_line.new.out) (Turns c.args.setup.now (g.D.Desk.number c.args.desk.now) (g.D.Desk.seen c.answer_line.new.desk)) answer.turn (had-next _ _ _ _ inv.goes.turns _ _ _ _ inv.goes.had answer) answer.message parts.0 parts.2 answer.goes answer.prints
 
 pub returns-then-is_last-clause-reads : goal.returns-then-is_last-clause-reads
@@ -98,9 +102,10 @@ returns-in-Starved-clause-replays g c =
     let read = c.next_line-end.ensures.read in
     let none = sym c.in_default.ensures in
     let short = not_long c.next_line-end.result c.next_line-end.ensures.long in
-    let same = kept_step c.args.setup.now read.full ∙ ap (line_step c.args.setup.now) (sym (read.kept (not_starved c.next_line-end.result none))) in
-    let A : ℕ → Type 0 = λ n. AnswersLine c.args.setup.now n read.full (g.D.Desk.seen c.answer_line.new.desk) inv.goes.had.history (g.O.Device.told c.lines.out) (g.O.Device.told c.answer_line.new.out) after.Starved in
-    let answer = subst A inv.number (c.in-Starved.ensures.turn inv.goes.had.history read.full inv.goes.had.seen_now same) in
+    let same = kept_step c.args.setup.now c.lines.number read.full ∙ ap (line_step c.args.setup.now c.lines.number) (sym (read.kept (not_starved c.next_line-end.result none))) in
+    let A : ℕ → Type 0 = λ n. AnswersLine c.args.setup.now n c.lines.number read.full (g.D.Desk.seen c.answer_line.new.desk) inv.goes.had.history (g.O.Device.told c.lines.out) (g.O.Device.told c.answer_line.new.out) after.Starved in
+    let B : ℕ → Type 0 = λ n. AnswersLine c.args.setup.now (g.D.Desk.number c.args.desk.now) n read.full (g.D.Desk.seen c.answer_line.new.desk) inv.goes.had.history (g.O.Device.told c.lines.out) (g.O.Device.told c.answer_line.new.out) after.Starved in
+    let answer = subst B inv.line_number (subst A inv.number (c.in-Starved.ensures.turn inv.goes.had.history read.full inv.goes.had.seen_now same)) in
     turned-starved _ _ _ _ _ _ _ _ _ inv.goes read.full read.bytes _ _ read.came read.is_line (g.O.Device.told c.answer_line.new.out) (Turns c.args.setup.now (g.D.Desk.number c.args.desk.now) (g.D.Desk.seen c.answer_line.new.desk)) answer.turn (had-next _ _ _ _ inv.goes.turns _ _ _ _ inv.goes.had answer) answer.message (line_later _ _ _ _ _ _ _ _ c.next_line-end.result none short read) answer.prints
 
 pub returns-in-Starved-clause-reads : goal.returns-in-Starved-clause-reads
@@ -112,9 +117,10 @@ returns-in-Cut-clause-replays g c =
     let read = c.next_line-end.ensures.read in
     let none = sym c.in_default.ensures in
     let short = not_long c.next_line-end.result c.next_line-end.ensures.long in
-    let same = kept_step c.args.setup.now read.full ∙ ap (line_step c.args.setup.now) (sym (read.kept (not_starved c.next_line-end.result none))) in
-    let A : ℕ → Type 0 = λ n. AnswersLine c.args.setup.now n read.full (g.D.Desk.seen c.answer_line.new.desk) inv.goes.had.history (g.O.Device.told c.lines.out) (g.O.Device.told c.answer_line.new.out) after.Cut in
-    let answer = subst A inv.number (c.in-Cut.ensures.turn inv.goes.had.history read.full inv.goes.had.seen_now same) in
+    let same = kept_step c.args.setup.now c.lines.number read.full ∙ ap (line_step c.args.setup.now c.lines.number) (sym (read.kept (not_starved c.next_line-end.result none))) in
+    let A : ℕ → Type 0 = λ n. AnswersLine c.args.setup.now n c.lines.number read.full (g.D.Desk.seen c.answer_line.new.desk) inv.goes.had.history (g.O.Device.told c.lines.out) (g.O.Device.told c.answer_line.new.out) after.Cut in
+    let B : ℕ → Type 0 = λ n. AnswersLine c.args.setup.now (g.D.Desk.number c.args.desk.now) n read.full (g.D.Desk.seen c.answer_line.new.desk) inv.goes.had.history (g.O.Device.told c.lines.out) (g.O.Device.told c.answer_line.new.out) after.Cut in
+    let answer = subst B inv.line_number (subst A inv.number (c.in-Cut.ensures.turn inv.goes.had.history read.full inv.goes.had.seen_now same)) in
     turned-cut _ _ _ _ _ _ _ _ _ inv.goes read.full read.bytes _ _ read.came read.is_line (g.O.Device.told c.answer_line.new.out) (Turns c.args.setup.now (g.D.Desk.number c.args.desk.now) (g.D.Desk.seen c.answer_line.new.desk)) answer.turn (had-next _ _ _ _ inv.goes.turns _ _ _ _ inv.goes.had answer) answer.message (line_later _ _ _ _ _ _ _ _ c.next_line-end.result none short read) answer.prints
 
 pub returns-in-Cut-clause-reads : goal.returns-in-Cut-clause-reads
