@@ -181,12 +181,7 @@ fn call_step(
 }
 
 #[tactic(auto, unfolding(crate::specs::CallLines::object_step))]
-fn object_step(
-    alloc: Global,
-    setup: &Setup,
-    number: u64,
-    value: &Value,
-) -> Result<LineStep, Mem>
+fn object_step(alloc: Global, setup: &Setup, number: u64, value: &Value) -> Result<LineStep, Mem>
     requires { depth (view value.now) ≤ max_depth }
     ensures step { IfOk result (λ s. s ≡ object_step setup.now number (view value.now)) }
     ensures asked { IfOk result IsAsked }
@@ -250,12 +245,7 @@ fn text_step(alloc: Global, setup: &Setup, number: u64, line: &[u8]) -> Result<L
 /// What the line of this number is to the desk; the setup's line has the number 1. An empty line says nothing. A line of more than 131,072 bytes is answered
 /// `413`, whatever follows.
 #[tactic(auto, unfolding(crate::specs::CallLines::line_step))]
-pub fn line_step(
-    alloc: Global,
-    setup: &Setup,
-    number: u64,
-    line: &[u8],
-) -> Result<LineStep, Mem>
+pub fn line_step(alloc: Global, setup: &Setup, number: u64, line: &[u8]) -> Result<LineStep, Mem>
     ensures step { IfOk result (λ s. s ≡ line_step setup.now number line.now) }
     ensures asked { IfOk result IsAsked }
 {

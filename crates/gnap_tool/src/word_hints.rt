@@ -81,7 +81,8 @@ fn form_text(form: WordForm) -> &'static str {
         WordForm::FieldKind => "kind of field (item, list or dictionary)",
         WordForm::HashMethod => "hash method (sha-256 or sha-512)",
         WordForm::Moment => "moment (0 to 253402300799, in seconds since 1970)",
-        WordForm::Nonce => "nonce (1 to 64 letters, digits, `.`, `_` or `-`, the first of them no `-`)",
+        WordForm::Nonce =>
+            "nonce (1 to 64 letters, digits, `.`, `_` or `-`, the first of them no `-`)",
         WordForm::Workers => "number of workers (1 to 64)",
         WordForm::Connections => "number of connections (0 to 1000000)",
         WordForm::Grants => "number of grants (1 to 100000)",
