@@ -146,6 +146,7 @@ fn kind_named(name: &str) -> Option<CallKind>
     }
 }
 
+#[tactic(auto, using(crate::proofs::Asked::is_asked))]
 fn call_step(
     alloc: Global,
     setup: &Setup,

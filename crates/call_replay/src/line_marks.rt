@@ -71,6 +71,7 @@ pub(crate) fn created_in(value: &Value) -> Option<Option<u64>>
 }
 
 // The nonce of a line.
+#[tactic(auto, using(crate::proofs::Asked::nonce_length))]
 fn nonce_of(alloc: Global, fields: MarkFields<'_>) -> Result<Bytes, Mem>
     ensures nonce { IfOk result (λ nonce. nonce ≡ unwrap_or (option_copied fields.nonce) (line_nonce fields.at fields.number)) }
     ensures sized { IfOk result (λ nonce. has_nonce_length nonce ≡ true) }
@@ -82,6 +83,7 @@ fn nonce_of(alloc: Global, fields: MarkFields<'_>) -> Result<Bytes, Mem>
 }
 
 // The mark of a line.
+#[tactic(auto, using(crate::proofs::Asked::mark_fits))]
 fn line_mark(alloc: Global, fields: MarkFields<'_>) -> Result<Mark, Mem>
     ensures mark { IfOk result (λ mark. mark ≡ line_mark fields.at fields.number (option_copied fields.nonce) fields.created) }
     ensures fits { IfOk result (λ mark. MarkFits (Some mark)) }
