@@ -1,5 +1,6 @@
 use Rattle.std.proofs.Common.{◌∙◌, ℕ, ◌<◌, ◌^◌, ◌∷◌, length, ap, sym, subst, refl, arith, length-append}
 use Rattle.histories.specs.History.{places}
+use Rattle.histories.proofs.TurnLemmas.{length-next}
 use Rattle.call_replay.specs.CallLines.{line_step}
 use Rattle.command_inputs.specs.Reading.{held_by}
 use Rattle.command_inputs.specs.declared.printed_text.After.TheVariants as after
@@ -12,6 +13,7 @@ use Rattle.command_inputs.proofs.LineStops.{not_long, not_starved, read_counts, 
 use Rattle.call_replay.proofs.replaying.replay_lines.Goals as goal
 
 pub lines-init : goal.lines-init
+unfolding goes-start
 lines-init g c = record {
   rules = refl;
   number = refl;
@@ -56,6 +58,7 @@ lines-smaller g c =
     omega (arith, most, read.came.counted, ap length parts, length-append (held_by c.lines.reader) read.bytes, length-append read.full (10 ∷ held_by c.next_line-end.new.self))
 
 pub lines-preserved : goal.lines-preserved
+unfolding goes-next
 lines-preserved g c =
     let inv = c.lines.invariant in
     let read = c.next_line-end.ensures.read in
