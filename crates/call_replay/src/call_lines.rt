@@ -158,7 +158,7 @@ fn call_step(
     body: BodyForm<'_>,
 ) -> Result<LineStep, Mem>
     requires readable { IsReadable body }
-    ensures step { IfOk result (λ s. s ≡ call_step setup.now fields.at draw (line_mark fields.at fields.number (option_copied fields.nonce) fields.created)
+    ensures step { IfOk result (λ s. s ≡ call_step setup.now fields.entry.at draw (line_mark fields.entry.at fields.entry.number (option_copied fields.entry.nonce) fields.entry.created)
         kind key.now presented.now (body_in body.entry)) }
     ensures asked { IfOk result IsAsked }
 {

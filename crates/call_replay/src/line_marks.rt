@@ -73,7 +73,7 @@ pub(crate) fn created_in(value: &Value) -> Option<Option<u64>>
 // The nonce of a line.
 #[tactic(auto, using(crate::proofs::Asked::nonce_length))]
 fn nonce_of(alloc: Global, fields: MarkFields<'_>) -> Result<Bytes, Mem>
-    ensures nonce { IfOk result (λ nonce. nonce ≡ unwrap_or (option_copied fields.nonce) (line_nonce fields.at fields.number)) }
+    ensures nonce { IfOk result (λ nonce. nonce ≡ unwrap_or (option_copied fields.entry.nonce) (line_nonce fields.entry.at fields.entry.number)) }
     ensures sized { IfOk result (λ nonce. has_nonce_length nonce ≡ true) }
 {
     match fields.nonce {
@@ -85,7 +85,7 @@ fn nonce_of(alloc: Global, fields: MarkFields<'_>) -> Result<Bytes, Mem>
 // The mark of a line.
 #[tactic(auto, using(crate::proofs::Asked::mark_fits))]
 fn line_mark(alloc: Global, fields: MarkFields<'_>) -> Result<Mark, Mem>
-    ensures mark { IfOk result (λ mark. mark ≡ line_mark fields.at fields.number (option_copied fields.nonce) fields.created) }
+    ensures mark { IfOk result (λ mark. mark ≡ line_mark fields.entry.at fields.entry.number (option_copied fields.entry.nonce) fields.entry.created) }
     ensures fits { IfOk result (λ mark. MarkFits (Some mark)) }
 {
     let nonce = nonce_of(alloc, fields)?;
@@ -102,7 +102,7 @@ pub(crate) fn mark_for(
     kind: CallKind,
     fields: MarkFields<'_>,
 ) -> Result<Option<Mark>, Mem>
-    ensures mark { IfOk result (λ mark. mark ≡ mark_for kind (line_mark fields.at fields.number (option_copied fields.nonce) fields.created)) }
+    ensures mark { IfOk result (λ mark. mark ≡ mark_for kind (line_mark fields.entry.at fields.entry.number (option_copied fields.entry.nonce) fields.entry.created)) }
     ensures fits { IfOk result MarkFits }
 {
     match kind {

@@ -1,11 +1,12 @@
 -- Words that aren't as many as a command takes, and words that are.
-use Rattle.std.proofs.Common.{◌≡◌, ℕ, List, [], ◌∷◌, length, Bool, true, false, Option, Some, None, Result, refl, sym, subst}
+use Rattle.std.proofs.Common.{◌≡◌, ℕ, List, [], ◌∷◌, length, Bool, true, false, Option, Some, None, Result, ◌∙◌, refl, ap, sym, subst}
 use Rattle.std.specs.Prelude.{◌==◌, codes, if◌then◌else◌}
+use Rattle.std.specs.Option.{option_or}
 use Rattle.std.specs.Str.{bytes_eq}
 use Rattle.command_words.specs.Positionals.{exactly}
 use Rattle.gnap_tool.specs.declared.command.Command.{Command}
 use Rattle.gnap_tool.specs.declared.wrong_words.WrongWords.{WrongWords}
-use Rattle.gnap_tool.specs.Commands.{AreRead, replay_of, field_of, with_three, with_four, sign_of, verify_words, as_words, rs_words, client_words, hash_of, load_words, counts_of, count_among, command_named}
+use Rattle.gnap_tool.specs.Commands.{AreRead, replay_of, field_of, with_three, with_four, with_five, sign_words, marked_sign_words, sign_of, verify_words, as_words, rs_words, client_words, hash_of, load_words, counts_of, count_among, command_named}
 
 no_replay : (words : List (List ℕ)) → exactly 1 words ≡ None → replay_of words ≡ None
 no_replay [] is = refl
@@ -24,6 +25,26 @@ not_three f (a ∷ []) is = refl
 not_three f (a ∷ b ∷ []) is = refl
 not_three f (a ∷ b ∷ c ∷ []) is = cc
 not_three f (a ∷ b ∷ c ∷ d ∷ words) is = refl
+
+or_none : (reading : Option Command) → option_or reading None ≡ reading
+or_none None = refl
+or_none (Some command) = refl
+
+-- what five words are read as, and what others are
+pub of_five : (result : Result Command WrongWords) (words : List (List ℕ)) (a b c d e : List ℕ) → words ≡ a ∷ b ∷ c ∷ d ∷ e ∷ []
+    → AreRead result words (with_five marked_sign_words words) → AreRead result words (sign_of words)
+of_five result words a b c d e is read =
+    let plain : with_four sign_words words ≡ None = ap (with_four sign_words) is in
+    let same : sign_of words ≡ with_five marked_sign_words words =
+    ap (option_or (with_five marked_sign_words words)) plain ∙ or_none (with_five marked_sign_words words) in
+    subst (AreRead result words) (sym same) read
+
+pub of_four : (result : Result Command WrongWords) (words : List (List ℕ))
+    → ((f : List ℕ → List ℕ → List ℕ → List ℕ → List ℕ → Option Command) → with_five f words ≡ None)
+    → AreRead result words (with_four sign_words words) → AreRead result words (sign_of words)
+of_four result words none read =
+    let same : sign_of words ≡ with_four sign_words words = ap (λ r. option_or r (with_four sign_words words)) (none marked_sign_words) in
+    subst (AreRead result words) (sym same) read
 
 not_sign : (words : List (List ℕ)) → exactly (count_among 4 5 (length words)) words ≡ None → sign_of words ≡ None
 not_sign [] is = refl

@@ -198,15 +198,13 @@ fn plain_sign_of(alloc: Global, words: &[String]) -> Result<Command, WrongWords>
     Ok(Command::Sign(config, key, created, file, None))
 }
 
-fn marked_sign_of(
-    alloc: Global,
-    words: &[String],
-    (config, key, created, file, mark): (&str, &str, &str, &str, &str),
-) -> Result<Command, WrongWords>
-    requires words { map string_bytes words.now ≡ config.now ∷ key.now ∷ created.now ∷ file.now ∷ mark.now ∷ [] }
+fn marked_sign_of(alloc: Global, words: &[String]) -> Result<Command, WrongWords>
     ensures read { AreRead result (map string_bytes words.now) (with_five marked_sign_words (map string_bytes words.now)) }
     ensures ranges { IfOk result IsWithinRanges }
 {
+    let Some((config, key, created, file, mark)) = five(words) else {
+        return Err(WrongWords::Count);
+    };
     let config = argument(alloc, 0, config)?;
     let key = argument(alloc, 1, key)?;
     let created = number(2, WordForm::Moment, created, 0, LAST_MOMENT)?;
@@ -216,12 +214,13 @@ fn marked_sign_of(
 }
 
 // Four words, or five with a nonce.
+#[tactic(auto, using(crate::proofs::CommandWords::of_five, crate::proofs::CommandWords::of_four))]
 fn sign_of(alloc: Global, words: &[String]) -> Result<Command, WrongWords>
     ensures read { AreRead result (map string_bytes words.now) (sign_of (map string_bytes words.now)) }
     ensures ranges { IfOk result IsWithinRanges }
 {
     match five(words) {
-        Some(marked) => marked_sign_of(alloc, words, marked),
+        Some(_) => marked_sign_of(alloc, words),
         None => plain_sign_of(alloc, words),
     }
 }

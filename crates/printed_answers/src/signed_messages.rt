@@ -56,7 +56,7 @@ pub fn print_signed<S: Source, O: Sink>(
 ) -> Ended
     requires setup { IsSetup setup.now }
     requires created { created < 10 ^ 15 }
-    requires nonce { IfSome (option_copied nonce.entry) (λ n. is_nonce n ≡ true) }
+    requires nonce { IfSome (option_copied nonce) (λ n. is_nonce n ≡ true) }
     requires fresh { (S.told source.old).taken ≡ [] }
     ensures prints { (rest : _) → IsRest (S.told source.new) rest
         → PrintsFor (SignsFile setup.now key.now created (option_copied nonce.entry) ((S.told source.new).taken ++ rest)) (O.told out.old) (O.told out.new) result }

@@ -37,7 +37,7 @@ fn sign_with(
 ) -> Result<(), SignFault>
     requires created { created < 10 ^ 15 }
     requires id { list_all is_string_byte id.now ≡ true }
-    requires nonce { IfSome (option_copied nonce.entry) (λ n. is_nonce n ≡ true) }
+    requires nonce { IfSome (option_copied nonce) (λ n. is_nonce n ≡ true) }
     requires tag { list_all is_string_byte tag.now ≡ true }
     ensures ok { OnOk result (signed_under message.old base.now (params_of id.now created (option_copied nonce.entry) tag.now) secret.now ≡ Some message.new) }
     ensures signed_before { (result ≡ Err HasSignature) ↔ (has_signature message.old ≡ true) }
@@ -58,7 +58,7 @@ fn sign_message(
 ) -> Result<Bytes, FileFault>
     requires setup { IsSetup setup.now }
     requires created { created < 10 ^ 15 }
-    requires nonce { IfSome (option_copied nonce.entry) (λ n. is_nonce n ≡ true) }
+    requires nonce { IfSome (option_copied nonce) (λ n. is_nonce n ≡ true) }
     ensures answer { Gives (SignsMessage setup.now id.now created (option_copied nonce.entry) message) result }
     ensures unread { result ≢ Err FileFault.ReadFault }
 {
@@ -99,7 +99,7 @@ pub fn sign_file<S: Source>(
 ) -> Result<Bytes, FileFault>
     requires setup { IsSetup setup.now }
     requires created { created < 10 ^ 15 }
-    requires nonce { IfSome (option_copied nonce.entry) (λ n. is_nonce n ≡ true) }
+    requires nonce { IfSome (option_copied nonce) (λ n. is_nonce n ≡ true) }
     requires fresh { (S.told source.old).taken ≡ [] }
     ensures answer { (rest : _) → IsRest (S.told source.new) rest
         → Gives (SignsFile setup.now id.now created (option_copied nonce.entry) ((S.told source.new).taken ++ rest)) result }
