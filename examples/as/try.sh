@@ -4,7 +4,7 @@
 # same bytes again, as somebody would send them who caught them, are refused. After three connections the server ends by itself.
 set -eu
 here=$(cd "$(dirname "$0")" && pwd)
-gnap=$here/../../gnap
+gnap=${GNAP:-$here/../../gnap}
 setup=$here/setup.json
 work=$(mktemp -d)
 server=
