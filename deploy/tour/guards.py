@@ -9,6 +9,8 @@ from http_signatures import Signer
 from tour.checks import Tour, form_token
 
 REQUESTS = 60
+# Fewer than the terminator lets through at once for a key.
+REPETITIONS = 20
 
 # Names of colours in the style of the pages, and the contrast that they need: that of texts, and that of a focus ring and a field's frame.
 CONTRASTS = {
@@ -111,10 +113,10 @@ def caught(tour: Tour) -> None:
         return tour.connections.send("POST", uri, caught_fields, body).error()
 
     tour.check("it is answered once", tour.connections.send("POST", uri, caught_fields, body).status == 200)
-    with ThreadPoolExecutor(20) as pool:
-        refusals = set(pool.map(send_again, range(REQUESTS)))
-    tour.check(f"and refused {REQUESTS} times, whichever worker it comes to", refusals == {"invalid_client"})
     tour.check("signed with another nonce it is answered", tour.connections.send("POST", uri, signer.fields("POST", uri, body), body).status == 200)
+    with ThreadPoolExecutor(20) as pool:
+        refusals = set(pool.map(send_again, range(REPETITIONS)))
+    tour.check(f"and the first one is refused {REPETITIONS} times, whichever worker it comes to", refusals == {"invalid_client"})
 
 
 def terminator(tour: Tour) -> None:
