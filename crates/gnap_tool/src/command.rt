@@ -66,7 +66,7 @@ fn argument(alloc: Global, place: usize, word: &str) -> Result<Bytes, WrongWords
 
 // The word at this place as bytes, where it may be a nonce.
 fn nonce(alloc: Global, place: usize, word: &str) -> Result<Bytes, WrongWords>
-    ensures taken { IfOk result (λ bytes. (bytes ≡ word.now) × (is_nonce_word word.now ≡ true)) }
+    ensures taken { IfOk result (λ bytes. (bytes ≡ word.now) × (is_nonce_word word.now ≡ true) × (is_nonce bytes ≡ true)) }
     ensures wrong { IfErr result (λ fault. (fault ≡ OutOfMemory) ⊎ ((fault ≡ Word place forms.Nonce) × (is_nonce_word word.now ≡ false))) }
 {
     if !(is_argument(word) && is_nonce(word.as_bytes())) {
