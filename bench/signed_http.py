@@ -53,9 +53,13 @@ def signed_post(path, key, body, created=None, nonce=None):
     return signed_request("POST", path, key, body, created=created, nonce=nonce)
 
 
+def fresh_nonce():
+    return secrets.token_urlsafe(16)
+
+
 def grant_request():
     """Another one each time, since the server takes a client's nonce once."""
-    return signed_post("/gnap", "c1", BEGIN, nonce=secrets.token_urlsafe(16))
+    return signed_post("/gnap", "c1", BEGIN, nonce=fresh_nonce())
 
 
 def introspection(value):
