@@ -7,7 +7,7 @@ use gnap_io::device::{Failed, Sink, Source};
 use gnap_io::gear::{Clock, Draws};
 use gnap_model::calls::Reply;
 use grant_machine::Gnap;
-use histories::machine::{Desk, Machine};
+use histories::machine::Desk;
 use http_edge::{EdgeFault, Held};
 use http_serving::{ReadyReply, read_request, write_busy, write_fault};
 use serving::connection::serve_connection;
@@ -18,6 +18,7 @@ use serving::message_step::MessageStep;
 use serving::message_turn::take_turn;
 use serving::server::Server;
 use serving::turn_taker::TurnTaker;
+use signed_calls::signed::Signed;
 use std::alloc::Global;
 
 /// The authorization server of a setup. Its workers share it, and it keeps nothing of what they do.
@@ -93,7 +94,7 @@ impl Server for AuthorizationServer {
         message: &Message,
         moment: u64,
         last: bool,
-    ) -> Result<MessageStep<ReadyReply, <Gnap as Machine>::Call>, Mem> {
+    ) -> Result<MessageStep<ReadyReply, Signed>, Mem> {
         match desk_call(alloc, message, &self.edge, moment)? {
             RequestStep::Direct(answer) => {
                 let said = print_direct(alloc, self.edge.setup(), answer, last)?;
