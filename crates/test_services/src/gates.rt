@@ -2,7 +2,7 @@
 ghost use Rattle.std.specs.Prelude.{◌≡◌, IfOk};
 ghost use Rattle.gnap_io.specs.Gears.{new_gear, AreStarted};
 
-use crate::served_messages::{BEGIN, bytes_of, put_texts, server};
+use crate::served_messages::{bytes_of, put_texts, server};
 use bytes_and_lists::bytes::Bytes;
 use bytes_and_lists::memory::{Duplicate, Mem};
 use gnap_io::device::{Device, Failed, Sink, Source};
@@ -150,11 +150,33 @@ impl<'a> Draws for GatedGear<'a> {
 
 impl<'a> Gear for GatedGear<'a> {}
 
+// Grant requests, by their nonces and by the signatures that another program made.
+const SIGNED: [(&str, &str); 4] = [
+    ("n1", "aI5U9JSBy8WrJC6Mz/0SO1VFTjijA6zYJYyZ6vCcsy0="),
+    ("n2", "NAXRuclapWS+Arqtim+zdXC9aZGWcFSm+Y/NlqDiHzM="),
+    ("n3", "kn89FFF70rjLlMUpxmPdtip6a49dS2nv/rCfZWm0bcA="),
+    ("n4", "Aif53gwNRzvs6pulYc5JeCOplNEh3TNqfc11OFhUgyA="),
+];
+
+const FIRST_LINE: &str = "POST /gnap HTTP/1.1\n";
+
+// What stands behind the first line of such a grant request.
+fn rest_of<'a>((nonce, signature): (&'a str, &'a str)) -> [&'a str; 5] {
+    [
+        "Host: as.example\nContent-Type: application/json\nContent-Digest: sha-256=:sokhpObDYVkSZEb8/PUgff1BUrQpmCFg5KKz7hUUpIU=:\n\
+            Signature-Input: sig1=(\"@method\" \"@target-uri\" \"content-digest\");created=1000;keyid=\"c1\";nonce=\"",
+        nonce,
+        "\";tag=\"gnap\"\nSignature: sig1=:",
+        signature,
+        ":\nContent-Length: 52\n\n{\"access_token\":{\"access\":[\"photos\"]},\"client\":\"c1\"}",
+    ]
+}
+
 // A grant request as long as a piece, by a field that isn't signed.
-fn filled_request(alloc: Global) -> Result<Bytes, Mem> {
-    let (line, rest) = BEGIN.split_once('\n').unwrap_or(("", ""));
-    let mut request = bytes_of(alloc, &[line, "\nX-Filler: "])?;
-    let rest = bytes_of(alloc, &["\n", rest])?;
+fn filled_request(alloc: Global, signed: (&str, &str)) -> Result<Bytes, Mem> {
+    let mut request = bytes_of(alloc, &[FIRST_LINE, "X-Filler: "])?;
+    let mut rest = bytes_of(alloc, &["\n"])?;
+    put_texts(&mut rest, &rest_of(signed))?;
     let length = request.len().saturating_add(rest.len());
     for _ in length..PIECE {
         request.push(b'a')?;
@@ -164,11 +186,14 @@ fn filled_request(alloc: Global) -> Result<Bytes, Mem> {
 }
 
 // A gear with one connection that brings a grant request by its first read and one by its second.
-fn gear_in_memory(alloc: Global) -> Result<MemGear, Mem>
+fn gear_in_memory(alloc: Global, is_first: bool) -> Result<MemGear, Mem>
     ensures { IfOk result (λ gear. ⟦<MemGear as Counted>⟧.state gear ≡ new_gear 1) }
 {
-    let mut bytes = filled_request(alloc)?;
-    put_texts(&mut bytes, &[BEGIN])?;
+    let [one, two, three, four] = SIGNED;
+    let (filled, other) = if is_first { (one, two) } else { (three, four) };
+    let mut bytes = filled_request(alloc, filled)?;
+    put_texts(&mut bytes, &[FIRST_LINE])?;
+    put_texts(&mut bytes, &rest_of(other))?;
     let conn = MemConn::new(alloc, bytes, 8000, Vec::new(alloc), Vec::new(alloc))?;
     let mut conns = Vec::new(alloc);
     conns.push(conn)?;
@@ -180,7 +205,7 @@ fn gated<'a>(alloc: Global, gate: &'a Gate, is_first: bool) -> Result<GatedGear<
     ensures { IfOk result (λ gear. ⟦<GatedGear<'a> as Counted>⟧.state gear ≡ new_gear 1) }
 {
     Ok(GatedGear {
-        gear: gear_in_memory(alloc)?,
+        gear: gear_in_memory(alloc, is_first)?,
         gate,
         is_first,
     })

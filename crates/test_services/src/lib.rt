@@ -21,6 +21,8 @@ mod guarded_requests;
 #[cfg(test)]
 mod loads;
 #[cfg(test)]
+mod marked_messages;
+#[cfg(test)]
 mod message_files;
 #[cfg(test)]
 mod read_replies;

@@ -20,15 +20,16 @@ use table_core::TableCore;
 const SETUP: &str =
     "{\"base\":\"https://as.example\",\"front\":\"https://front.example\",\"keys\":[{\"ask\":[],\"auto\":[\"photos\"],\"id\":\"c1\",\
         \"role\":\"client\",\"secret\":\"c2VjcmV0LWtleS1vZi1jMQ==\"},{\"id\":\"r1\",\"role\":\"server\",\
-        \"secret\":\"c2VjcmV0LWtleS1vZi1yMQ==\",\"serves\":[\"photos\"]}]}";
+        \"secret\":\"c2VjcmV0LWtleS1vZi1yMQ==\",\"serves\":[\"photos\"]},{\"id\":\"f1\",\"role\":\"front\",\
+        \"secret\":\"c2VjcmV0LWtleS1vZi1mMQ==\"}]}";
 
 // A grant request and the introspection of its token, signed by another program. Lines of requests and replies end with CR LF.
-pub(crate) const BEGIN: &str = r#"POST /gnap HTTP/1.1
+const BEGIN: &str = r#"POST /gnap HTTP/1.1
 Host: as.example
 Content-Type: application/json
 Content-Digest: sha-256=:sokhpObDYVkSZEb8/PUgff1BUrQpmCFg5KKz7hUUpIU=:
-Signature-Input: sig1=("@method" "@target-uri" "content-digest");created=1000;keyid="c1";tag="gnap"
-Signature: sig1=:HwEDWPz8bA8wzviConJZBqONvOgFj6sUzw3A0p4G7DY=:
+Signature-Input: sig1=("@method" "@target-uri" "content-digest");created=1000;keyid="c1";nonce="n1";tag="gnap"
+Signature: sig1=:aI5U9JSBy8WrJC6Mz/0SO1VFTjijA6zYJYyZ6vCcsy0=:
 Content-Length: 52
 
 {"access_token":{"access":["photos"]},"client":"c1"}"#;
@@ -44,7 +45,7 @@ Content-Length: 74
 {"access_token":"AAAAAAAAAAEAAAAAAAAAAAAAAAAAAAAA","resource_server":"r1"}"#;
 
 // What is written, by the rules of docs/HTTP.md and docs/FORMATS.md.
-const ACTIVE: &str = r#"HTTP/1.1 200 OK
+pub(crate) const ACTIVE: &str = r#"HTTP/1.1 200 OK
 Content-Type: application/json
 Cache-Control: no-store
 Content-Length: 119
@@ -109,25 +110,36 @@ fn gear(alloc: Global) -> Result<MemGear, Mem>
     MemGear::new(conns, moments, Vec::new(alloc), Vec::new(alloc))
 }
 
-fn one_gear(alloc: Global) -> Result<Vec<MemGear>, Mem>
+fn one_gear(alloc: Global, gear: MemGear) -> Result<Vec<MemGear>, Mem>
+    requires { ⟦<MemGear as Counted>⟧.state gear ≡ new_gear 2 }
     ensures { IfOk result (λ gears. AreStarted ⟦<MemGear as Counted>⟧.state 1 4294967295 gears.items) }
 {
     let mut gears = Vec::new(alloc);
-    gears.push(gear(alloc)?)?;
+    gears.push(gear)?;
     Ok(gears)
 }
 
-// The gear after all was served.
-fn served_gears<R: Threads + Wait + Sync>(rt: &R, alloc: Global) -> Result<Vec<MemGear>, Mem> {
+// A gear with two connections, after all was served.
+pub(crate) fn served_gears<R: Threads + Wait + Sync>(
+    rt: &R,
+    alloc: Global,
+    gear: MemGear,
+) -> Result<Vec<MemGear>, Mem>
+    requires { ⟦<MemGear as Counted>⟧.state gear ≡ new_gear 2 }
+{
     let server = server(alloc)?;
     let core = TableCore::new(alloc, server.edge.setup().copy()?);
-    let (gears, served) = serve_gears(rt, alloc, core, &server, one_gear(alloc)?);
+    let (gears, served) = serve_gears(rt, alloc, core, &server, one_gear(alloc, gear)?);
     served?;
     Ok(gears)
 }
 
+fn gears_served<R: Threads + Wait + Sync>(rt: &R, alloc: Global) -> Result<Vec<MemGear>, Mem> {
+    served_gears(rt, alloc, gear(alloc)?)
+}
+
 // Whether these replies were written to the connection of a place.
-fn has_replies(
+pub(crate) fn has_replies(
     alloc: Global,
     gears: &[MemGear],
     place: usize,
@@ -146,7 +158,7 @@ fn has_replies(
 /// A worker at a core: after a write that failed the replies before it are whole and the entry stands.
 #[test]
 fn an_entry_stands_whose_reply_was_not_written(rt: HostRuntime) {
-    let gears = served_gears(&rt, rt.alloc());
+    let gears = gears_served(&rt, rt.alloc());
     assert!(rt; gears.is_ok(), "no memory");
     let gears = gears.unwrap_or(Vec::new(rt.alloc()));
     assert!(rt;
