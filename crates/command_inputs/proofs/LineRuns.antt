@@ -39,7 +39,7 @@ module _ {E : Type 0} where
 
   pub each_from-next : (P : ℕ → Turn (List ℕ) E → Type 0) (number : ℕ) (turns : List (Turn (List ℕ) E)) (turn : Turn (List ℕ) E)
       → EachFrom number P turns → P (number + length turns) turn → EachFrom number P (turns ++ turn ∷ [])
-  each_from-next P number [] turn each is = (is, tt)
+  each_from-next P number [] turn each is = let same : number + 0 ≡ number = omega arith in (subst (λ (n : ℕ). P n turn) same is, tt)
   each_from-next P number (first ∷ turns) turn each is =
       let place : number + length (first ∷ turns) ≡ number + 1 + length turns = omega arith in
       (each.0, each_from-next P (number + 1) turns turn each.1 (subst (λ (n : ℕ). P n turn) place is))
