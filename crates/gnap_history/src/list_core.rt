@@ -1,5 +1,10 @@
 //! The core that keeps a list of notes and the nonces that are remembered.
 ghost use Rattle.std.specs.Prelude.{◌≡◌, []};
+ghost use Rattle.histories.specs.ByNotes.{stands-renumbered};
+ghost use Rattle.gnap_model.specs.Answer.{gnap_answer};
+ghost use Rattle.gnap_model.specs.declared.calls.Call.TheVariants.{Lapse};
+ghost use Rattle.signed_calls.proofs.RememberingSteps.{signed-renumbered};
+ghost use Rattle.grant_machine.specs.Gnap.{GnapFits, SignedFits};
 
 use crate::note_core::NoteCore;
 use bytes_and_lists::memory::Mem;
@@ -55,7 +60,8 @@ impl Core for ListCore {
         self.core.step(moment, draw, signed)
     }
 
-    ghost legal = { λ list h stands. ⟦<Remembering<NoteCore, NonceStore> as Core>⟧.legal list.core h stands };
+    ghost legal = { λ list h stands. stands.legal };
 
-    ghost renumbers = { λ list h k same stands. ⟦<Remembering<NoteCore, NonceStore> as Core>⟧.renumbers list.core h k same stands };
+    ghost renumbers = { λ list h k same stands.
+        signed-renumbered SignedFits _ _ _ _ _ h k (λ a b. stands-renumbered gnap_answer GnapFits Lapse _ _ _ a b) same stands };
 }

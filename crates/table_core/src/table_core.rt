@@ -2,7 +2,9 @@
 ghost use Rattle.std.specs.Prelude.{◌≡◌, List, [], count_by};
 ghost use Rattle.histories.specs.History.{now, notes_of};
 ghost use Rattle.signed_calls.specs.Remembering.{is_kept};
-ghost use Rattle.grant_machine.specs.Gnap.{GnapEntry};
+ghost use Rattle.signed_calls.proofs.RememberingSteps.{signed-renumbered};
+ghost use Rattle.grant_machine.specs.Gnap.{GnapEntry, SignedFits};
+ghost use Rattle.table_core.specs.Renumbered.{stands-renumbered};
 ghost use Rattle.table_core.specs.Frugal.{IsFrugal};
 
 use crate::row_core::RowCore;
@@ -67,7 +69,8 @@ impl Core for TableCore {
         self.core.step(moment, draw, signed)
     }
 
-    ghost legal = { λ tables h stands. ⟦<Remembering<RowCore, NonceStore> as Core>⟧.legal tables.core h stands };
+    ghost legal = { λ tables h stands. stands.legal };
 
-    ghost renumbers = { λ tables h k same stands. ⟦<Remembering<RowCore, NonceStore> as Core>⟧.renumbers tables.core h k same stands };
+    ghost renumbers = { λ tables h k same stands.
+        signed-renumbered SignedFits _ _ _ _ _ h k (λ a b. stands-renumbered _ _ _ _ _ _ a b) same stands };
 }
