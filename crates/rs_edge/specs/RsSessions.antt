@@ -8,7 +8,7 @@ use Rattle.histories.specs.Turns.{moments_in, entries_in}
 use Rattle.http_edge.specs.declared.fault.EdgeFault.{EdgeFault}
 use Rattle.serving.specs.Connections.{Session}
 use Rattle.serving.specs.declared.ends.ConnectionEnd.{ConnectionEnd}
-use Rattle.as_edge.specs.EdgeWire.{edge_wire}
+use Rattle.http_serving.specs.EdgeWire.{edge_wire}
 use Rattle.resource_server.specs.declared.setup.RsSetup.{RsSetup}
 use Rattle.resource_server.specs.Guarding.{AddsExchanges}
 use Rattle.rs_edge.specs.RsTurns.{RsTurn, IsRsTurn}

@@ -7,6 +7,7 @@
 
 pub mod connections;
 pub mod doors;
+mod guarded_server;
 pub mod laws;
 mod replies;
 mod service;

@@ -3,9 +3,10 @@ ghost use Rattle.std.specs.Prelude.{◌≡◌, ◌≢◌, IfOk};
 ghost use Rattle.http_edge.specs.Replies.{reply_bytes, busy_reply, MayWrite};
 ghost use Rattle.resource_server.specs.Fits.{RsSetupFits};
 ghost use Rattle.resource_server.specs.Guarding.{IsAnswer};
-ghost use Rattle.serving.specs.MessageTurns.{HasWrittenText};
+ghost use Rattle.serving.specs.MessageTurns.{HasWrittenText, TakesTurn};
+ghost use Rattle.rs_edge.specs.LinkBackends.{link_backend};
 ghost use Rattle.rs_edge.specs.RsReplies.{rs_reply};
-ghost use Rattle.rs_edge.specs.RsTurns.{TakesRsTurn};
+ghost use Rattle.rs_edge.specs.RsTurns.{IsRsTurn};
 
 use crate::replies::answer_reply;
 use bytes_and_lists::memory::Mem;
@@ -62,7 +63,7 @@ fn reply_of(
 }
 
 /// One message's turn: it is guarded, and the reply to the answer is written.
-pub(crate) fn turn<L: Link, S: Source + Sink, G: Clock>(
+pub(crate) fn guarded_turn<L: Link, S: Source + Sink, G: Clock>(
     alloc: Global,
     setup: &RsSetup,
     link: &mut L,
@@ -72,8 +73,8 @@ pub(crate) fn turn<L: Link, S: Source + Sink, G: Clock>(
     last: bool,
 ) -> AfterTurn
     requires { RsSetupFits setup.now }
-    ensures { TakesRsTurn setup.now last message.now (L.link link.old) (L.link link.new) (G.state gear.old) (G.state gear.new) (S.told conn.old) (S.told conn.new)
-        (S.faults conn.old) (S.faults conn.new) result }
+    ensures { (past : _) → past ≡ L.link link.old → TakesTurn (link_backend L.link setup.now) (IsRsTurn setup.now) last message.now link.old past link.new
+        (G.state gear.old) (G.state gear.new) (S.told conn.old) (S.told conn.new) (S.faults conn.old) (S.faults conn.new) result }
 {
     let moment = gear.now();
     let answer = guard(alloc, message, setup, link, moment);
