@@ -94,29 +94,79 @@ fn persistent(
     }
 }
 
-const OK: &str = "200 OK";
+// Answered with 200 and this object.
+fn answered(
+    signer: Signer,
+    line: &'static str,
+    value: &'static str,
+    body: &'static str,
+    object: &'static str,
+) -> Exchange {
+    persistent(signer, line, value, body, "200 OK", "", Body::Json(object))
+}
+
+// Of a client, and answered with 204.
+fn ended(line: &'static str, value: &'static str) -> Exchange {
+    persistent(
+        Signer::Client,
+        line,
+        value,
+        "",
+        "204 No Content",
+        "",
+        Body::Nothing,
+    )
+}
+
+// Answered with 401 and this object.
+fn unauthorized(
+    signer: Signer,
+    line: &'static str,
+    body: &'static str,
+    object: &'static str,
+) -> Exchange {
+    persistent(
+        signer,
+        line,
+        "",
+        body,
+        "401 Unauthorized",
+        "WWW-Authenticate: GNAP\n",
+        Body::Json(object),
+    )
+}
+
+// A document that nobody signs for.
+fn told(line: &'static str, document: Body) -> Exchange {
+    persistent(Signer::Nobody, line, "", "", "200 OK", "", document)
+}
+
+// By HTTP/1.0, which closes the connection.
+fn by_http_1_0(exchange: Exchange) -> Exchange {
+    Exchange {
+        version: Version::Old,
+        more: "Connection: close\n",
+        ..exchange
+    }
+}
 
 const BEGIN: &str = r#"{"access_token":{"access":["photos"]},"client":"c1"}"#;
 
-const GRANTED: Body = Body::Json(
-    "{\"access_token\":{\"access\":[\"photos\"],\"expires_in\":3600,\
+const GRANTED: &str = "{\"access_token\":{\"access\":[\"photos\"],\"expires_in\":3600,\
         \"manage\":{\"access_token\":{\"value\":\"AAAAAAAAAAIAAAAAAAAAAAAAAAAAAAAA\"},\
         \"uri\":\"https://as.example/token\"},\"value\":\"AAAAAAAAAAEAAAAAAAAAAAAAAAAAAAAA\"},\
         \"continue\":{\"access_token\":{\"value\":\"AAAAAAAAAAMAAAAAAAAAAAAAAAAAAAAA\"},\
-        \"uri\":\"https://as.example/continue\",\"wait\":5}}",
-);
+        \"uri\":\"https://as.example/continue\",\"wait\":5}}";
 
-const GRANTED_NEXT: Body = Body::Json(
-    "{\"access_token\":{\"access\":[\"photos\"],\"expires_in\":3600,\
+const GRANTED_NEXT: &str = "{\"access_token\":{\"access\":[\"photos\"],\"expires_in\":3600,\
         \"manage\":{\"access_token\":{\"value\":\"AAAAAAAAAAUAAAAAAAAAAAAAAAAAAAAA\"},\
         \"uri\":\"https://as.example/token\"},\"value\":\"AAAAAAAAAAQAAAAAAAAAAAAAAAAAAAAA\"},\
         \"continue\":{\"access_token\":{\"value\":\"AAAAAAAAAAYAAAAAAAAAAAAAAAAAAAAA\"},\
-        \"uri\":\"https://as.example/continue\",\"wait\":5}}",
-);
+        \"uri\":\"https://as.example/continue\",\"wait\":5}}";
 
 /// A grant request, the first at a server.
 pub(crate) fn first_grant() -> Exchange {
-    persistent(Signer::Client, "POST /gnap", "", BEGIN, OK, "", GRANTED)
+    answered(Signer::Client, "POST /gnap", "", BEGIN, GRANTED)
 }
 
 /// A request that needs no key.
@@ -136,24 +186,8 @@ pub(crate) fn not_found() -> Exchange {
 pub(crate) fn unsigned_exchanges() -> [Exchange; 6] {
     [
         not_found(),
-        persistent(
-            Signer::Nobody,
-            "OPTIONS /gnap",
-            "",
-            "",
-            OK,
-            "",
-            Body::ClientDiscovery,
-        ),
-        persistent(
-            Signer::Nobody,
-            "GET /.well-known/gnap-as-rs",
-            "",
-            "",
-            OK,
-            "",
-            Body::ServerDiscovery,
-        ),
+        told("OPTIONS /gnap", Body::ClientDiscovery),
+        told("GET /.well-known/gnap-as-rs", Body::ServerDiscovery),
         persistent(
             Signer::Nobody,
             "PUT /gnap",
@@ -163,235 +197,190 @@ pub(crate) fn unsigned_exchanges() -> [Exchange; 6] {
             "Allow: POST, OPTIONS\n",
             Body::Nothing,
         ),
-        persistent(
+        unauthorized(
             Signer::Nobody,
             "POST /introspect",
             "",
-            "",
-            "401 Unauthorized",
-            "WWW-Authenticate: GNAP\n",
-            Body::Json(r#"{"error":{"code":"invalid_resource_server"}}"#),
+            r#"{"error":{"code":"invalid_resource_server"}}"#,
         ),
-        Exchange {
-            version: Version::Old,
-            more: "Connection: close\n",
-            ..not_found()
-        },
+        by_http_1_0(not_found()),
     ]
 }
 
 /// Grant requests, each the first at a server: by HTTP/1.1, one that closes the connection, and by HTTP/1.0; one without its members, and one by another
 /// role.
 pub(crate) fn grant_requests() -> [Exchange; 5] {
+    let closing = Exchange {
+        version: Version::Closing,
+        ..by_http_1_0(first_grant())
+    };
+    let empty = persistent(
+        Signer::Client,
+        "POST /gnap",
+        "",
+        "{}",
+        "400 Bad Request",
+        "",
+        Body::Json(r#"{"error":{"code":"invalid_request"}}"#),
+    );
+    let front = unauthorized(
+        Signer::Front,
+        "POST /gnap",
+        BEGIN,
+        r#"{"error":{"code":"invalid_client"}}"#,
+    );
     [
         first_grant(),
-        Exchange {
-            version: Version::Closing,
-            more: "Connection: close\n",
-            ..first_grant()
-        },
-        Exchange {
-            version: Version::Old,
-            more: "Connection: close\n",
-            ..first_grant()
-        },
-        persistent(
-            Signer::Client,
-            "POST /gnap",
-            "",
-            "{}",
-            "400 Bad Request",
-            "",
-            Body::Json(r#"{"error":{"code":"invalid_request"}}"#),
-        ),
-        persistent(
-            Signer::Front,
-            "POST /gnap",
-            "",
-            BEGIN,
-            "401 Unauthorized",
-            "WWW-Authenticate: GNAP\n",
-            Body::Json(r#"{"error":{"code":"invalid_client"}}"#),
-        ),
+        closing,
+        by_http_1_0(first_grant()),
+        empty,
+        front,
     ]
 }
 
 /// The second grant request at a server.
 pub(crate) fn second_grant() -> Exchange {
-    Exchange {
-        reply: GRANTED_NEXT,
-        ..first_grant()
-    }
+    answered(Signer::Client, "POST /gnap", "", BEGIN, GRANTED_NEXT)
 }
 
-/// What may follow a grant: the introspection of its token, a modification, the rotation of the token, by a request with the length 0, its
-/// revocation, and the cancellation of the grant.
-pub(crate) fn after_a_grant() -> [Exchange; 5] {
-    [
-        persistent(
-            Signer::ResourceServer,
-            "POST /introspect",
-            "",
-            r#"{"access_token":"AAAAAAAAAAEAAAAAAAAAAAAAAAAAAAAA","resource_server":"r1"}"#,
-            OK,
-            "",
-            Body::Json(
-                "{\"access\":[\"photos\"],\"active\":true,\"exp\":4600,\"iat\":1000,\"instance_id\":\"c1\",\
+/// The introspection of the token of a grant.
+pub(crate) fn introspection() -> Exchange {
+    answered(
+        Signer::ResourceServer,
+        "POST /introspect",
+        "",
+        r#"{"access_token":"AAAAAAAAAAEAAAAAAAAAAAAAAAAAAAAA","resource_server":"r1"}"#,
+        "{\"access\":[\"photos\"],\"active\":true,\"exp\":4600,\"iat\":1000,\"instance_id\":\"c1\",\
         \"iss\":\"https://as.example/gnap\",\"key\":\"c1\"}",
-            ),
-        ),
-        persistent(
-            Signer::Client,
-            "PATCH /continue",
-            "AAAAAAAAAAMAAAAAAAAAAAAAAAAAAAAA",
-            r#"{"access_token":{"access":["photos"],"label":"more"}}"#,
-            OK,
-            "",
-            Body::Json(
-                "{\"access_token\":{\"access\":[\"photos\"],\"expires_in\":3600,\"label\":\"more\",\
+    )
+}
+
+/// The modification of a grant.
+pub(crate) fn modification() -> Exchange {
+    answered(
+        Signer::Client,
+        "PATCH /continue",
+        "AAAAAAAAAAMAAAAAAAAAAAAAAAAAAAAA",
+        r#"{"access_token":{"access":["photos"],"label":"more"}}"#,
+        "{\"access_token\":{\"access\":[\"photos\"],\"expires_in\":3600,\"label\":\"more\",\
         \"manage\":{\"access_token\":{\"value\":\"AAAAAAAAAAUAAAAAAAAAAAAAAAAAAAAA\"},\
         \"uri\":\"https://as.example/token\"},\"value\":\"AAAAAAAAAAQAAAAAAAAAAAAAAAAAAAAA\"},\
         \"continue\":{\"access_token\":{\"value\":\"AAAAAAAAAAYAAAAAAAAAAAAAAAAAAAAA\"},\
         \"uri\":\"https://as.example/continue\",\"wait\":5}}",
-            ),
-        ),
-        persistent(
-            Signer::Client,
-            "POST /token",
-            "AAAAAAAAAAIAAAAAAAAAAAAAAAAAAAAA",
-            "",
-            OK,
-            "",
-            Body::Json(
-                "{\"access_token\":{\"access\":[\"photos\"],\"expires_in\":3600,\
-        \"manage\":{\"access_token\":{\"value\":\"AAAAAAAAAAUAAAAAAAAAAAAAAAAAAAAA\"},\
-        \"uri\":\"https://as.example/token\"},\"value\":\"AAAAAAAAAAQAAAAAAAAAAAAAAAAAAAAA\"}}",
-            ),
-        ),
-        persistent(
-            Signer::Client,
-            "DELETE /token",
-            "AAAAAAAAAAIAAAAAAAAAAAAAAAAAAAAA",
-            "",
-            "204 No Content",
-            "",
-            Body::Nothing,
-        ),
-        persistent(
-            Signer::Client,
-            "DELETE /continue",
-            "AAAAAAAAAAMAAAAAAAAAAAAAAAAAAAAA",
-            "",
-            "204 No Content",
-            "",
-            Body::Nothing,
-        ),
-    ]
+    )
 }
 
-/// An interaction: asked for, found by its code, looked at, decided, and continued with its reference.
-pub(crate) fn interaction() -> [Exchange; 5] {
-    [
-        persistent(
-            Signer::Client,
-            "POST /gnap",
-            "",
-            "{\"access_token\":{\"access\":[\"mail\"]},\"client\":\"c1\",\"interact\":{\"finish\":{\"method\":\"redirect\",\
+/// The rotation of the token of a grant, by a request with the length 0.
+pub(crate) fn rotation() -> Exchange {
+    answered(
+        Signer::Client,
+        "POST /token",
+        "AAAAAAAAAAIAAAAAAAAAAAAAAAAAAAAA",
+        "",
+        "{\"access_token\":{\"access\":[\"photos\"],\"expires_in\":3600,\
+        \"manage\":{\"access_token\":{\"value\":\"AAAAAAAAAAUAAAAAAAAAAAAAAAAAAAAA\"},\
+        \"uri\":\"https://as.example/token\"},\"value\":\"AAAAAAAAAAQAAAAAAAAAAAAAAAAAAAAA\"}}",
+    )
+}
+
+/// The revocation of the token.
+pub(crate) fn revocation() -> Exchange {
+    ended("DELETE /token", "AAAAAAAAAAIAAAAAAAAAAAAAAAAAAAAA")
+}
+
+/// The cancellation of a grant.
+pub(crate) fn cancellation() -> Exchange {
+    ended("DELETE /continue", "AAAAAAAAAAMAAAAAAAAAAAAAAAAAAAAA")
+}
+
+/// A grant request that asks for an interaction.
+pub(crate) fn asked() -> Exchange {
+    answered(
+        Signer::Client,
+        "POST /gnap",
+        "",
+        "{\"access_token\":{\"access\":[\"mail\"]},\"client\":\"c1\",\"interact\":{\"finish\":{\"method\":\"redirect\",\
         \"nonce\":\"n\",\"uri\":\"https://c.example/f\"},\"start\":[\"user_code\"]}}",
-            OK,
-            "",
-            Body::Json(
-                "{\"continue\":{\"access_token\":{\"value\":\"AAAAAAAAAAEAAAAAAAAAAAAAAAAAAAAA\"},\
+        "{\"continue\":{\"access_token\":{\"value\":\"AAAAAAAAAAEAAAAAAAAAAAAAAAAAAAAA\"},\
         \"uri\":\"https://as.example/continue\",\"wait\":5},\"interact\":{\"expires_in\":600,\
         \"finish\":\"AAAAAAAAAAMAAAAAAAAAAAAAAAAAAAAA\",\"user_code\":\"BBBBBBBB\"}}",
-            ),
-        ),
-        persistent(
-            Signer::Front,
-            "POST /front/code",
-            "",
-            r#"{"code":"BBBBBBBB"}"#,
-            OK,
-            "",
-            Body::Json(r#"{"handle":"AAAAAAAAAAIAAAAAAAAAAAAAAAAAAAAA"}"#),
-        ),
-        persistent(
-            Signer::Front,
-            "POST /front/look",
-            "",
-            r#"{"handle":"AAAAAAAAAAIAAAAAAAAAAAAAAAAAAAAA"}"#,
-            OK,
-            "",
-            Body::Json(
-                r#"{"access_token":[{"access":["mail"]}],"client":"c1","expires_in":600,"subject":false}"#,
-            ),
-        ),
-        persistent(
-            Signer::Front,
-            "POST /front/decide",
-            "",
-            r#"{"handle":"AAAAAAAAAAIAAAAAAAAAAAAAAAAAAAAA","rights":["mail"],"verdict":"grant"}"#,
-            OK,
-            "",
-            Body::Json(
-                "{\"finish\":\"redirect\",\
-        \"uri\":\"https://c.example/f?hash=k2-WFr--ddqL4CjKibb680lU4vU2nkvBusvmwMoIB54&interact_ref=AAAAAAAAAAQAAAAAAAAAAAAAAAAAAAAA\"}\
-        ",
-            ),
-        ),
-        persistent(
-            Signer::Client,
-            "POST /continue",
-            "AAAAAAAAAAEAAAAAAAAAAAAAAAAAAAAA",
-            r#"{"interact_ref":"AAAAAAAAAAQAAAAAAAAAAAAAAAAAAAAA"}"#,
-            OK,
-            "",
-            Body::Json(
-                "{\"access_token\":{\"access\":[\"mail\"],\"expires_in\":3600,\
+    )
+}
+
+/// The search for it by its code.
+pub(crate) fn found() -> Exchange {
+    answered(
+        Signer::Front,
+        "POST /front/code",
+        "",
+        r#"{"code":"BBBBBBBB"}"#,
+        r#"{"handle":"AAAAAAAAAAIAAAAAAAAAAAAAAAAAAAAA"}"#,
+    )
+}
+
+/// A look at it.
+pub(crate) fn looked_at() -> Exchange {
+    answered(
+        Signer::Front,
+        "POST /front/look",
+        "",
+        r#"{"handle":"AAAAAAAAAAIAAAAAAAAAAAAAAAAAAAAA"}"#,
+        r#"{"access_token":[{"access":["mail"]}],"client":"c1","expires_in":600,"subject":false}"#,
+    )
+}
+
+/// The user's decision.
+pub(crate) fn decided() -> Exchange {
+    answered(
+        Signer::Front,
+        "POST /front/decide",
+        "",
+        r#"{"handle":"AAAAAAAAAAIAAAAAAAAAAAAAAAAAAAAA","rights":["mail"],"verdict":"grant"}"#,
+        "{\"finish\":\"redirect\",\
+        \"uri\":\"https://c.example/f?hash=k2-WFr--ddqL4CjKibb680lU4vU2nkvBusvmwMoIB54&interact_ref=AAAAAAAAAAQAAAAAAAAAAAAAAAAAAAAA\"}",
+    )
+}
+
+/// The continuation with the decision's reference.
+pub(crate) fn continued() -> Exchange {
+    answered(
+        Signer::Client,
+        "POST /continue",
+        "AAAAAAAAAAEAAAAAAAAAAAAAAAAAAAAA",
+        r#"{"interact_ref":"AAAAAAAAAAQAAAAAAAAAAAAAAAAAAAAA"}"#,
+        "{\"access_token\":{\"access\":[\"mail\"],\"expires_in\":3600,\
         \"manage\":{\"access_token\":{\"value\":\"AAAAAAAAAAYAAAAAAAAAAAAAAAAAAAAA\"},\
         \"uri\":\"https://as.example/token\"},\"value\":\"AAAAAAAAAAUAAAAAAAAAAAAAAAAAAAAA\"},\
         \"continue\":{\"access_token\":{\"value\":\"AAAAAAAAAAcAAAAAAAAAAAAAAAAAAAAA\"},\
         \"uri\":\"https://as.example/continue\",\"wait\":5}}",
-            ),
-        ),
-    ]
+    )
 }
 
-/// That interaction, the introspection of its token, the cancellation of the grant, and the introspection once more.
-pub(crate) fn whole_run(alloc: Global) -> Result<Vec<Exchange>, Mem> {
-    let asked = persistent(
+/// An interaction, the introspection of its token, the cancellation of the grant, and the introspection once more.
+pub(crate) fn whole_run() -> [Exchange; 8] {
+    let active = answered(
         Signer::ResourceServer,
         "POST /introspect",
         "",
         r#"{"access_token":"AAAAAAAAAAUAAAAAAAAAAAAAAAAAAAAA","resource_server":"r1"}"#,
-        OK,
-        "",
-        Body::Json(
-            "{\"access\":[\"mail\"],\"active\":true,\"exp\":4600,\"iat\":1000,\"instance_id\":\"c1\",\
-        \"iss\":\"https://as.example/gnap\",\"key\":\"c1\"}",
-        ),
-    );
-    let cancelled = persistent(
-        Signer::Client,
-        "DELETE /continue",
-        "AAAAAAAAAAcAAAAAAAAAAAAAAAAAAAAA",
-        "",
-        "204 No Content",
-        "",
-        Body::Nothing,
+        "{\"access\":[\"mail\"],\"active\":true,\"exp\":4600,\"iat\":1000,\"instance_id\":\"c1\",\
+            \"iss\":\"https://as.example/gnap\",\"key\":\"c1\"}",
     );
     let inactive = Exchange {
         reply: Body::Json(r#"{"active":false}"#),
-        ..asked
+        ..active
     };
-    let mut run = Vec::new(alloc);
-    for exchange in interaction() {
-        run.push(exchange)?;
-    }
-    for exchange in [asked, cancelled, inactive] {
-        run.push(exchange)?;
-    }
-    Ok(run)
+    let cancelled = ended("DELETE /continue", "AAAAAAAAAAcAAAAAAAAAAAAAAAAAAAAA");
+    [
+        asked(),
+        found(),
+        looked_at(),
+        decided(),
+        continued(),
+        active,
+        cancelled,
+        inactive,
+    ]
 }
 
 /// The server of the setup.

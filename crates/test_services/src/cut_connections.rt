@@ -3,8 +3,9 @@ ghost use Rattle.std.specs.Prelude.{IfOk};
 ghost use Rattle.gnap_io.specs.MemoryForms.{IsUnusedConn};
 
 use crate::conversations::{
-    Exchange, MOMENT, after_a_grant, first_grant, grant_requests, interaction, not_found, replies,
-    reply, reply_text, request, requests, second_grant, server, unsigned_exchanges,
+    Exchange, MOMENT, asked, cancellation, continued, decided, first_grant, found, grant_requests,
+    introspection, looked_at, modification, not_found, replies, reply, reply_text, request,
+    requests, revocation, rotation, second_grant, server, unsigned_exchanges,
 };
 use crate::served_messages::bytes_of;
 use as_edge::AuthorizationServer;
@@ -194,33 +195,51 @@ fn grant_requests_may_be_cut_anywhere(rt: HostRuntime) {
 fn two_grant_requests_may_be_cut_anywhere(rt: HostRuntime) {
     let both = [first_grant(), second_grant()];
     assert!(rt; matches!(&wrong_cuts(rt.alloc(), &both, 0), Ok(wrong) if wrong.is_empty()));
+}
+
+#[test]
+fn a_second_grant_request_gets_nothing_where_it_is_not_whole(rt: HostRuntime) {
     let wrong = wrong_ends(rt.alloc(), &[first_grant()], &second_grant());
     assert!(rt; matches!(&wrong, Ok(wrong) if wrong.is_empty()));
 }
 
-#[test]
-fn what_follows_a_grant_may_be_cut_anywhere(rt: HostRuntime) {
-    for exchange in after_a_grant() {
-        assert!(rt;
-            is_read_whole(rt.alloc(), &[first_grant()], &exchange) == Ok(true),
-            "{}",
-            exchange.line
-        );
+// Whether each of these may, behind the others.
+fn are_read_whole(alloc: Global, before: &[Exchange], each: &[Exchange]) -> Result<bool, Mem> {
+    for exchange in each {
+        if !is_read_whole(alloc, before, exchange)? {
+            return Ok(false);
+        }
     }
+    Ok(true)
 }
 
 #[test]
-fn an_interaction_may_be_cut_anywhere(rt: HostRuntime) {
-    let [asked, found, looked_at, decided, continued] = interaction();
-    assert!(rt; is_read_whole(rt.alloc(), &[], &asked) == Ok(true));
-    for exchange in [found, looked_at, decided] {
-        assert!(rt;
-            is_read_whole(rt.alloc(), &[asked], &exchange) == Ok(true),
-            "{}",
-            exchange.line
-        );
-    }
-    assert!(rt; is_read_whole(rt.alloc(), &[asked, decided], &continued) == Ok(true));
+fn an_introspection_and_a_modification_may_be_cut_anywhere(rt: HostRuntime) {
+    let each = [introspection(), modification()];
+    assert!(rt; are_read_whole(rt.alloc(), &[first_grant()], &each) == Ok(true));
+}
+
+#[test]
+fn what_is_done_with_a_token_may_be_cut_anywhere(rt: HostRuntime) {
+    let each = [rotation(), revocation(), cancellation()];
+    assert!(rt; are_read_whole(rt.alloc(), &[first_grant()], &each) == Ok(true));
+}
+
+#[test]
+fn what_finds_an_interaction_may_be_cut_anywhere(rt: HostRuntime) {
+    assert!(rt; is_read_whole(rt.alloc(), &[], &asked()) == Ok(true));
+    let each = [found(), looked_at()];
+    assert!(rt; are_read_whole(rt.alloc(), &[asked()], &each) == Ok(true));
+}
+
+#[test]
+fn a_decision_may_be_cut_anywhere(rt: HostRuntime) {
+    assert!(rt; are_read_whole(rt.alloc(), &[asked()], &[decided()]) == Ok(true));
+}
+
+#[test]
+fn a_continuation_may_be_cut_anywhere(rt: HostRuntime) {
+    assert!(rt; are_read_whole(rt.alloc(), &[asked(), decided()], &[continued()]) == Ok(true));
 }
 
 /// What is no request, the status of the reply, and how the connection ends.

@@ -192,7 +192,7 @@ enum Failing {
 // What the requests of a whole run bring about where that fails.
 fn plans(alloc: Global, failing: Failing) -> Result<Vec<Plan>, Mem> {
     let mut plans = Vec::new(alloc);
-    for (place, exchange) in whole_run(alloc)?.iter().enumerate() {
+    for (place, exchange) in whole_run().iter().enumerate() {
         let nonce = format!(in alloc; "n{place}")?;
         let bytes = request(alloc, exchange, nonce.as_str())?;
         let mut plan = Plan {
