@@ -1,11 +1,12 @@
 //! A line of a replay: the call that it makes, or what is said to it at once.
-ghost use Rattle.std.specs.Prelude.{◌≡◌, ◌≤◌, [], IfOk, IfSome, codes, option_map, option_and_then};
+ghost use Rattle.std.specs.Prelude.{◌≡◌, ◌≤◌, [], true, IfOk, IfSome, codes, option_map, option_and_then};
 ghost use Rattle.std.specs.Option.{option_copied};
 ghost use Rattle.histories.specs.History.{last_moment};
 ghost use Rattle.serde_json.specs.Data.{depth};
 ghost use Rattle.serde_json.specs.Find.{get};
 ghost use Rattle.serde_json.specs.Read.{max_depth};
 ghost use Rattle.serde_json.specs.View.{view, items_view};
+ghost use Rattle.message_signature.specs.Marks.{has_nonce_length};
 ghost use Rattle.gnap_objects.specs.CallReading.{IsReadable, body_in};
 ghost use Rattle.call_replay.specs.CallLines.{in_time, word_of, moment_of, text_under, value_of, has_body_form, words_from, draw_of, line_mark, refused, line_body, kind_named, call_step, object_step, text_step, line_step};
 ghost use Rattle.call_replay.specs.Asked.{IsAsked};
@@ -157,6 +158,9 @@ fn call_step(
     presented: &str,
     body: BodyForm<'_>,
 ) -> Result<LineStep, Mem>
+    requires in_time { fields.at ≤ last_moment }
+    requires sized { IfSome (option_copied fields.nonce) (λ n. has_nonce_length n ≡ true) }
+    requires signed_in_time { IfSome fields.created (λ moment. moment ≤ last_moment) }
     requires readable { IsReadable body }
     ensures step { IfOk result (λ s. s ≡ call_step setup.now fields.entry.at draw (line_mark fields.entry.at fields.entry.number (option_copied fields.entry.nonce) fields.entry.created)
         kind key.now presented.now (body_in body.entry)) }

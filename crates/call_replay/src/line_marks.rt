@@ -30,9 +30,6 @@ pub(crate) struct MarkFields<'v> {
     pub nonce: Option<&'v str>,
     /// The moment of the signature that the line tells, where it tells one.
     pub created: Option<u64>,
-    ghost in_time: { at ≤ last_moment },
-    ghost sized: { IfSome (option_copied nonce) (λ n. has_nonce_length n ≡ true) },
-    ghost signed_in_time: { IfSome created (λ moment. moment ≤ last_moment) },
 }
 
 // The text as a nonce, where it has 1 to 64 bytes.
@@ -73,6 +70,7 @@ pub(crate) fn created_in(value: &Value) -> Option<Option<u64>>
 // The nonce of a line.
 #[tactic(auto, using(crate::proofs::Asked::nonce_length))]
 fn nonce_of(alloc: Global, fields: MarkFields<'_>) -> Result<Bytes, Mem>
+    requires sized { IfSome (option_copied fields.nonce) (λ n. has_nonce_length n ≡ true) }
     ensures nonce { IfOk result (λ nonce. nonce ≡ unwrap_or (option_copied fields.entry.nonce) (line_nonce fields.entry.at fields.entry.number)) }
     ensures sized { IfOk result (λ nonce. has_nonce_length nonce ≡ true) }
 {
@@ -85,6 +83,9 @@ fn nonce_of(alloc: Global, fields: MarkFields<'_>) -> Result<Bytes, Mem>
 // The mark of a line.
 #[tactic(auto, using(crate::proofs::Asked::mark_fits))]
 fn line_mark(alloc: Global, fields: MarkFields<'_>) -> Result<Mark, Mem>
+    requires in_time { fields.at ≤ last_moment }
+    requires sized { IfSome (option_copied fields.nonce) (λ n. has_nonce_length n ≡ true) }
+    requires signed_in_time { IfSome fields.created (λ moment. moment ≤ last_moment) }
     ensures mark { IfOk result (λ mark. mark ≡ line_mark fields.entry.at fields.entry.number (option_copied fields.entry.nonce) fields.entry.created) }
     ensures fits { IfOk result (λ mark. MarkFits (Some mark)) }
 {
@@ -102,6 +103,9 @@ pub(crate) fn mark_for(
     kind: CallKind,
     fields: MarkFields<'_>,
 ) -> Result<Option<Mark>, Mem>
+    requires in_time { fields.at ≤ last_moment }
+    requires sized { IfSome (option_copied fields.nonce) (λ n. has_nonce_length n ≡ true) }
+    requires signed_in_time { IfSome fields.created (λ moment. moment ≤ last_moment) }
     ensures mark { IfOk result (λ mark. mark ≡ mark_for kind (line_mark fields.entry.at fields.entry.number (option_copied fields.entry.nonce) fields.entry.created)) }
     ensures fits { IfOk result MarkFits }
 {
