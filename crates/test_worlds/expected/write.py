@@ -13,6 +13,7 @@ import generated_histories
 import http_cases
 import line_cases
 import mark_cases
+import marked_histories
 import outside_cases
 import resource_cases
 import rights_cases
@@ -27,7 +28,7 @@ from worlds import outcome
 
 
 def cases():
-    for module in (http_cases, edge_cases, outside_cases, rights_cases, line_cases, mark_cases, written_cases, client_cases, resource_cases):
+    for module in (http_cases, edge_cases, outside_cases, rights_cases, line_cases, mark_cases, marked_histories, written_cases, client_cases, resource_cases):
         yield from module.cases()
     yield from run_cases.cases(scripted_grants.RUNS + scripted_interactions.RUNS)
     yield from map(run_cases.replay_case, generated_histories.runs() + stored_histories.runs())
