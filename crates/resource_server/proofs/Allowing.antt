@@ -26,7 +26,7 @@ use Rattle.resource_server.specs.Laws.{HasSigned, AllowedByReply, IsAllowed, All
 use Rattle.resource_server.proofs.Sayings.{same_saying}
 
 -- the route at a place is shown
-abbrev pub IsAllow : ℕ → Guarded → Type 0
+abbrev IsAllow : ℕ → Guarded → Type 0
 IsAllow i (guarded.Allow j) = j ≡ i
 IsAllow i (guarded.Deny status reason) = ⊥
 IsAllow i guarded.LinkFault = ⊥
@@ -86,7 +86,7 @@ signed_true setup m now None s = refl
 signed_true setup m now (Some k) s = rw s ((bytes_eq-Decides k k).1 refl)
 
 -- the answer of what is said
-pub record IsSaid (setup : RsSetup) (m : Message) (now i j : ℕ) (wanted : List Right) (says : Judgement) : Type 0 where
+record IsSaid (setup : RsSetup) (m : Message) (now i j : ℕ) (wanted : List Right) (says : Judgement) : Type 0 where
   same : j ≡ i
   access : List Right
   key : Option (List ℕ)
@@ -111,14 +111,14 @@ said_allow setup m now i j wanted (Active access key exp) h = by_tests setup m n
 
 -- ---- what it takes
 
-pub record IsJudged (setup : RsSetup) (m : Message) (now i j : ℕ) (wanted : List Right) (answered : Result (List ℕ) LinkFault) : Type 0 where
+record IsJudged (setup : RsSetup) (m : Message) (now i j : ℕ) (wanted : List Right) (answered : Result (List ℕ) LinkFault) : Type 0 where
   reply : List ℕ
   came : answered ≡ Ok reply
   says : Judgement
   active : SaysOfToken reply says
   said_is : IsSaid setup m now i j wanted says
 
-pub judged_allow : (setup : RsSetup) (m : Message) (now i j : ℕ) (wanted : List Right) (answered : Result (List ℕ) LinkFault) (answer : Guarded)
+judged_allow : (setup : RsSetup) (m : Message) (now i j : ℕ) (wanted : List Right) (answered : Result (List ℕ) LinkFault) (answer : Guarded)
     → Judged setup m now j wanted answered answer → IsAllow i answer → IsJudged setup m now i j wanted answered
 judged_allow setup m now i j wanted _ _ (said reply says s) h =
     record { reply = reply; came = refl; says = says; active = s; said_is = said_allow setup m now i j wanted says h }
