@@ -3,6 +3,8 @@
 #![tactic(auto)]
 
 #[cfg(test)]
+mod cached_requests;
+#[cfg(test)]
 mod changed_bits;
 #[cfg(test)]
 mod client_configs;
