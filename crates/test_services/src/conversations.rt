@@ -207,90 +207,9 @@ pub(crate) fn unsigned_exchanges() -> [Exchange; 6] {
     ]
 }
 
-/// Grant requests, each the first at a server: by HTTP/1.1, one that closes the connection, and by HTTP/1.0; one without its members, and one by another
-/// role.
-pub(crate) fn grant_requests() -> [Exchange; 5] {
-    let closing = Exchange {
-        version: Version::Closing,
-        ..by_http_1_0(first_grant())
-    };
-    let empty = persistent(
-        Signer::Client,
-        "POST /gnap",
-        "",
-        "{}",
-        "400 Bad Request",
-        "",
-        Body::Json(r#"{"error":{"code":"invalid_request"}}"#),
-    );
-    let front = unauthorized(
-        Signer::Front,
-        "POST /gnap",
-        BEGIN,
-        r#"{"error":{"code":"invalid_client"}}"#,
-    );
-    [
-        first_grant(),
-        closing,
-        by_http_1_0(first_grant()),
-        empty,
-        front,
-    ]
-}
-
 /// The second grant request at a server.
 pub(crate) fn second_grant() -> Exchange {
     answered(Signer::Client, "POST /gnap", "", BEGIN, GRANTED_NEXT)
-}
-
-/// The introspection of the token of a grant.
-pub(crate) fn introspection() -> Exchange {
-    answered(
-        Signer::ResourceServer,
-        "POST /introspect",
-        "",
-        r#"{"access_token":"AAAAAAAAAAEAAAAAAAAAAAAAAAAAAAAA","resource_server":"r1"}"#,
-        "{\"access\":[\"photos\"],\"active\":true,\"exp\":4600,\"iat\":1000,\"instance_id\":\"c1\",\
-        \"iss\":\"https://as.example/gnap\",\"key\":\"c1\"}",
-    )
-}
-
-/// The modification of a grant.
-pub(crate) fn modification() -> Exchange {
-    answered(
-        Signer::Client,
-        "PATCH /continue",
-        "AAAAAAAAAAMAAAAAAAAAAAAAAAAAAAAA",
-        r#"{"access_token":{"access":["photos"],"label":"more"}}"#,
-        "{\"access_token\":{\"access\":[\"photos\"],\"expires_in\":3600,\"label\":\"more\",\
-        \"manage\":{\"access_token\":{\"value\":\"AAAAAAAAAAUAAAAAAAAAAAAAAAAAAAAA\"},\
-        \"uri\":\"https://as.example/token\"},\"value\":\"AAAAAAAAAAQAAAAAAAAAAAAAAAAAAAAA\"},\
-        \"continue\":{\"access_token\":{\"value\":\"AAAAAAAAAAYAAAAAAAAAAAAAAAAAAAAA\"},\
-        \"uri\":\"https://as.example/continue\",\"wait\":5}}",
-    )
-}
-
-/// The rotation of the token of a grant, by a request with the length 0.
-pub(crate) fn rotation() -> Exchange {
-    answered(
-        Signer::Client,
-        "POST /token",
-        "AAAAAAAAAAIAAAAAAAAAAAAAAAAAAAAA",
-        "",
-        "{\"access_token\":{\"access\":[\"photos\"],\"expires_in\":3600,\
-        \"manage\":{\"access_token\":{\"value\":\"AAAAAAAAAAUAAAAAAAAAAAAAAAAAAAAA\"},\
-        \"uri\":\"https://as.example/token\"},\"value\":\"AAAAAAAAAAQAAAAAAAAAAAAAAAAAAAAA\"}}",
-    )
-}
-
-/// The revocation of the token.
-pub(crate) fn revocation() -> Exchange {
-    ended("DELETE /token", "AAAAAAAAAAIAAAAAAAAAAAAAAAAAAAAA")
-}
-
-/// The cancellation of a grant.
-pub(crate) fn cancellation() -> Exchange {
-    ended("DELETE /continue", "AAAAAAAAAAMAAAAAAAAAAAAAAAAAAAAA")
 }
 
 /// A grant request that asks for an interaction.

@@ -3,9 +3,8 @@ ghost use Rattle.std.specs.Prelude.{IfOk};
 ghost use Rattle.gnap_io.specs.MemoryForms.{IsUnusedConn};
 
 use crate::conversations::{
-    Exchange, MOMENT, asked, cancellation, continued, decided, first_grant, found, grant_requests,
-    introspection, looked_at, modification, not_found, replies, reply, reply_text, request,
-    requests, revocation, rotation, second_grant, server, unsigned_exchanges,
+    Exchange, MOMENT, first_grant, not_found, replies, reply, reply_text, request, requests,
+    second_grant, server, unsigned_exchanges,
 };
 use crate::served_messages::bytes_of;
 use as_edge::AuthorizationServer;
@@ -156,16 +155,6 @@ fn wrong_ends(alloc: Global, before: &[Exchange], last: &Exchange) -> Result<Vec
     Ok(wrong)
 }
 
-// Whether the last of these may be cut anywhere, and gets nothing where it isn't whole.
-fn is_read_whole(alloc: Global, before: &[Exchange], last: &Exchange) -> Result<bool, Mem> {
-    let mut exchanges = Vec::from_slice(alloc, before)?;
-    exchanges.push(*last)?;
-    Ok(
-        wrong_cuts(alloc, exchanges.as_slice(), before.len())?.is_empty()
-            && wrong_ends(alloc, &[], last)?.is_empty(),
-    )
-}
-
 #[test]
 fn requests_without_a_signature_may_be_cut_anywhere(rt: HostRuntime) {
     let exchanges = unsigned_exchanges();
@@ -181,17 +170,6 @@ fn requests_without_a_signature_may_be_cut_anywhere(rt: HostRuntime) {
 }
 
 #[test]
-fn grant_requests_may_be_cut_anywhere(rt: HostRuntime) {
-    for exchange in grant_requests() {
-        assert!(rt;
-            is_read_whole(rt.alloc(), &[], &exchange) == Ok(true),
-            "{}",
-            exchange.body
-        );
-    }
-}
-
-#[test]
 fn two_grant_requests_may_be_cut_anywhere(rt: HostRuntime) {
     let both = [first_grant(), second_grant()];
     assert!(rt; matches!(&wrong_cuts(rt.alloc(), &both, 0), Ok(wrong) if wrong.is_empty()));
@@ -201,45 +179,6 @@ fn two_grant_requests_may_be_cut_anywhere(rt: HostRuntime) {
 fn a_second_grant_request_gets_nothing_where_it_is_not_whole(rt: HostRuntime) {
     let wrong = wrong_ends(rt.alloc(), &[first_grant()], &second_grant());
     assert!(rt; matches!(&wrong, Ok(wrong) if wrong.is_empty()));
-}
-
-// Whether each of these may, behind the others.
-fn are_read_whole(alloc: Global, before: &[Exchange], each: &[Exchange]) -> Result<bool, Mem> {
-    for exchange in each {
-        if !is_read_whole(alloc, before, exchange)? {
-            return Ok(false);
-        }
-    }
-    Ok(true)
-}
-
-#[test]
-fn an_introspection_and_a_modification_may_be_cut_anywhere(rt: HostRuntime) {
-    let each = [introspection(), modification()];
-    assert!(rt; are_read_whole(rt.alloc(), &[first_grant()], &each) == Ok(true));
-}
-
-#[test]
-fn what_is_done_with_a_token_may_be_cut_anywhere(rt: HostRuntime) {
-    let each = [rotation(), revocation(), cancellation()];
-    assert!(rt; are_read_whole(rt.alloc(), &[first_grant()], &each) == Ok(true));
-}
-
-#[test]
-fn what_finds_an_interaction_may_be_cut_anywhere(rt: HostRuntime) {
-    assert!(rt; is_read_whole(rt.alloc(), &[], &asked()) == Ok(true));
-    let each = [found(), looked_at()];
-    assert!(rt; are_read_whole(rt.alloc(), &[asked()], &each) == Ok(true));
-}
-
-#[test]
-fn a_decision_may_be_cut_anywhere(rt: HostRuntime) {
-    assert!(rt; are_read_whole(rt.alloc(), &[asked()], &[decided()]) == Ok(true));
-}
-
-#[test]
-fn a_continuation_may_be_cut_anywhere(rt: HostRuntime) {
-    assert!(rt; are_read_whole(rt.alloc(), &[asked(), decided()], &[continued()]) == Ok(true));
 }
 
 /// What is no request, the status of the reply, and how the connection ends.
