@@ -1,4 +1,4 @@
-//! Requests of a client, a consent front and a resource server at an authorization server, each with its reply.
+//! Requests at an authorization server, each with its reply.
 //!
 //! The requests are signed here, each under a nonce of its own. The replies are written by docs/HTTP.md and docs/FORMATS.md; values are those of the
 //! serials 1, 2, .. and random words of 0, as the model of `test_worlds` has them, and the hash in the finish URI is its too.
@@ -105,19 +105,6 @@ fn answered(
     persistent(signer, line, value, body, "200 OK", "", Body::Json(object))
 }
 
-// Of a client, and answered with 204.
-fn ended(line: &'static str, value: &'static str) -> Exchange {
-    persistent(
-        Signer::Client,
-        line,
-        value,
-        "",
-        "204 No Content",
-        "",
-        Body::Nothing,
-    )
-}
-
 // Answered with 401 and this object.
 fn unauthorized(
     signer: Signer,
@@ -210,96 +197,6 @@ pub(crate) fn unsigned_exchanges() -> [Exchange; 6] {
 /// The second grant request at a server.
 pub(crate) fn second_grant() -> Exchange {
     answered(Signer::Client, "POST /gnap", "", BEGIN, GRANTED_NEXT)
-}
-
-/// A grant request that asks for an interaction.
-pub(crate) fn asked() -> Exchange {
-    answered(
-        Signer::Client,
-        "POST /gnap",
-        "",
-        "{\"access_token\":{\"access\":[\"mail\"]},\"client\":\"c1\",\"interact\":{\"finish\":{\"method\":\"redirect\",\
-        \"nonce\":\"n\",\"uri\":\"https://c.example/f\"},\"start\":[\"user_code\"]}}",
-        "{\"continue\":{\"access_token\":{\"value\":\"AAAAAAAAAAEAAAAAAAAAAAAAAAAAAAAA\"},\
-        \"uri\":\"https://as.example/continue\",\"wait\":5},\"interact\":{\"expires_in\":600,\
-        \"finish\":\"AAAAAAAAAAMAAAAAAAAAAAAAAAAAAAAA\",\"user_code\":\"BBBBBBBB\"}}",
-    )
-}
-
-/// The search for it by its code.
-pub(crate) fn found() -> Exchange {
-    answered(
-        Signer::Front,
-        "POST /front/code",
-        "",
-        r#"{"code":"BBBBBBBB"}"#,
-        r#"{"handle":"AAAAAAAAAAIAAAAAAAAAAAAAAAAAAAAA"}"#,
-    )
-}
-
-/// A look at it.
-pub(crate) fn looked_at() -> Exchange {
-    answered(
-        Signer::Front,
-        "POST /front/look",
-        "",
-        r#"{"handle":"AAAAAAAAAAIAAAAAAAAAAAAAAAAAAAAA"}"#,
-        r#"{"access_token":[{"access":["mail"]}],"client":"c1","expires_in":600,"subject":false}"#,
-    )
-}
-
-/// The user's decision.
-pub(crate) fn decided() -> Exchange {
-    answered(
-        Signer::Front,
-        "POST /front/decide",
-        "",
-        r#"{"handle":"AAAAAAAAAAIAAAAAAAAAAAAAAAAAAAAA","rights":["mail"],"verdict":"grant"}"#,
-        "{\"finish\":\"redirect\",\
-        \"uri\":\"https://c.example/f?hash=k2-WFr--ddqL4CjKibb680lU4vU2nkvBusvmwMoIB54&interact_ref=AAAAAAAAAAQAAAAAAAAAAAAAAAAAAAAA\"}",
-    )
-}
-
-/// The continuation with the decision's reference.
-pub(crate) fn continued() -> Exchange {
-    answered(
-        Signer::Client,
-        "POST /continue",
-        "AAAAAAAAAAEAAAAAAAAAAAAAAAAAAAAA",
-        r#"{"interact_ref":"AAAAAAAAAAQAAAAAAAAAAAAAAAAAAAAA"}"#,
-        "{\"access_token\":{\"access\":[\"mail\"],\"expires_in\":3600,\
-        \"manage\":{\"access_token\":{\"value\":\"AAAAAAAAAAYAAAAAAAAAAAAAAAAAAAAA\"},\
-        \"uri\":\"https://as.example/token\"},\"value\":\"AAAAAAAAAAUAAAAAAAAAAAAAAAAAAAAA\"},\
-        \"continue\":{\"access_token\":{\"value\":\"AAAAAAAAAAcAAAAAAAAAAAAAAAAAAAAA\"},\
-        \"uri\":\"https://as.example/continue\",\"wait\":5}}",
-    )
-}
-
-/// An interaction, the introspection of its token, the cancellation of the grant, and the introspection once more.
-pub(crate) fn whole_run() -> [Exchange; 8] {
-    let active = answered(
-        Signer::ResourceServer,
-        "POST /introspect",
-        "",
-        r#"{"access_token":"AAAAAAAAAAUAAAAAAAAAAAAAAAAAAAAA","resource_server":"r1"}"#,
-        "{\"access\":[\"mail\"],\"active\":true,\"exp\":4600,\"iat\":1000,\"instance_id\":\"c1\",\
-            \"iss\":\"https://as.example/gnap\",\"key\":\"c1\"}",
-    );
-    let inactive = Exchange {
-        reply: Body::Json(r#"{"active":false}"#),
-        ..active
-    };
-    let cancelled = ended("DELETE /continue", "AAAAAAAAAAcAAAAAAAAAAAAAAAAAAAAA");
-    [
-        asked(),
-        found(),
-        looked_at(),
-        decided(),
-        continued(),
-        active,
-        cancelled,
-        inactive,
-    ]
 }
 
 /// The server of the setup.

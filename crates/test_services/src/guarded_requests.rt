@@ -4,7 +4,6 @@ use bytes_and_lists::memory::Mem;
 use bytes_and_lists::message::{Field, Message};
 use bytes_and_lists::seq::Seq;
 use gnap_io::memory_link::MemLink;
-use gnap_objects::{ObjectFault, SetupFault};
 use resource_server::{Guarded, guard, read_rs_setup};
 use std::alloc::Global;
 use std::test::Fail;
@@ -55,33 +54,3 @@ fn a_live_bearer_token_is_let_through(rt: HostRuntime) -> Result<(), Fail> {
     Ok(())
 }
 
-// The text of a setup with so many keys of clients.
-fn setup_with_keys(alloc: Global, many: u32) -> Result<String, Mem> {
-    let mut text = String::from_str(
-        alloc,
-        "{\"base\":\"https://rs.example\",\"server\":\"https://as.example\",\"id\":\"r1\",\"secret\":\"c2VjcmV0LWtleS1vZi1yMQ==\",\"keys\":[",
-    )?;
-    for number in 0..many {
-        let comma = if number == 0 { "" } else { "," };
-        let key = format!(in alloc; "{comma}{{\"id\":\"c{number}\",\"secret\":\"c2VjcmV0LWtleS1vZi1jMQ==\"}}")?;
-        text.push_str(key.as_str())?;
-    }
-    text.push_str("],\"routes\":[{\"method\":\"GET\",\"path\":\"/photos\",\"right\":\"photos\",\"text\":\"hello\"}]}")?;
-    Ok(text)
-}
-
-#[test]
-fn a_setup_has_at_most_4096_keys(rt: HostRuntime) -> Result<(), Fail> {
-    for (many, expected) in [(4_096, "read"), (4_097, "too many")] {
-        let Ok(text) = setup_with_keys(rt.alloc(), many) else {
-            panic!(rt; "out of memory");
-        };
-        let found = match read_rs_setup(rt.alloc(), text.as_bytes()) {
-            Ok(_) => "read",
-            Err(SetupFault::InSetup(ObjectFault::TooMany(_))) => "too many",
-            Err(_) => "another fault",
-        };
-        assert!(rt; found == expected, "{many} keys: {found}");
-    }
-    Ok(())
-}

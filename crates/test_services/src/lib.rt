@@ -13,8 +13,6 @@ mod conversations;
 #[cfg(test)]
 mod cut_connections;
 #[cfg(test)]
-mod four_workers;
-#[cfg(test)]
 mod gates;
 #[cfg(test)]
 mod grant_texts;
