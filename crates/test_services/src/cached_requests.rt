@@ -22,22 +22,35 @@ const SETUP: &[u8] =
         {\"method\":\"GET\",\"path\":\"/album\",\"right\":\"photos\",\"text\":\"album\"}]}";
 
 const GNAP_A: &str = "GNAP AAAAAAAAAAEAAAAAAAAAAAAAAAAAAAAA";
+
 const BEARER_A: &str = "Bearer AAAAAAAAAAEAAAAAAAAAAAAAAAAAAAAA";
+
 const BEARER_B: &str = "Bearer AAAAAAAAAAIAAAAAAAAAAAAAAAAAAAAA";
+
 const BEARER_C: &str = "Bearer AAAAAAAAAAMAAAAAAAAAAAAAAAAAAAAA";
 
 // When a signature was made, and its bytes.
 type Signature = (&'static str, &'static str);
 
 const NONE: Signature = ("", "");
+
 const AT_1000: Signature = ("1000", "6qSfg7K++PDbO84CreGoR2DJFH8FCoKkasYzqjL6nws=");
+
 const AT_1030: Signature = ("1030", "rw/tmZxZwXIbUf+c9TYEDmFeSUfjN2NATiOAE+X2QtM=");
+
 const AT_1031: Signature = ("1031", "7E5LR1oomI5SRqA3Xd1+141lq8veo4AlD/M+enevnyk=");
 // One bit is another.
 const CHANGED: Signature = ("1010", "ydgFE/B/RdYiViAcxZMbkMgcxjSMefPVs7c/rD4UPdU=");
 
 // A request at a moment: its path, what presents its token and its signature; what it comes to, and how many exchanges there were by then.
-type Step = (u64, &'static str, &'static str, Signature, &'static str, usize);
+type Step = (
+    u64,
+    &'static str,
+    &'static str,
+    Signature,
+    &'static str,
+    usize,
+);
 
 fn field(alloc: Global, name: &str, value: &str) -> Result<Field, Mem> {
     Ok(Field {
@@ -51,7 +64,9 @@ fn request(alloc: Global, step: &Step) -> Result<Message, Mem> {
     let mut fields = Seq::new(alloc);
     fields.push(field(alloc, "authorization", token)?)?;
     if created != "" {
-        let input = format!(in alloc; "sig1=(\"@method\" \"@target-uri\" \"authorization\");created={created};keyid=\"c1\";tag=\"gnap\"")?;
+        let input = format!(in alloc;
+            "sig1=(\"@method\" \"@target-uri\" \"authorization\");created={created};keyid=\"c1\";tag=\"gnap\""
+        )?;
         let signature = format!(in alloc; "sig1=:{bytes}:")?;
         fields.push(field(alloc, "signature-input", input.as_str())?)?;
         fields.push(field(alloc, "signature", signature.as_str())?)?;
@@ -67,8 +82,9 @@ fn request(alloc: Global, step: &Step) -> Result<Message, Mem> {
 
 // A reply that says that a token is live until a moment, and is bound so; the issuer has this name.
 fn live(alloc: Global, exp: &str, binding: &str, issuer: &str) -> Result<Bytes, Mem> {
-    let text =
-        format!(in alloc; "HTTP/1.1 200 OK\r\n\r\n{{\"access\":[\"photos\"],\"active\":true,\"exp\":{exp},{binding},\"iat\":1000,\"instance_id\":\"c1\",\"iss\":\"{issuer}\"}}")?;
+    let text = format!(in alloc;
+        "HTTP/1.1 200 OK\r\n\r\n{{\"access\":[\"photos\"],\"active\":true,\"exp\":{exp},{binding},\"iat\":1000,\"instance_id\":\"c1\",\"iss\":\"{issuer}\"}}"
+    )?;
     Bytes::from_slice(alloc, text.as_bytes())
 }
 
@@ -83,11 +99,21 @@ fn long_reply(alloc: Global, length: usize) -> Result<Bytes, Mem> {
 fn reply(alloc: Global, name: &str) -> Result<Bytes, Mem> {
     match name {
         "bound" => live(alloc, "4600", "\"key\":\"c1\"", "https://as.example/gnap"),
-        "ends at 1020" => live(alloc, "1020", "\"flags\":[\"bearer\"]", "https://as.example/gnap"),
+        "ends at 1020" => live(
+            alloc,
+            "1020",
+            "\"flags\":[\"bearer\"]",
+            "https://as.example/gnap",
+        ),
         "inactive" => Bytes::from_slice(alloc, b"HTTP/1.1 200 OK\r\n\r\n{\"active\":false}"),
         "13,389 bytes" => long_reply(alloc, 13_389),
         "13,390 bytes" => long_reply(alloc, 13_390),
-        _ => live(alloc, "4600", "\"flags\":[\"bearer\"]", "https://as.example/gnap"),
+        _ => live(
+            alloc,
+            "4600",
+            "\"flags\":[\"bearer\"]",
+            "https://as.example/gnap",
+        ),
     }
 }
 
@@ -114,40 +140,38 @@ fn word(answer: Guarded) -> &'static str {
 }
 
 fn guarded<L: Link>(
-    rt: HostRuntime,
+    alloc: Global,
     setup: &RsSetup,
     guard: &mut CachedGuard,
     link: &mut L,
     step: &Step,
-) -> &'static str
+) -> Result<&'static str, Mem>
     requires { RsSetupFits setup.now }
 {
-    let moment = step.0;
-    assert!(rt; moment < 10_000);
-    let Ok(request) = request(rt.alloc(), step) else {
-        panic!(rt; "out of memory");
-    };
-    word(guard.guard(rt.alloc(), &request, setup, link, moment))
+    let request = request(alloc, step)?;
+    let moment = step.0.min(9_999);
+    Ok(word(guard.guard(alloc, &request, setup, link, moment)))
 }
 
-// The steps at a new cache of this capacity, over a link with these replies.
-fn run(rt: HostRuntime, setup: &RsSetup, capacity: usize, names: &[&str], steps: &[Step])
+// Whether the steps at a new cache of this capacity, over a link with these replies, have their answers, and make so many exchanges.
+fn run(
+    alloc: Global,
+    setup: &RsSetup,
+    capacity: usize,
+    names: &[&str],
+    steps: &[Step],
+) -> Result<bool, Mem>
     requires { RsSetupFits setup.now }
 {
-    assert!(rt; 1 <= capacity && capacity <= 16_384);
-    let (Ok(mut guard), Ok(replies)) = (
-        CachedGuard::new(rt.alloc(), capacity),
-        replies(rt.alloc(), names),
-    ) else {
-        panic!(rt; "out of memory");
-    };
-    let mut link = MemLink::new(replies, Vec::new(rt.alloc()));
+    let mut guard = CachedGuard::new(alloc, capacity.min(16_384).max(1))?;
+    let mut link = MemLink::new(replies(alloc, names)?, Vec::new(alloc));
     for step in steps {
-        let answer = guarded(rt, setup, &mut guard, &mut link, step);
-        let (moment, path, token, _, expected, exchanges) = *step;
-        assert!(rt; answer == expected, "{token} at {path} at {moment}: {answer}");
-        assert!(rt; link.asked().len() == exchanges, "{token} at {path} at {moment}");
+        let answer = guarded(alloc, setup, &mut guard, &mut link, step)?;
+        if answer != step.4 || link.asked().len() != step.5 {
+            return Ok(false);
+        }
     }
+    Ok(true)
 }
 
 // Each case: a capacity, the replies of the link, and the steps.
@@ -157,145 +181,167 @@ fn requests_are_guarded_with_a_cache(rt: HostRuntime) -> Result<(), Fail> {
         panic!(rt; "no setup");
     };
     // The signature is verified at each request.
-    run(
-        rt,
-        &setup,
-        4,
-        &["bound"],
-        &[
-            (1000, "/photos", GNAP_A, AT_1000, "allow 0", 1),
-            (1030, "/photos", GNAP_A, AT_1030, "allow 0", 1),
-            (1010, "/photos", GNAP_A, CHANGED, "signature", 1),
-            (1031, "/photos", GNAP_A, AT_1031, "fault", 2),
-            (1030, "/photos", GNAP_A, AT_1030, "fault", 3),
-        ],
+    assert!(rt;
+        run(
+            rt.alloc(),
+            &setup,
+            4,
+            &["bound"],
+            &[
+                (1000, "/photos", GNAP_A, AT_1000, "allow 0", 1),
+                (1030, "/photos", GNAP_A, AT_1030, "allow 0", 1),
+                (1010, "/photos", GNAP_A, CHANGED, "signature", 1),
+                (1031, "/photos", GNAP_A, AT_1031, "fault", 2),
+                (1030, "/photos", GNAP_A, AT_1030, "fault", 3),
+            ],
+        ) == Ok(true)
     );
     // At capacity 1 two tokens drive each other out.
-    run(
-        rt,
-        &setup,
-        1,
-        &["live", "live", "live", "live"],
-        &[
-            (1000, "/photos", BEARER_A, NONE, "allow 0", 1),
-            (1000, "/photos", BEARER_B, NONE, "allow 0", 2),
-            (1000, "/photos", BEARER_A, NONE, "allow 0", 3),
-            (1000, "/photos", BEARER_B, NONE, "allow 0", 4),
-        ],
+    assert!(rt;
+        run(
+            rt.alloc(),
+            &setup,
+            1,
+            &["live", "live", "live", "live"],
+            &[
+                (1000, "/photos", BEARER_A, NONE, "allow 0", 1),
+                (1000, "/photos", BEARER_B, NONE, "allow 0", 2),
+                (1000, "/photos", BEARER_A, NONE, "allow 0", 3),
+                (1000, "/photos", BEARER_B, NONE, "allow 0", 4),
+            ],
+        ) == Ok(true)
     );
     // A clock that goes back.
-    run(
-        rt,
-        &setup,
-        4,
-        &["live", "live"],
-        &[
-            (1000, "/photos", BEARER_A, NONE, "allow 0", 1),
-            (999, "/photos", BEARER_A, NONE, "allow 0", 2),
-            (1029, "/photos", BEARER_A, NONE, "allow 0", 2),
-        ],
+    assert!(rt;
+        run(
+            rt.alloc(),
+            &setup,
+            4,
+            &["live", "live"],
+            &[
+                (1000, "/photos", BEARER_A, NONE, "allow 0", 1),
+                (999, "/photos", BEARER_A, NONE, "allow 0", 2),
+                (1029, "/photos", BEARER_A, NONE, "allow 0", 2),
+            ],
+        ) == Ok(true)
     );
     // 30 seconds.
-    run(
-        rt,
-        &setup,
-        4,
-        &["live", "live"],
-        &[
-            (1000, "/photos", BEARER_A, NONE, "allow 0", 1),
-            (1030, "/photos", BEARER_A, NONE, "allow 0", 1),
-            (1031, "/photos", BEARER_A, NONE, "allow 0", 2),
-            (1061, "/photos", BEARER_A, NONE, "allow 0", 2),
-        ],
+    assert!(rt;
+        run(
+            rt.alloc(),
+            &setup,
+            4,
+            &["live", "live"],
+            &[
+                (1000, "/photos", BEARER_A, NONE, "allow 0", 1),
+                (1030, "/photos", BEARER_A, NONE, "allow 0", 1),
+                (1031, "/photos", BEARER_A, NONE, "allow 0", 2),
+                (1061, "/photos", BEARER_A, NONE, "allow 0", 2),
+            ],
+        ) == Ok(true)
     );
     // The token's end.
-    run(
-        rt,
-        &setup,
-        4,
-        &["ends at 1020", "live"],
-        &[
-            (1000, "/photos", BEARER_A, NONE, "allow 0", 1),
-            (1019, "/photos", BEARER_A, NONE, "allow 0", 1),
-            (1020, "/photos", BEARER_A, NONE, "allow 0", 2),
-        ],
+    assert!(rt;
+        run(
+            rt.alloc(),
+            &setup,
+            4,
+            &["ends at 1020", "live"],
+            &[
+                (1000, "/photos", BEARER_A, NONE, "allow 0", 1),
+                (1019, "/photos", BEARER_A, NONE, "allow 0", 1),
+                (1020, "/photos", BEARER_A, NONE, "allow 0", 2),
+            ],
+        ) == Ok(true)
     );
     // Two routes with one right share a reply.
-    run(
-        rt,
-        &setup,
-        4,
-        &["live"],
-        &[
-            (1000, "/photos", BEARER_A, NONE, "allow 0", 1),
-            (1001, "/album", BEARER_A, NONE, "allow 1", 1),
-            (1002, "/other", BEARER_A, NONE, "no route", 1),
-        ],
+    assert!(rt;
+        run(
+            rt.alloc(),
+            &setup,
+            4,
+            &["live"],
+            &[
+                (1000, "/photos", BEARER_A, NONE, "allow 0", 1),
+                (1001, "/album", BEARER_A, NONE, "allow 1", 1),
+                (1002, "/other", BEARER_A, NONE, "no route", 1),
+            ],
+        ) == Ok(true)
     );
     // GNAP and Bearer share none.
-    run(
-        rt,
-        &setup,
-        4,
-        &["bound", "live"],
-        &[
-            (1000, "/photos", GNAP_A, AT_1000, "allow 0", 1),
-            (1000, "/photos", BEARER_A, NONE, "allow 0", 2),
-            (1000, "/photos", GNAP_A, AT_1000, "allow 0", 2),
-        ],
+    assert!(rt;
+        run(
+            rt.alloc(),
+            &setup,
+            4,
+            &["bound", "live"],
+            &[
+                (1000, "/photos", GNAP_A, AT_1000, "allow 0", 1),
+                (1000, "/photos", BEARER_A, NONE, "allow 0", 2),
+                (1000, "/photos", GNAP_A, AT_1000, "allow 0", 2),
+            ],
+        ) == Ok(true)
     );
     // Refusals aren't kept.
-    run(
-        rt,
-        &setup,
-        4,
-        &["inactive", "inactive", "live", "bound", "bound"],
-        &[
-            (1000, "/photos", BEARER_A, NONE, "inactive", 1),
-            (1000, "/photos", BEARER_A, NONE, "inactive", 2),
-            (1000, "/photos", BEARER_A, NONE, "allow 0", 3),
-            (1000, "/photos", BEARER_A, NONE, "allow 0", 3),
-            (1010, "/photos", GNAP_A, CHANGED, "signature", 4),
-            (1030, "/photos", GNAP_A, AT_1030, "allow 0", 5),
-            (1031, "/photos", GNAP_A, AT_1031, "allow 0", 5),
-        ],
+    assert!(rt;
+        run(
+            rt.alloc(),
+            &setup,
+            4,
+            &["inactive", "inactive", "live", "bound", "bound"],
+            &[
+                (1000, "/photos", BEARER_A, NONE, "inactive", 1),
+                (1000, "/photos", BEARER_A, NONE, "inactive", 2),
+                (1000, "/photos", BEARER_A, NONE, "allow 0", 3),
+                (1000, "/photos", BEARER_A, NONE, "allow 0", 3),
+                (1010, "/photos", GNAP_A, CHANGED, "signature", 4),
+                (1030, "/photos", GNAP_A, AT_1030, "allow 0", 5),
+                (1031, "/photos", GNAP_A, AT_1031, "allow 0", 5),
+            ],
+        ) == Ok(true)
     );
     // 13,501 bytes aren't kept.
-    run(
-        rt,
-        &setup,
-        4,
-        &["13,390 bytes", "13,390 bytes"],
-        &[
-            (1000, "/photos", BEARER_A, NONE, "allow 0", 1),
-            (1000, "/photos", BEARER_A, NONE, "allow 0", 2),
-        ],
+    assert!(rt;
+        run(
+            rt.alloc(),
+            &setup,
+            4,
+            &["13,390 bytes", "13,390 bytes"],
+            &[
+                (1000, "/photos", BEARER_A, NONE, "allow 0", 1),
+                (1000, "/photos", BEARER_A, NONE, "allow 0", 2),
+            ],
+        ) == Ok(true)
     );
     // 13,500 bytes are.
-    run(
-        rt,
-        &setup,
-        4,
-        &["13,389 bytes"],
-        &[
-            (1000, "/photos", BEARER_A, NONE, "allow 0", 1),
-            (1000, "/photos", BEARER_A, NONE, "allow 0", 1),
-        ],
+    assert!(rt;
+        run(
+            rt.alloc(),
+            &setup,
+            4,
+            &["13,389 bytes"],
+            &[
+                (1000, "/photos", BEARER_A, NONE, "allow 0", 1),
+                (1000, "/photos", BEARER_A, NONE, "allow 0", 1),
+            ],
+        ) == Ok(true)
     );
     // The reply used longest ago goes out.
-    run(
-        rt,
-        &setup,
-        2,
-        &["live", "live", "live", "live"],
-        &[
-            (1000, "/photos", BEARER_A, NONE, "allow 0", 1),
-            (1001, "/photos", BEARER_B, NONE, "allow 0", 2),
-            (1002, "/photos", BEARER_A, NONE, "allow 0", 2),
-            (1003, "/photos", BEARER_C, NONE, "allow 0", 3),
-            (1004, "/photos", BEARER_A, NONE, "allow 0", 3),
-            (1005, "/photos", BEARER_B, NONE, "allow 0", 4),
-        ],
+    assert!(rt;
+        run(
+            rt.alloc(),
+            &setup,
+            2,
+            &["live", "live", "live", "live"],
+            &[
+                (1000, "/photos", BEARER_A, NONE, "allow 0", 1),
+                (1001, "/photos", BEARER_B, NONE, "allow 0", 2),
+                (1002, "/photos", BEARER_A, NONE, "allow 0", 2),
+                (1003, "/photos", BEARER_C, NONE, "allow 0", 3),
+                (1004, "/photos", BEARER_A, NONE, "allow 0", 3),
+                (1005, "/photos", BEARER_B, NONE, "allow 0", 4),
+            ],
+        ) == Ok(true)
     );
     Ok(())
 }
@@ -327,12 +373,12 @@ fn want_of_memory_keeps_nothing(rt: HostRuntime) -> Result<(), Fail> {
     let mut link = MemLink::new(replies, Vec::new(rt.alloc()));
     let a: Step = (1000, "/photos", BEARER_A, NONE, "", 0);
     let b: Step = (1020, "/photos", BEARER_B, NONE, "", 0);
-    assert!(rt; guarded(rt, &setup, &mut guard, &mut link, &a) == "allow 0");
-    assert!(rt; guarded(rt, &setup, &mut guard, &mut link, &b) == "allow 0");
+    assert!(rt; guarded(rt.alloc(), &setup, &mut guard, &mut link, &a) == Ok("allow 0"));
+    assert!(rt; guarded(rt.alloc(), &setup, &mut guard, &mut link, &b) == Ok("allow 0"));
     let late: Step = (1031, "/photos", BEARER_A, NONE, "", 0);
-    assert!(rt; guarded(rt, &setup, &mut guard, &mut StarvedLink, &late) == "memory");
-    assert!(rt; guarded(rt, &setup, &mut guard, &mut StarvedLink, &b) == "allow 0");
-    assert!(rt; guarded(rt, &setup, &mut guard, &mut link, &a) == "allow 0");
+    assert!(rt; guarded(rt.alloc(), &setup, &mut guard, &mut StarvedLink, &late) == Ok("memory"));
+    assert!(rt; guarded(rt.alloc(), &setup, &mut guard, &mut StarvedLink, &b) == Ok("allow 0"));
+    assert!(rt; guarded(rt.alloc(), &setup, &mut guard, &mut link, &a) == Ok("allow 0"));
     assert!(rt; link.asked().len() == 3);
     Ok(())
 }

@@ -53,4 +53,3 @@ fn a_live_bearer_token_is_let_through(rt: HostRuntime) -> Result<(), Fail> {
     assert!(rt; link.asked().len() == 1);
     Ok(())
 }
-
