@@ -1,10 +1,11 @@
-use Rattle.std.proofs.Common.{◌∙◌, ℕ, ◌<◌, ◌^◌, ◌∷◌, length, ap, sym, subst, refl, arith, length-append}
+use Rattle.std.proofs.Common.{◌≡◌, ◌∙◌, ℕ, ◌+◌, ◌<◌, ◌^◌, [], ◌∷◌, ◌++◌, length, ap, sym, subst, refl, arith, length-append}
 use Rattle.histories.specs.History.{places}
 use Rattle.histories.proofs.TurnLemmas.{length-next}
 use Rattle.call_replay.specs.CallLines.{line_step}
 use Rattle.command_inputs.specs.Reading.{held_by}
 use Rattle.command_inputs.specs.declared.printed_text.After.TheVariants as after
 use Rattle.command_inputs.specs.declared.line_end.LineEnd.TheVariants as line_ends
+use Rattle.call_replay.specs.Replays.{first_call_line}
 use Rattle.call_replay.specs.Replaying.{AnswersLine, Turns}
 use Rattle.call_replay.proofs.CallLines.{kept_step}
 use Rattle.call_replay.proofs.Going.{none-had, room, had-next}
@@ -48,6 +49,14 @@ answer_line-requires-clause-room g c =
     let R : ℕ → Type 0 = λ n. length (places n inv.goes.had.history) < 2 ^ 52 in
     (inv.goes.had.history, inv.goes.had.seen_now, subst R (sym inv.number) (room _ _ _ _ _ _ _ _ _ _ _ inv.goes c.lines.reader.limited))
 
+pub overflow_add-number : goal.overflow_add-number
+overflow_add-number g c =
+    let inv = c.lines.invariant in
+    let few = inv.goes.few in
+    let count = inv.line_number in
+    let most = c.lines.reader.limited in
+    omega (arith, few, count, most)
+
 pub lines-smaller : goal.lines-smaller
 lines-smaller g c =
     let read = c.next_line-end.ensures.read in
@@ -69,11 +78,12 @@ lines-preserved g c =
     let A : ℕ → Type 0 = λ n. AnswersLine c.args.setup.now n c.lines.number read.full (g.D.Desk.seen c.answer_line.new.desk) inv.goes.had.history (g.O.Device.told c.lines.out) (g.O.Device.told c.answer_line.new.out) after.On in
     let B : ℕ → Type 0 = λ n. AnswersLine c.args.setup.now (g.D.Desk.number c.args.desk.now) n read.full (g.D.Desk.seen c.answer_line.new.desk) inv.goes.had.history (g.O.Device.told c.lines.out) (g.O.Device.told c.answer_line.new.out) after.On in
     let answer = subst B inv.line_number (subst A inv.number (c.in-On.ensures.turn inv.goes.had.history read.full inv.goes.had.seen_now same)) in
+    let counted : c.lines.number + 1 ≡ first_call_line + length (inv.goes.turns ++ answer.turn ∷ []) = omega (arith, inv.line_number, length-next inv.goes.turns answer.turn) in
     record {
       rules = c.in-On.ensures.rules ∙ inv.rules;
       number = c.in-On.ensures.number ∙ inv.number;
       empty = c.emptied-line.ensures;
-      line_number = ap (λ n. n + 1) inv.line_number ∙ ap (λ n. 2 + n) (sym (length-next inv.goes.turns answer.turn));
+      line_number = counted;
       goes = goes-next _ _ _ _ _ _ _ _ _ inv.goes read.full read.bytes _ _ read.came read.is_line (g.O.Device.told c.answer_line.new.out) (Turns c.args.setup.now (g.D.Desk.number c.args.desk.now) (g.D.Desk.seen c.answer_line.new.desk)) answer.turn (had-next _ _ _ _ inv.goes.turns _ _ _ _ inv.goes.had answer) answer.message _ parts answer.goes answer.prints;
       reads = read_counts c.next_line-end.result _ _ none c.next_line-end.ensures.cause ∙ inv.reads;
       writes = c.in-On.ensures.counts ∙ inv.writes;
