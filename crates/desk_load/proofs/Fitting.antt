@@ -11,7 +11,7 @@ use Rattle.gnap_model.specs.declared.calls.Reply.{Reply}
 use Rattle.signed_calls.specs.declared.signed.Signed.{Signed}
 use Rattle.signed_calls.specs.Marks.{unmarked_lapse}
 use Rattle.grant_machine.specs.Gnap.{GnapFits}
-use Rattle.desk_load.specs.LoadCalls.{mark_at, marked, unmarked, opening_call, question_about, rotation_of, cancellation_of}
+use Rattle.desk_load.specs.LoadCalls.{marked, unmarked, opening_call, question_about, rotation_of, cancellation_of}
 use Rattle.desk_load.specs.Loads.{MayBeMade}
 
 client_text : IsUtf8 (codes "c1")
@@ -30,13 +30,21 @@ photos_text = (codes "photos", (refl, refl))
 called : (signed : Signed) → signed.call ≢ Lapse → signed ≢ unmarked_lapse
 called signed other is = other (ap (λ (s : Signed). s.call) is)
 
-marked_may : (grant place : ℕ) (call : Call) → grant < 2 ^ 32 → place < 10 → GnapFits call → call ≢ Lapse → MayBeMade (marked grant place call)
-marked_may grant place call small low fits other =
+nonce_fits : (grant place : ℕ) → grant < 2 ^ 32 → place < 10 → (0 < length (decimal grant ++ codes "-" ++ decimal place))
+    × (length (decimal grant ++ codes "-" ++ decimal place) ≤ 64)
+nonce_fits grant place small low =
     let some = decimal_nonempty grant (omega (arith, small)) in
     let front = length-decimal-le 10 grant (omega arith) (omega (arith, small)) (omega (arith, small)) in
     let back = length-decimal-le 1 place (omega arith) (omega (arith, low)) (omega (arith, low)) in
-    let whole = length-append (decimal grant) (codes "-" ++ decimal place) in (
-      record { call = fits; mark = (omega (arith, some, whole), omega (arith, front, back, whole), omega arith); lapse = λ is. absurd (other is) },
+    let whole = length-append (decimal grant) (codes "-" ++ decimal place) in
+    let behind = length-append (codes "-") (decimal place) in
+    let dash : length (codes "-") ≡ 1 = refl in
+    (omega (arith, some, whole), omega (arith, front, back, whole, behind, dash))
+
+marked_may : (grant place : ℕ) (call : Call) → grant < 2 ^ 32 → place < 10 → GnapFits call → call ≢ Lapse → MayBeMade (marked grant place call)
+marked_may grant place call small low fits other =
+    let nonce = nonce_fits grant place small low in (
+      record { call = fits; mark = (nonce.0, nonce.1, omega arith); lapse = λ is. absurd (other is) },
       called (marked grant place call) other,
     )
 
