@@ -36,10 +36,10 @@ nonce_fits grant place small low =
     let some = decimal_nonempty grant (omega (arith, small)) in
     let front = length-decimal-le 10 grant (omega arith) (omega (arith, small)) (omega (arith, small)) in
     let back = length-decimal-le 1 place (omega arith) (omega (arith, low)) (omega (arith, low)) in
-    let whole = length-append (decimal grant) (codes "-" ++ decimal place) in
-    let behind = length-append (codes "-") (decimal place) in
+    let whole = length-append (decimal grant ++ codes "-") (decimal place) in
+    let head = length-append (decimal grant) (codes "-") in
     let dash : length (codes "-") ≡ 1 = refl in
-    (omega (arith, some, whole), omega (arith, front, back, whole, behind, dash))
+    (omega (arith, some, whole, head), omega (arith, front, back, whole, head, dash))
 
 marked_may : (grant place : ℕ) (call : Call) → grant < 2 ^ 32 → place < 10 → GnapFits call → call ≢ Lapse → MayBeMade (marked grant place call)
 marked_may grant place call small low fits other =
