@@ -81,10 +81,19 @@ one_count n false = refl
 abbrev IsMiscount : ℕ → ℕ → List (List ℕ) → Type 0
 IsMiscount least most words = exactly (count_among least most (length words)) words ≡ None
 
-at : (n least most : ℕ) (words : List (List ℕ)) → Some (n, n) ≡ Some (least, most) → IsMiscount least most words → exactly n words ≡ None
+-- the counts of a command that has some
+abbrev least_in : Option (ℕ × ℕ) → ℕ
+least_in None = 0
+least_in (Some counts) = counts.0
+
+abbrev most_in : Option (ℕ × ℕ) → ℕ
+most_in None = 0
+most_in (Some counts) = counts.1
+
+at : (n least most : ℕ) (words : List (List ℕ)) → ◌≡◌ {A = Option (ℕ × ℕ)} (Some (n, n)) (Some (least, most)) → IsMiscount least most words → exactly n words ≡ None
 at n least most words is none =
-    let first : n ≡ least = cc in
-    let last : n ≡ most = cc in
+    let first : n ≡ least = ap least_in is in
+    let last : n ≡ most = ap most_in is in
     let one : IsMiscount n n words = subst (λ l. IsMiscount l n words) (sym first) (subst (λ m. IsMiscount least m words) (sym last) none) in
     subst (λ m. exactly m words ≡ None) (one_count n (length words == n)) one
 
@@ -100,10 +109,10 @@ reading_by a b c d e f g h i words =
     else if e then with_four as_words words else if f then with_four rs_words words else if g then with_three client_words words
     else if h then hash_of words else if i then with_three load_words words else None
 
-sign_miscount : (least most : ℕ) (words : List (List ℕ)) → Some (4, 5) ≡ Some (least, most) → IsMiscount least most words → sign_of words ≡ None
+sign_miscount : (least most : ℕ) (words : List (List ℕ)) → ◌≡◌ {A = Option (ℕ × ℕ)} (Some (4, 5)) (Some (least, most)) → IsMiscount least most words → sign_of words ≡ None
 sign_miscount least most words is none =
-    let first : 4 ≡ least = cc in
-    let last : 5 ≡ most = cc in
+    let first : 4 ≡ least = ap least_in is in
+    let last : 5 ≡ most = ap most_in is in
     not_sign words (subst (λ l. IsMiscount l 5 words) (sym first) (subst (λ m. IsMiscount least m words) (sym last) none))
 
 counted : (a b c d e f g h i : Bool) (least most : ℕ) (words : List (List ℕ))

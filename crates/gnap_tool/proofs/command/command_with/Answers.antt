@@ -1,4 +1,5 @@
-use Rattle.std.proofs.Common.{rules, ◌≡◌, List, ℕ, map, length, string_bytes, subst, Some, None}
+use Rattle.std.proofs.Common.{rules, ◌≡◌, List, ℕ, map, length, string_bytes, sym, subst, Some, None}
+use Rattle.std.proofs.lemmas.List.{length-map}
 use Rattle.command_words.specs.Positionals.{exactly}
 use Rattle.gnap_tool.specs.Commands.{AreRead, counts_of, count_among, command_named}
 use Rattle.gnap_tool.proofs.CommandWords.{miscounted, unnamed, read_again}
@@ -22,6 +23,8 @@ pub returns-in-Ok-None-clause-read : goal.returns-in-Ok-None-clause-read
 returns-in-Ok-None-clause-read c =
     let words : List (List ℕ) = map string_bytes c.args.arguments.now in
     let counts : counts_of c.args.name.now ≡ Some (c.in-Some.least, c.in-Some.most) = search rules in
-    let count : c.count_among-count.result ≡ count_among c.in-Some.least c.in-Some.most (length words) = search rules in
+    let many : length words ≡ length c.args.arguments.now = length-map c.args.arguments.now string_bytes in
+    let given : c.count_among-count.result ≡ count_among c.in-Some.least c.in-Some.most (length c.args.arguments.now) = search rules in
+    let count = subst (λ n. c.count_among-count.result ≡ count_among c.in-Some.least c.in-Some.most n) (sym many) given in
     let none : exactly c.count_among-count.result words ≡ None = search rules in
     miscounted c.args.name.now c.in-Some.least c.in-Some.most words counts (subst (λ n. exactly n words ≡ None) count none)
