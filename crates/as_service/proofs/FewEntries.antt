@@ -39,12 +39,12 @@ history_holds setup gears one few connections known =
     let entries = history_few (IsEdgeSession setup) (connection_few setup) gnap setup gears one in
     known setup one.history one.legal (omega (arith, few, connections, entries))
 
-module _ {Done : Type 0} (setup : Setup) (address : List ℕ) (n quota : ℕ) (before after : WorldState) (result : Result Done WorldFault)
-    (few : n ≤ 64) (most : quota ≤ 4294967295)
+module _ {Done : Type 0} (setup : Setup) (address : List ℕ) (n quota : ℕ) (before after : WorldState) (few : n ≤ 64) (most : quota ≤ 4294967295)
     (known : (rules : Setup) (h : List GnapEntry) → Legal gnap rules h → length h ≤ 2 ^ 58 → WhatHolds rules h) where
-  holds : serving.IsService gnap setup (IsEdgeSession setup) address n quota before after result → IsService setup address n quota before after result
-  holds (serving.not_started fault same cause) = not_started fault same cause
-  holds (serving.served _ gears back many are ended) = served result gears back many (record {
+  holds : (result : Result Done WorldFault) → serving.IsService gnap setup (IsEdgeSession setup) address n quota before after result
+      → IsService setup address n quota before after result
+  holds _ (serving.not_started fault same cause) = not_started fault same cause
+  holds result (serving.served _ gears back many are ended) = served result gears back many (record {
     one = are.one;
     holds = history_holds setup gears are.one (subst (λ k. k ≤ 64) (sym many) few) (connections_few quota gears most are.few) known;
     out = are.out;
@@ -55,5 +55,5 @@ pub service_holds : {Done : Type 0} (setup own : Setup) (address : List ℕ) (n 
     → own ≡ setup → n ≤ 64 → quota ≤ 4294967295
     → ((rules : Setup) (h : List GnapEntry) → Legal gnap rules h → length h ≤ 2 ^ 58 → WhatHolds rules h)
     → serving.IsService gnap own (IsEdgeSession own) address n quota before after result → IsService setup address n quota before after result
-service_holds setup own address n quota before after result is few most known service = holds setup address n quota before after result few most known
+service_holds setup own address n quota before after result is few most known service = holds setup address n quota before after few most known result
     (subst (λ (s : Setup). serving.IsService gnap s (IsEdgeSession s) address n quota before after result) is service)
