@@ -90,7 +90,8 @@ abbrev most_in : Option (ℕ × ℕ) → ℕ
 most_in None = 0
 most_in (Some counts) = counts.1
 
-at : (n least most : ℕ) (words : List (List ℕ)) → ◌≡◌ {A = Option (ℕ × ℕ)} (Some (n, n)) (Some (least, most)) → IsMiscount least most words → exactly n words ≡ None
+at : (n least most : ℕ) (words : List (List ℕ)) → ◌≡◌ {A = Option (ℕ × ℕ)} (Some (n, n)) (Some (least, most))
+    → IsMiscount least most words → exactly n words ≡ None
 at n least most words is none =
     let first : n ≡ least = ap least_in is in
     let last : n ≡ most = ap most_in is in
@@ -109,7 +110,8 @@ reading_by a b c d e f g h i words =
     else if e then with_four as_words words else if f then with_four rs_words words else if g then with_three client_words words
     else if h then hash_of words else if i then with_three load_words words else None
 
-sign_miscount : (least most : ℕ) (words : List (List ℕ)) → ◌≡◌ {A = Option (ℕ × ℕ)} (Some (4, 5)) (Some (least, most)) → IsMiscount least most words → sign_of words ≡ None
+sign_miscount : (least most : ℕ) (words : List (List ℕ)) → ◌≡◌ {A = Option (ℕ × ℕ)} (Some (4, 5)) (Some (least, most))
+    → IsMiscount least most words → sign_of words ≡ None
 sign_miscount least most words is none =
     let first : 4 ≡ least = ap least_in is in
     let last : 5 ≡ most = ap most_in is in
