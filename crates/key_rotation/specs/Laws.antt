@@ -1,0 +1,55 @@
+-- What holds of a message with two signatures, and of one that is signed by both.
+use Rattle.std.specs.Prelude.{◌≡◌, ℕ, ◌+◌, ◌<◌, ◌≤◌, ◌^◌, true, List, Option, Some, Ok, IsSome}
+use Rattle.std.specs.List.{list_all}
+use Rattle.bytes_and_lists.specs.declared.message.Message.{Message}
+use Rattle.structured_fields.specs.Letters.{is_string_byte}
+use Rattle.structured_fields.specs.Named.{value_at}
+use Rattle.message_signature.specs.Verified.{Signature, tagged, verified}
+use Rattle.message_signature.specs.Signed.{params_of, signed_under}
+use Rattle.message_signature.specs.Laws.{CanPass}
+use Rattle.key_rotation.specs.declared.verifying.RotatedKeys.{RotatedKeys}
+use Rattle.key_rotation.specs.SecondSignature.{first_tag, second_tag, verified_again, is_chained}
+use Rattle.key_rotation.specs.Rotated.{rotated_keys}
+use Rattle.key_rotation.specs.SignedRotation.{is_signed, signed_rotation}
+
+-- the first signature is the old key's, the second the new key's, and the second covers the first
+pub record AreKeysOf (m : Message) (base : List ℕ) (ring : List (List ℕ × List ℕ)) (now : ℕ) (keys : RotatedKeys) : Type 0 where
+  pub old : verified m base ring now first_tag ≡ Ok keys.old
+  pub new : verified_again m base ring now ≡ Ok keys.new
+  pub first : Signature
+  pub first_is : tagged m first_tag ≡ Ok first
+  pub second : Signature
+  pub second_is : tagged m second_tag ≡ Ok second
+  pub covers : is_chained first.label second.list ≡ true
+
+abbrev pub RotatedIsByBoth : Type 0
+RotatedIsByBoth = (m : Message) (base : List ℕ) (ring : List (List ℕ × List ℕ)) (now : ℕ) (keys : RotatedKeys)
+    → rotated_keys m base ring now ≡ Ok keys → AreKeysOf m base ring now keys
+
+abbrev pub ByBothIsRotated : Type 0
+ByBothIsRotated = (m : Message) (base : List ℕ) (ring : List (List ℕ × List ℕ)) (now : ℕ) (keys : RotatedKeys)
+    → AreKeysOf m base ring now keys → rotated_keys m base ring now ≡ Ok keys
+
+-- a message that was signed, with or without a nonce, can be signed again
+abbrev pub SignedIsSigned : Type 0
+SignedIsSigned = (m n : Message) (base : List ℕ) (ring : List (List ℕ × List ℕ)) (id secret : List ℕ) (created : ℕ) (nonce : Option (List ℕ)) (now : ℕ)
+    → signed_under m base (params_of id created nonce first_tag) secret ≡ Some n → CanPass m ring id secret created nonce first_tag now → is_signed n ≡ true
+
+-- a message that can be signed again always is
+abbrev pub IsAlwaysSignedAgain : Type 0
+IsAlwaysSignedAgain = (m : Message) (base id secret : List ℕ) (created : ℕ) → is_signed m ≡ true → IsSome (signed_rotation m base id secret created)
+
+-- what it takes that the second signature passes, made under this id and secret at this time
+pub record CanPassAgain (ring : List (List ℕ × List ℕ)) (id secret : List ℕ) (created now : ℕ) : Type 0 where
+  pub key : value_at ring id ≡ Some secret
+  pub id_text : list_all is_string_byte id ≡ true
+  pub created_size : created < 10 ^ 15
+  pub not_early : created ≤ now + 300
+  pub not_late : now ≤ created + 300
+
+-- a message that was signed, and signed again, gives both keys
+abbrev pub BothPass : Type 0
+BothPass = (m n r : Message) (base : List ℕ) (ring : List (List ℕ × List ℕ)) (old old_secret : List ℕ) (created : ℕ) (nonce : Option (List ℕ)) (new new_secret : List ℕ) (moment now : ℕ)
+    → signed_under m base (params_of old created nonce first_tag) old_secret ≡ Some n → CanPass m ring old old_secret created nonce first_tag now
+    → signed_rotation n base new new_secret moment ≡ Some r → CanPassAgain ring new new_secret moment now
+    → rotated_keys r base ring now ≡ Ok (record { old = old; new = new })
