@@ -2,8 +2,8 @@
 use bytes_and_lists::bytes::Bytes;
 use bytes_and_lists::memory::{Duplicate, Mem};
 use bytes_and_lists::seq::Seq;
-use gnap_model::notes::OpeningNote;
 use gnap_model::key_rows::KeyRows;
+use gnap_model::notes::OpeningNote;
 use gnap_model::objects::{Ask, ErrorCode, Finish, KeyRow, Modes, Role, Setup};
 use gnap_model::rights::{Right, RightObject, Rights};
 use std::alloc::Global;
