@@ -192,7 +192,7 @@ IsWithinRanges (Load grants start workers) = (1 ≤ workers) × (workers ≤ 64)
 abbrev pub openings_of : Command → List Opening
 openings_of (Replay file) = File file ∷ []
 openings_of (Field kind file) = File file ∷ []
-openings_of (Sign config key created file nonce) = File config ∷ File file ∷ []
+openings_of (Sign config key created file _) = File config ∷ File file ∷ []
 openings_of (Verify config now file) = File config ∷ File file ∷ []
 openings_of (As config listen workers quota) = File config ∷ Gears listen workers quota ∷ []
 openings_of (Rs config listen server quota) = File config ∷ Link server ∷ Gears listen 1 quota ∷ []
@@ -204,7 +204,7 @@ openings_of (Load grants start workers) = []
 abbrev pub input_place : Command → Option ℕ
 input_place (Replay file) = Some 0
 input_place (Field kind file) = Some 0
-input_place (Sign config key created file nonce) = None
+input_place (Sign config key created file _) = None
 input_place (Verify config now file) = None
 input_place (As config listen workers quota) = None
 input_place (Rs config listen server quota) = None

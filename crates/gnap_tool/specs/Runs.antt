@@ -49,7 +49,7 @@ IsValid (purposes.Verify setup now) = Unit {0}
 abbrev pub input_of : Purpose → Option ℕ
 input_of purposes.Replay = Some 0
 input_of (purposes.Field kind) = Some 0
-input_of (purposes.Sign setup key created nonce) = None
+input_of (purposes.Sign setup key created _) = None
 input_of (purposes.Verify setup now) = None
 
 -- ---- a server at an address

@@ -8,7 +8,7 @@ use Rattle.gnap_tool.proofs.commands.carry_out.Goals as goal
 pub returns-in-Sign-clause-carried : goal.returns-in-Sign-clause-carried
 returns-in-Sign-clause-carried g c =
     let N : Option (List ℕ) → Type 0 = λ nonce.
-    CarriesOut (Sign c.in-Sign.config.now c.in-Sign.key.now c.in-Sign.created.now c.in-Sign.file.now nonce) (g.W.World.text c.args.world.now)
+    CarriesOut (Sign c.in-Sign.config c.in-Sign.key c.in-Sign.created c.in-Sign.file nonce) (g.W.World.text c.args.world.now)
     (g.W.World.state c.args.world.now) (g.W.World.state c.sign.new.world) (g.O.Device.told c.args.out.now) (g.O.Device.told c.sign.new.out) c.sign.result in
     carried_as _ _ _ _ _ c.in-Sign.is _ _ _ (subst N c.as_ref-nonce.ensures.value c.sign.ensures.carried)
 
