@@ -6,7 +6,7 @@ use Rattle.std.specs.Str.{bytes_eq}
 use Rattle.command_words.specs.Positionals.{exactly}
 use Rattle.gnap_tool.specs.declared.command.Command.{Command}
 use Rattle.gnap_tool.specs.declared.wrong_words.WrongWords.{WrongWords}
-use Rattle.gnap_tool.specs.Commands.{AreRead, replay_of, field_of, with_three, with_four, with_five, sign_words, marked_sign_words, sign_of, verify_words, as_words, rs_words, client_words, hash_of, load_words, counts_of, count_among, command_named}
+use Rattle.gnap_tool.specs.Commands.{AreRead, replay_of, field_of, with_three, with_four, with_five, sign_words, marked_sign_words, sign_of, verify_words, as_words, rs_words, cached_rs_words, rs_of, client_words, hash_of, load_words, counts_of, count_among, command_named}
 
 no_replay : (words : List (List ℕ)) → exactly 1 words ≡ None → replay_of words ≡ None
 no_replay [] is = refl
@@ -55,6 +55,31 @@ not_sign (a ∷ b ∷ c ∷ d ∷ []) is = cc
 not_sign (a ∷ b ∷ c ∷ d ∷ e ∷ []) is = cc
 not_sign (a ∷ b ∷ c ∷ d ∷ e ∷ f ∷ words) is = refl
 
+-- the same of a resource server
+pub rs_of_five : (result : Result Command WrongWords) (words : List (List ℕ)) (a b c d e : List ℕ) → words ≡ a ∷ b ∷ c ∷ d ∷ e ∷ []
+    → AreRead result words (with_five cached_rs_words words) → AreRead result words (rs_of words)
+rs_of_five result words a b c d e is read =
+    let plain : with_four rs_words words ≡ None = ap (with_four rs_words) is in
+    let same : rs_of words ≡ with_five cached_rs_words words =
+    ap (option_or (with_five cached_rs_words words)) plain ∙ or_none (with_five cached_rs_words words) in
+    subst (AreRead result words) (sym same) read
+
+pub rs_of_four : (result : Result Command WrongWords) (words : List (List ℕ))
+    → ((f : List ℕ → List ℕ → List ℕ → List ℕ → List ℕ → Option Command) → with_five f words ≡ None)
+    → AreRead result words (with_four rs_words words) → AreRead result words (rs_of words)
+rs_of_four result words none read =
+    let same : rs_of words ≡ with_four rs_words words = ap (λ r. option_or r (with_four rs_words words)) (none cached_rs_words) in
+    subst (AreRead result words) (sym same) read
+
+not_rs : (words : List (List ℕ)) → exactly (count_among 4 5 (length words)) words ≡ None → rs_of words ≡ None
+not_rs [] is = refl
+not_rs (a ∷ []) is = refl
+not_rs (a ∷ b ∷ []) is = refl
+not_rs (a ∷ b ∷ c ∷ []) is = refl
+not_rs (a ∷ b ∷ c ∷ d ∷ []) is = cc
+not_rs (a ∷ b ∷ c ∷ d ∷ e ∷ []) is = cc
+not_rs (a ∷ b ∷ c ∷ d ∷ e ∷ f ∷ words) is = refl
+
 not_four : (f : List ℕ → List ℕ → List ℕ → List ℕ → Option Command) (words : List (List ℕ)) → exactly 4 words ≡ None → with_four f words ≡ None
 not_four f [] is = refl
 not_four f (a ∷ []) is = refl
@@ -102,12 +127,12 @@ at n least most words is none =
 abbrev number_by : (a b c d e f g h i : Bool) → Option (ℕ × ℕ)
 number_by a b c d e f g h i =
     if a then Some (1, 1) else if b then Some (2, 2) else if c then Some (4, 5) else if d then Some (3, 3) else if e then Some (4, 4)
-    else if f then Some (4, 4) else if g then Some (3, 3) else if h then Some (5, 5) else if i then Some (3, 3) else None
+    else if f then Some (4, 5) else if g then Some (3, 3) else if h then Some (5, 5) else if i then Some (3, 3) else None
 
 abbrev reading_by : (a b c d e f g h i : Bool) → List (List ℕ) → Option Command
 reading_by a b c d e f g h i words =
     if a then replay_of words else if b then field_of words else if c then sign_of words else if d then with_three verify_words words
-    else if e then with_four as_words words else if f then with_four rs_words words else if g then with_three client_words words
+    else if e then with_four as_words words else if f then rs_of words else if g then with_three client_words words
     else if h then hash_of words else if i then with_three load_words words else None
 
 sign_miscount : (least most : ℕ) (words : List (List ℕ)) → ◌≡◌ {A = Option (ℕ × ℕ)} (Some (4, 5)) (Some (least, most))
@@ -116,6 +141,13 @@ sign_miscount least most words is none =
     let first : 4 ≡ least = ap least_in is in
     let last : 5 ≡ most = ap most_in is in
     not_sign words (subst (λ l. IsMiscount l 5 words) (sym first) (subst (λ m. IsMiscount least m words) (sym last) none))
+
+rs_miscount : (least most : ℕ) (words : List (List ℕ)) → ◌≡◌ {A = Option (ℕ × ℕ)} (Some (4, 5)) (Some (least, most))
+    → IsMiscount least most words → rs_of words ≡ None
+rs_miscount least most words is none =
+    let first : 4 ≡ least = ap least_in is in
+    let last : 5 ≡ most = ap most_in is in
+    not_rs words (subst (λ l. IsMiscount l 5 words) (sym first) (subst (λ m. IsMiscount least m words) (sym last) none))
 
 counted : (a b c d e f g h i : Bool) (least most : ℕ) (words : List (List ℕ))
     → number_by a b c d e f g h i ≡ Some (least, most)
@@ -126,7 +158,7 @@ counted false true c d e f g h i least most words is none = no_field words (at 2
 counted false false true d e f g h i least most words is none = sign_miscount least most words is none
 counted false false false true e f g h i least most words is none = not_three verify_words words (at 3 least most words is none)
 counted false false false false true f g h i least most words is none = not_four as_words words (at 4 least most words is none)
-counted false false false false false true g h i least most words is none = not_four rs_words words (at 4 least most words is none)
+counted false false false false false true g h i least most words is none = rs_miscount least most words is none
 counted false false false false false false true h i least most words is none = not_three client_words words (at 3 least most words is none)
 counted false false false false false false false true i least most words is none = no_hash words (at 5 least most words is none)
 counted false false false false false false false false true least most words is none = not_three load_words words (at 3 least most words is none)

@@ -86,10 +86,19 @@ as_words config listen workers quota =
     if are_arguments (config ∷ listen ∷ [])
     then option_and_then (λ n. option_map (λ most. As config listen n most) (number_within 0 1000000 quota)) (number_within 1 64 workers) else None
 
--- at most 1,000,000 connections
+-- at most 1,000,000 connections, and with a cache 1 to 16,384 replies
 abbrev pub rs_words : List ℕ → List ℕ → List ℕ → List ℕ → Option Command
 rs_words config listen server quota =
-    if are_arguments (config ∷ listen ∷ server ∷ []) then option_map (λ most. Rs config listen server most) (number_within 0 1000000 quota) else None
+    if are_arguments (config ∷ listen ∷ server ∷ []) then option_map (λ most. Rs config listen server most None) (number_within 0 1000000 quota) else None
+
+abbrev pub cached_rs_words : List ℕ → List ℕ → List ℕ → List ℕ → List ℕ → Option Command
+cached_rs_words config listen server quota cache =
+    if are_arguments (config ∷ listen ∷ server ∷ [])
+    then option_and_then (λ most. option_map (λ n. Rs config listen server most (Some n)) (number_within 1 16384 cache)) (number_within 0 1000000 quota) else None
+
+-- four words, or five
+abbrev pub rs_of : List (List ℕ) → Option Command
+rs_of words = option_or (with_five cached_rs_words words) (with_four rs_words words)
 
 abbrev pub client_words : List ℕ → List ℕ → List ℕ → Option Command
 client_words config address script = if are_arguments (config ∷ address ∷ script ∷ []) then Some (Client config address script) else None
@@ -122,7 +131,7 @@ counts_of name =
     else if bytes_eq name (codes "sign") then Some (4, 5)
     else if bytes_eq name (codes "verify") then Some (3, 3)
     else if bytes_eq name (codes "as") then Some (4, 4)
-    else if bytes_eq name (codes "rs") then Some (4, 4)
+    else if bytes_eq name (codes "rs") then Some (4, 5)
     else if bytes_eq name (codes "client") then Some (3, 3)
     else if bytes_eq name (codes "hash") then Some (5, 5)
     else if bytes_eq name (codes "load") then Some (3, 3)
@@ -135,7 +144,7 @@ command_named name arguments =
     else if bytes_eq name (codes "sign") then sign_of arguments
     else if bytes_eq name (codes "verify") then with_three verify_words arguments
     else if bytes_eq name (codes "as") then with_four as_words arguments
-    else if bytes_eq name (codes "rs") then with_four rs_words arguments
+    else if bytes_eq name (codes "rs") then rs_of arguments
     else if bytes_eq name (codes "client") then with_three client_words arguments
     else if bytes_eq name (codes "hash") then hash_of arguments
     else if bytes_eq name (codes "load") then with_three load_words arguments
@@ -161,6 +170,7 @@ is_of forms.Nonce word = is_nonce_word word
 is_of forms.Workers word = is_some (number_within 1 64 word)
 is_of forms.Connections word = is_some (number_within 0 1000000 word)
 is_of forms.Grants word = is_some (number_within 1 100000 word)
+is_of forms.Replies word = is_some (number_within 1 16384 word)
 is_of forms.Start word = is_some (number_within 0 18446744073709551615 word)
 
 -- Memory ran out, or the words are no command, and where one of those after the name is at fault, it isn't of this form.
@@ -174,14 +184,14 @@ AreWrong (wrong.Word place form) words reading = (reading ≡ None) × (option_m
 abbrev pub AreRead : Result Command WrongWords → List (List ℕ) → Option Command → Type 0
 AreRead result words reading = MatchResult result (λ command. reading ≡ Some command) (λ fault. AreWrong fault words reading)
 
--- the words of a command are in their ranges: moments before the year 10000, nonces that can be written, and 1 to 64 workers
+-- the words of a command are in their ranges: moments before the year 10000, nonces that can be written, 1 to 64 workers, and 1 to 16,384 replies in a cache
 abbrev pub IsWithinRanges : Command → Type 0
 IsWithinRanges (Replay file) = Unit {0}
 IsWithinRanges (Field kind file) = Unit {0}
 IsWithinRanges (Sign config key created file nonce) = (created ≤ last_moment) × IfSome nonce (λ n. is_nonce n ≡ true)
 IsWithinRanges (Verify config now file) = now ≤ last_moment
 IsWithinRanges (As config listen workers quota) = (1 ≤ workers) × (workers ≤ 64)
-IsWithinRanges (Rs config listen server quota) = Unit {0}
+IsWithinRanges (Rs config listen server quota cache) = IfSome cache (λ n. (1 ≤ n) × (n ≤ 16384))
 IsWithinRanges (Client config address script) = Unit {0}
 IsWithinRanges (Hash texts) = Unit {0}
 IsWithinRanges (Load grants start workers) = (1 ≤ workers) × (workers ≤ 64)
@@ -195,7 +205,7 @@ openings_of (Field kind file) = File file ∷ []
 openings_of (Sign config key created file _) = File config ∷ File file ∷ []
 openings_of (Verify config now file) = File config ∷ File file ∷ []
 openings_of (As config listen workers quota) = File config ∷ Gears listen workers quota ∷ []
-openings_of (Rs config listen server quota) = File config ∷ Link server ∷ Gears listen 1 quota ∷ []
+openings_of (Rs config listen server quota cache) = File config ∷ Link server ∷ Gears listen 1 quota ∷ []
 openings_of (Client config address script) = File config ∷ Link address ∷ File script ∷ []
 openings_of (Hash texts) = []
 openings_of (Load grants start workers) = []
@@ -207,7 +217,7 @@ input_place (Field kind file) = Some 0
 input_place (Sign config key created file _) = None
 input_place (Verify config now file) = None
 input_place (As config listen workers quota) = None
-input_place (Rs config listen server quota) = None
+input_place (Rs config listen server quota cache) = None
 input_place (Client config address script) = Some 1
 input_place (Hash texts) = None
 input_place (Load grants start workers) = None

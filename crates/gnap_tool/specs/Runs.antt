@@ -23,6 +23,8 @@ use Rattle.printed_answers.specs.MessageAnswers.{PrintsFor}
 use Rattle.call_replay.specs.Replays.{ReplaysFile}
 use Rattle.command_inputs.specs.Configs.{setup_in}
 use Rattle.resource_server.specs.declared.setup.RsSetup.{RsSetup}
+use Rattle.introspection_cache.specs.Caching.{Caches, new_cache}
+use Rattle.rs_edge.specs.GuardedSteps.{GuardsKeeping, guards_asking}
 use Rattle.rs_edge.specs.RsServices.{IsRsService}
 use Rattle.signed_files.specs.SignedText.{SignsFile}
 use Rattle.signed_files.specs.Verdicts.{VerifiesFile}
@@ -64,10 +66,16 @@ abbrev pub Serves : Setup → List ℕ → ℕ → ℕ → WorldState → WorldS
 Serves setup listen workers quota before after ended = ((after ≡ before) × ((ended ≡ Failed) ⊎ (ended ≡ Memory)))
     ⊎ ((answer : Result (Unit {0}) WorldFault) × (ended ≡ ended_service answer) × IsService setup listen workers quota before after answer)
 
--- the same of a resource server, with the authorization server at another address
-abbrev pub ServesRs : RsSetup → List ℕ → List ℕ → ℕ → WorldState → WorldState → Ended → Type 0
-ServesRs setup listen server quota before after ended = ((after ≡ before) × ((ended ≡ Failed) ⊎ (ended ≡ Memory)))
-    ⊎ ((answer : Result (Unit {0}) WorldFault) × (ended ≡ ended_service answer) × IsRsService setup listen server quota before after answer)
+-- the same of a resource server whose guard kept this first, with the authorization server at another address
+abbrev pub ServesGuarded : {K : Type 0} → GuardsKeeping K → K → RsSetup → List ℕ → List ℕ → ℕ → WorldState → WorldState → Ended → Type 0
+ServesGuarded {K} guards first setup listen server quota before after ended = ((after ≡ before) × ((ended ≡ Failed) ⊎ (ended ≡ Memory)))
+    ⊎ ((last : K) × (answer : Result (Unit {0}) WorldFault) × (ended ≡ ended_service answer)
+    × IsRsService guards setup listen server quota before after first last answer)
+
+-- Without a cache the token of each request is asked about. With one, which is empty first, a reply is kept for a while.
+abbrev pub ServesRs : RsSetup → List ℕ → List ℕ → ℕ → Option ℕ → WorldState → WorldState → Ended → Type 0
+ServesRs setup listen server quota None before after ended = ServesGuarded guards_asking tt setup listen server quota before after ended
+ServesRs setup listen server quota (Some capacity) before after ended = ServesGuarded Caches (new_cache capacity) setup listen server quota before after ended
 
 -- ---- the commands
 
@@ -86,9 +94,9 @@ CarriesOut (Verify config now file) text before after out out_now ended =
 CarriesOut (As config listen workers quota) text before after out out_now ended =
     BySetup setup_in (text config) before after out out_now ended (λ between setup.
     (out_now ≡ out) × Serves setup listen workers quota between after ended)
-CarriesOut (Rs config listen server quota) text before after out out_now ended =
+CarriesOut (Rs config listen server quota cache) text before after out out_now ended =
     BySetup rs_setup_in (text config) before after out out_now ended (λ between setup.
-    (out_now ≡ out) × ServesRs setup listen server quota between after ended)
+    (out_now ≡ out) × ServesRs setup listen server quota cache between after ended)
 CarriesOut (Client config address script) text before after out out_now ended =
     BySetup client_config_in (text config) before after out out_now ended (λ between parts.
     Linked between after (Unopened out out_now ended) (λ link opened.

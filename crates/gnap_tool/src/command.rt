@@ -1,6 +1,6 @@
 //! The commands, and which of them words are.
 ghost use Rattle.std.specs.Prelude.{◌≡◌, ◌≤◌, ◌⊎◌, ℕ, List, Option, Some, None, false, true, drop, [], ◌∷◌, IfOk, IfErr, IfSome, IfNone, map, string_bytes};
-ghost use Rattle.gnap_tool.specs.Commands.{AreRead, IsWithinRanges, is_argument, is_nonce_word, kind_of, replay_of, field_of, with_three, with_four, with_five, sign_words, marked_sign_words, sign_of, verify_words, as_words, rs_words, client_words, long_method, hash_of, load_words, counts_of, count_among, command_named, command_of};
+ghost use Rattle.gnap_tool.specs.Commands.{AreRead, IsWithinRanges, is_argument, is_nonce_word, kind_of, replay_of, field_of, with_three, with_four, with_five, sign_words, marked_sign_words, sign_of, verify_words, as_words, rs_words, cached_rs_words, rs_of, client_words, long_method, hash_of, load_words, counts_of, count_among, command_named, command_of};
 ghost use Rattle.message_signature.specs.Marks.{is_nonce};
 ghost use Rattle.gnap_tool.specs.Numbers.{number_within};
 ghost use Rattle.gnap_tool.specs.declared.wrong_words.WrongWords.TheVariants.{Word, OutOfMemory};
@@ -28,8 +28,9 @@ pub enum Command {
     Verify(Bytes, u64, Bytes),
     /// `as CONFIG LISTEN WORKERS QUOTA`: the authorization server of a setup is served at an address, by so many workers, each for so many connections.
     As(Bytes, Bytes, usize, u32),
-    /// `rs CONFIG LISTEN SERVER QUOTA`: the resource server of a setup is served at an address, for so many connections, and introspects tokens at another.
-    Rs(Bytes, Bytes, Bytes, u32),
+    /// `rs CONFIG LISTEN SERVER QUOTA`, or that and `CACHE`: the resource server of a setup is served at an address, for so many connections, and introspects
+    /// tokens at another. With CACHE it keeps so many replies for a while.
+    Rs(Bytes, Bytes, Bytes, u32, Option<usize>),
     /// `client CONFIG ADDRESS SCRIPT`: a client of a configuration carries out the lines of a script, with the server at an address.
     Client(Bytes, Bytes, Bytes),
     /// `hash METHOD CLIENT SERVER REF URI`: the interaction hash of the texts is printed.
@@ -254,7 +255,7 @@ fn as_of(alloc: Global, words: &[String]) -> Result<Command, WrongWords>
 }
 
 // At most 1,000,000 connections.
-fn rs_of(alloc: Global, words: &[String]) -> Result<Command, WrongWords>
+fn plain_rs_of(alloc: Global, words: &[String]) -> Result<Command, WrongWords>
     ensures read { AreRead result (map string_bytes words.now) (with_four rs_words (map string_bytes words.now)) }
     ensures ranges { IfOk result IsWithinRanges }
 {
@@ -265,7 +266,35 @@ fn rs_of(alloc: Global, words: &[String]) -> Result<Command, WrongWords>
     let listen = argument(alloc, 1, listen)?;
     let server = argument(alloc, 2, server)?;
     let quota = number(3, WordForm::Connections, quota, 0, 1_000_000)?;
-    Ok(Command::Rs(config, listen, server, quota as u32))
+    Ok(Command::Rs(config, listen, server, quota as u32, None))
+}
+
+// The same, with a cache of 1 to 16,384 replies.
+fn cached_rs_of(alloc: Global, words: &[String]) -> Result<Command, WrongWords>
+    ensures read { AreRead result (map string_bytes words.now) (with_five cached_rs_words (map string_bytes words.now)) }
+    ensures ranges { IfOk result IsWithinRanges }
+{
+    let Some((config, listen, server, quota, cache)) = five(words) else {
+        return Err(WrongWords::Count);
+    };
+    let config = argument(alloc, 0, config)?;
+    let listen = argument(alloc, 1, listen)?;
+    let server = argument(alloc, 2, server)?;
+    let quota = number(3, WordForm::Connections, quota, 0, 1_000_000)?;
+    let cache = number(4, WordForm::Replies, cache, 1, 16_384)?;
+    Ok(Command::Rs(config, listen, server, quota as u32, Some(cache as usize)))
+}
+
+// Four words, or five with a cache.
+#[tactic(auto, using(crate::proofs::CommandWords::rs_of_five, crate::proofs::CommandWords::rs_of_four))]
+fn rs_of(alloc: Global, words: &[String]) -> Result<Command, WrongWords>
+    ensures read { AreRead result (map string_bytes words.now) (rs_of (map string_bytes words.now)) }
+    ensures ranges { IfOk result IsWithinRanges }
+{
+    match five(words) {
+        Some(_) => cached_rs_of(alloc, words),
+        None => plain_rs_of(alloc, words),
+    }
 }
 
 fn client_of(alloc: Global, words: &[String]) -> Result<Command, WrongWords>
@@ -329,7 +358,7 @@ pub(crate) fn counts_of(name: &str) -> Option<(usize, usize)>
         "sign" => Some((4, 5)),
         "verify" => Some((3, 3)),
         "as" => Some((4, 4)),
-        "rs" => Some((4, 4)),
+        "rs" => Some((4, 5)),
         "client" => Some((3, 3)),
         "hash" => Some((5, 5)),
         "load" => Some((3, 3)),

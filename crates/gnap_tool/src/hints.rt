@@ -107,7 +107,7 @@ fn tell_no_setup<E: Sink>(err: &mut E, command: &Command) {
         Command::Sign(config, _, _, _, _)
         | Command::Verify(config, _, _)
         | Command::As(config, _, _, _)
-        | Command::Rs(config, _, _, _) => {
+        | Command::Rs(config, _, _, _, _) => {
             tell(err, &[b"gnap: ", config.as_slice(), b" is no setup: "])
         }
         Command::Client(config, _, _) => tell(
@@ -177,7 +177,7 @@ fn tell_files<E: Sink>(err: &mut E, command: &Command) {
         Command::As(config, listen, _, _) => {
             tell(err, &[config.as_slice(), b" or ", listen.as_slice()])
         }
-        Command::Rs(config, listen, server, _) => tell(
+        Command::Rs(config, listen, server, _, _) => tell(
             err,
             &[
                 config.as_slice(),
@@ -224,7 +224,7 @@ fn tell_refusal<E: Sink>(err: &mut E, command: &Command) {
         ),
         // Nothing that they read is refused.
         Command::As(_, _, _, _)
-        | Command::Rs(_, _, _, _)
+        | Command::Rs(_, _, _, _, _)
         | Command::Hash(_)
         | Command::Load(_, _, _) => {}
     }

@@ -85,6 +85,7 @@ fn form_text(form: WordForm) -> &'static str {
             "nonce (1 to 64 letters, digits, `.`, `_` or `-`, the first of them no `-`)",
         WordForm::Workers => "number of workers (1 to 64)",
         WordForm::Connections => "number of connections (0 to 1000000)",
+        WordForm::Replies => "number of replies to keep (1 to 16384)",
         WordForm::Grants => "number of grants (1 to 100000)",
         WordForm::Start => "start (0 to 18446744073709551615)",
     }

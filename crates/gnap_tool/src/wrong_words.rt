@@ -19,6 +19,8 @@ pub enum WordForm {
     Connections,
     /// A number of grants, 1 to 100,000.
     Grants,
+    /// A number of replies that may be kept, 1 to 16,384.
+    Replies,
     /// A number of 64 bits.
     Start,
 }

@@ -1,4 +1,5 @@
 //! The resource server, as `serving` serves it.
+use crate::guarded_link::GuardedLink;
 use crate::turns::guarded_turn;
 use bytes_and_lists::message::Message;
 use gnap_io::device::{Failed, Sink, Source};
@@ -6,13 +7,13 @@ use gnap_io::gear::Clock;
 use gnap_io::link::Link;
 use http_edge::{EdgeFault, Held};
 use http_serving::{read_request, write_busy, write_fault};
-use resource_server::RsSetup;
+use resource_server::{RequestGuard, RsSetup};
 use serving::ends::{AfterTurn, NoMessage};
 use serving::message_reader::MessageReader;
 use serving::turn_taker::TurnTaker;
 use std::alloc::Global;
 
-/// The resource server of a setup. It keeps nothing of what it does.
+/// The resource server of a setup. What is kept from request to request is the guard's.
 #[derive(Drop)]
 pub(crate) struct GuardedServer<'a> {
     pub(crate) setup: &'a RsSetup,
@@ -59,28 +60,30 @@ impl<'a> MessageReader for GuardedServer<'a> {
     }
 }
 
-impl<'a, L: Link, G: Clock> TurnTaker<L, G> for GuardedServer<'a> {
-    ghost use Rattle.gnap_io.specs.Links.{Exchange, LinkState};
-    ghost use Rattle.rs_edge.specs.LinkBackends.{link_backend};
+impl<'a, 'b, K: RequestGuard, L: Link, G: Clock> TurnTaker<GuardedLink<'b, L, K>, G>
+    for GuardedServer<'a> {
+    ghost use Rattle.gnap_io.specs.Links.{LinkState};
+    ghost use Rattle.rs_edge.specs.GuardedLinks.{guarded_link};
+    ghost use Rattle.rs_edge.specs.GuardedSteps.{GuardedStep};
     ghost use Rattle.rs_edge.specs.RsTurns.{IsRsTurn};
 
-    ghost Entry = { Exchange };
+    ghost Entry = { GuardedStep K.Kept };
 
-    ghost Past = { LinkState };
+    ghost Past = { LinkState × K.Kept };
 
-    ghost backend_kind = { λ server. link_backend L.link server.setup.now };
+    ghost backend_kind = { λ server. guarded_link L.link K.kept server.setup.now };
 
-    ghost is_turn = { λ server. IsRsTurn server.setup.now };
+    ghost is_turn = { λ server. IsRsTurn K.guards server.setup.now };
 
     fn turn<S: Source + Sink>(
         &self,
         alloc: Global,
-        link: &mut L,
+        backend: &mut GuardedLink<'b, L, K>,
         conn: &mut S,
         gear: &mut G,
         message: &Message,
         last: bool,
     ) -> AfterTurn {
-        guarded_turn(alloc, self.setup, link, conn, gear, message, last)
+        guarded_turn(alloc, self.setup, backend, conn, gear, message, last)
     }
 }

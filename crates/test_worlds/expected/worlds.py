@@ -197,9 +197,10 @@ def serve(world, config, listen, workers, quota):
     return 4 if any(failed for _, failed in answers) else 0
 
 
-def serve_resources(world, config, listen, server, quota):
+def serve_resources(world, config, listen, server, quota, *cache):
     argument(config), argument(listen), argument(server)
     quota = number(quota, 0, 1_000_000)
+    cache = [resource_side.Cache(number(size, 1, 16_384)) for size in cache]
     setup = world.config(config, resource_side.read_resource_setup)
     world.open()
     if server != "a":
@@ -208,7 +209,7 @@ def serve_resources(world, config, listen, server, quota):
     gears = world.case.get("gears", [])
     if listen != "a" or len(gears) != 1 or len(gears[0]["connections"]) > quota:
         raise Stop(4)
-    connections, failed = as_server.served(world, resource_side.ResourceServer(setup, world.exchange), gears[0])
+    connections, failed = as_server.served(world, resource_side.ResourceServer(setup, world.exchange, *cache), gears[0])
     world.served = [connections]
     return 4 if failed else 0
 
@@ -254,7 +255,7 @@ def load(world, grants, start, workers):
 
 
 COMMANDS = {
-    "replay": (replay, 1), "field": (field, 2), "sign": (sign, 4, 5), "verify": (verify, 3), "as": (serve, 4), "rs": (serve_resources, 4), "client": (client, 3), "hash": (print_hash, 5), "load": (load, 3),
+    "replay": (replay, 1), "field": (field, 2), "sign": (sign, 4, 5), "verify": (verify, 3), "as": (serve, 4), "rs": (serve_resources, 4, 5), "client": (client, 3), "hash": (print_hash, 5), "load": (load, 3),
 }
 
 
