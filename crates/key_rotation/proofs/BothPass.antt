@@ -1,6 +1,6 @@
 -- A message that was signed by both keys gives both.
-use Rattle.std.proofs.Common.{◌≡◌, ℕ, ◌+◌, ◌<◌, ◌≤◌, ◌^◌, Bool, true, false, not, ◌&&◌, ◌||◌, List, [], ◌∷◌, ◌++◌, map, Option, Some, None, Result, Ok, Err, refl, sym, ap, ◌∙◌, subst, arith}
-use Rattle.std.specs.Prelude.{nat_le, codes, pos, is_some, IfSome}
+use Rattle.std.proofs.Common.{◌≡◌, ℕ, ◌+◌, ◌<◌, ◌≤◌, ◌^◌, Bool, true, false, not, ◌&&◌, ◌||◌, List, [], ◌∷◌, map, Option, Some, None, Result, Ok, refl, sym, ap, ◌∙◌, subst, arith}
+use Rattle.std.specs.Prelude.{codes, pos, is_some, IfSome}
 use Rattle.std.specs.List.{list_all}
 use Rattle.std.specs.Str.{bytes_eq}
 use Rattle.std.proofs.lemmas.Slice.Eq.{bytes_eq-Decides}
@@ -14,8 +14,7 @@ use Rattle.structured_fields.specs.declared.item.InnerList.{InnerList}
 use Rattle.structured_fields.specs.declared.item.Member.TheVariants.{Inner}
 use Rattle.structured_fields.specs.Named.{value_at}
 use Rattle.structured_fields.specs.Letters.{is_string_byte}
-use Rattle.structured_fields.specs.Reading.{dictionary_of}
-use Rattle.structured_fields.specs.Canonical.{separated_text, dictionary_text, IsInnerInRange}
+use Rattle.structured_fields.specs.Canonical.{IsInnerInRange}
 use Rattle.hmac_key.specs.Hmac.{hmac_sha256}
 use Rattle.message_signature.specs.declared.fault.SigFault.{SigFault}
 use Rattle.message_signature.specs.declared.fault.SigFault.TheVariants.{Unsupported, UnknownKey, Differs, Digest}
@@ -24,14 +23,13 @@ use Rattle.message_signature.specs.Components.{values_of, field_value}
 use Rattle.message_signature.specs.Faults.{◌>>=◌, need}
 use Rattle.message_signature.specs.Base.{is_named, signature_base}
 use Rattle.message_signature.specs.Verified.{is_any_string, is_well_formed, has_body, has_field, covers_enough, is_in_window, key_in, has_right_digest, Signature, signature_fields, tagged_in, tagged, admitted, made_under, judged_over, judged, verified}
-use Rattle.message_signature.specs.Signed.{component_item, with_fields, with_digest, params_of, signature_input, signature_lines, signed_under, label}
+use Rattle.message_signature.specs.Signed.{component_item, with_fields, with_digest, params_of, signature_input, signature_lines, label}
 use Rattle.message_signature.specs.Laws.{CanPass}
 use Rattle.message_signature.proofs.AcceptedSteps.{step_ok, need_ok, must_ok}
 use Rattle.message_signature.proofs.Appended.{value_beside, value_added}
 use Rattle.message_signature.proofs.Passes.{signed_passes}
 use Rattle.message_signature.proofs.SignedFields.{input, input_trimmed, input_again, signature, signature_trimmed, signature_again, names, params_range, params_distinct}
 use Rattle.message_signature.proofs.SignedBase.{IsDigested, digested, base_same, there_is, none_is, always_based, signed_is}
-use Rattle.key_rotation.specs.declared.verifying.RotatedKeys.{RotatedKeys}
 use Rattle.key_rotation.specs.RotationBase.{base_with, rotation_base}
 use Rattle.key_rotation.specs.SecondSignature.{first_tag, second_tag, judged_again, verified_again, is_chained}
 use Rattle.key_rotation.specs.SignedRotation.{second_label, are_first_alone, is_signed, rotation_input, second_lines, signed_rotation}

@@ -1,6 +1,5 @@
 -- Two keys are the answer exactly where each signature is its key's, and the second covers the first.
-use Rattle.std.proofs.Common.{◌≡◌, ℕ, List, Ok, Result, refl, sym, ap, ◌∙◌, subst}
-use Rattle.bytes_and_lists.specs.declared.message.Message.{Message}
+use Rattle.std.proofs.Common.{◌≡◌, Ok, Result, sym, ap, ◌∙◌, subst}
 use Rattle.message_signature.specs.declared.fault.SigFault.{SigFault}
 use Rattle.message_signature.specs.declared.tags.SignatureFields.{SignatureFields}
 use Rattle.message_signature.specs.Faults.{◌>>=◌}

@@ -1,5 +1,5 @@
 -- What the verifying of both signatures answers: the two keys, or the first fault (RFC 9635, section 6.1.1).
-use Rattle.std.specs.Prelude.{ℕ, List, Result, Ok, Err}
+use Rattle.std.specs.Prelude.{ℕ, List, Result, Ok}
 use Rattle.bytes_and_lists.specs.declared.message.Message.{Message}
 use Rattle.message_signature.specs.Verified.{signature_fields, tagged_in, judged}
 use Rattle.key_rotation.specs.declared.fault.RotationFault.{RotationFault}

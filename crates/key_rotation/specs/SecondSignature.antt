@@ -1,5 +1,5 @@
 -- The second signature of a message: by the new key, over the first (RFC 9635, section 6.1.1).
-use Rattle.std.specs.Prelude.{ℕ, Bool, ◌&&◌, List, Some, Result, Ok, codes}
+use Rattle.std.specs.Prelude.{ℕ, Bool, ◌&&◌, List, Some, Result, codes}
 use Rattle.std.specs.List.{list_any}
 use Rattle.bytes_and_lists.specs.declared.message.Message.{Message}
 use Rattle.structured_fields.specs.declared.item.InnerList.{InnerList}

@@ -14,7 +14,7 @@ loop-i-preserved c = lines_more c.args.message.now c.args.base.now c.args.fields
     (rw c.others_behind.ensures at c.in_ok-text.ensures)
 
 pub returns-in_err-text : goal.returns-in_err-text
-returns-in_err-text c = let p = err_from_is_err_and c.from_residual-in_err-text.result c.from_residual-in_err-text.ensures.1 in rw (p.1, p.2)
+returns-in_err-text c = let p = err_from_is_err_and c.from_residual.result c.from_residual.ensures.1 in rw (p.1, p.2)
     (lines_failed c.args.message.now c.args.base.now c.args.fields.now c.args.items.now c.loop-i.i c.at.result.now c.loop-i.text c.at.ensures c.loop-i.invariant c.in_err-text.field-0.0
     (rw c.others_behind.ensures at c.in_err-text.ensures))
 
