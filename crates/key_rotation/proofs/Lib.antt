@@ -1,8 +1,10 @@
 mod RotationLines
 mod Told
 mod Members
+mod PlainBase
 mod Steps
 mod ByBoth
+mod ByFault
 mod SecondBase
 mod TwoLines
 mod BothPass

@@ -2,6 +2,7 @@
 use Rattle.std.proofs.Common.{◌≡◌, Bool, true, false, Result, Ok, Err, refl, ap}
 use Rattle.message_signature.specs.declared.fault.SigFault.{SigFault}
 use Rattle.key_rotation.specs.declared.fault.RotationFault.{RotationFault}
+use Rattle.key_rotation.specs.declared.fault.RotationFault.TheVariants.{First, Second, NotChained}
 use Rattle.key_rotation.specs.Faults.{◌>>=◌, in_first, in_second, must_chain}
 
 -- the value that a step gives, and that what follows gives y
@@ -27,6 +28,16 @@ second_step {A} r f x e = ap (λ (y : Result A SigFault). in_second y >>= f) e
 
 pub chain_step : {B : Type 0} (b : Bool) (f : Unit {0} → Result B RotationFault) → b ≡ true → (must_chain b >>= f) ≡ f tt
 chain_step b f e = ap (λ (c : Bool). must_chain c >>= f) e
+
+pub chain_failed : {B : Type 0} (b : Bool) (f : Unit {0} → Result B RotationFault) → b ≡ false → (must_chain b >>= f) ≡ Err NotChained
+chain_failed b f e = ap (λ (c : Bool). must_chain c >>= f) e
+
+-- a step that fails is the answer
+pub first_failed : {A B : Type 0} (r : Result A SigFault) (f : A → Result B RotationFault) (fault : SigFault) → r ≡ Err fault → (in_first r >>= f) ≡ Err (First fault)
+first_failed {A} r f fault e = ap (λ (y : Result A SigFault). in_first y >>= f) e
+
+pub second_failed : {A B : Type 0} (r : Result A SigFault) (f : A → Result B RotationFault) (fault : SigFault) → r ≡ Err fault → (in_second r >>= f) ≡ Err (Second fault)
+second_failed {A} r f fault e = ap (λ (y : Result A SigFault). in_second y >>= f) e
 
 pub chain_ok : {B : Type 0} (b : Bool) (f : Unit {0} → Result B RotationFault) (y : B) → (must_chain b >>= f) ≡ Ok y → (b ≡ true) × (f tt ≡ Ok y)
 chain_ok true f y e = (refl, e)

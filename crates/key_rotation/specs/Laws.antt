@@ -1,16 +1,25 @@
 -- What holds of a message with two signatures, and of one that is signed by both.
-use Rattle.std.specs.Prelude.{◌≡◌, ℕ, ◌+◌, ◌<◌, ◌≤◌, ◌^◌, true, List, Option, Some, Ok, IsSome}
-use Rattle.std.specs.List.{list_all}
+use Rattle.std.specs.Prelude.{◌≡◌, ℕ, ◌+◌, ◌<◌, ◌≤◌, ◌^◌, true, false, List, [], Option, Some, Ok, Err, IsSome}
+use Rattle.std.specs.List.{list_all, AllByRecursion}
 use Rattle.bytes_and_lists.specs.declared.message.Message.{Message}
+use Rattle.structured_fields.specs.declared.item.InnerList.{InnerList}
 use Rattle.structured_fields.specs.Letters.{is_string_byte}
 use Rattle.structured_fields.specs.Named.{value_at}
+use Rattle.message_signature.specs.declared.fault.SigFault.{SigFault}
+use Rattle.message_signature.specs.Base.{signature_base}
 use Rattle.message_signature.specs.Verified.{Signature, tagged, verified}
 use Rattle.message_signature.specs.Signed.{params_of, signed_under}
 use Rattle.message_signature.specs.Laws.{CanPass}
+use Rattle.key_rotation.specs.declared.fault.RotationFault.TheVariants.{First, Second, NotChained}
 use Rattle.key_rotation.specs.declared.verifying.RotatedKeys.{RotatedKeys}
+use Rattle.key_rotation.specs.RotationBase.{rotation_base}
 use Rattle.key_rotation.specs.SecondSignature.{first_tag, second_tag, verified_again, is_chained}
 use Rattle.key_rotation.specs.Rotated.{rotated_keys}
 use Rattle.key_rotation.specs.SignedRotation.{is_signed, signed_rotation}
+
+-- where no covered component has parameters, the base is that of any signature
+abbrev pub PlainBaseIsSame : Type 0
+PlainBaseIsSame = (m : Message) (base : List ℕ) (list : InnerList) → AllByRecursion (λ item. item.params ≡ []) list.items → rotation_base m base list ≡ signature_base m base list
 
 -- the first signature is the old key's, the second the new key's, and the second covers the first
 pub record AreKeysOf (m : Message) (base : List ℕ) (ring : List (List ℕ × List ℕ)) (now : ℕ) (keys : RotatedKeys) : Type 0 where
@@ -29,6 +38,22 @@ RotatedIsByBoth = (m : Message) (base : List ℕ) (ring : List (List ℕ × List
 abbrev pub ByBothIsRotated : Type 0
 ByBothIsRotated = (m : Message) (base : List ℕ) (ring : List (List ℕ × List ℕ)) (now : ℕ) (keys : RotatedKeys)
     → AreKeysOf m base ring now keys → rotated_keys m base ring now ≡ Ok keys
+
+-- a fault of the first signature is the answer
+abbrev pub FirstIsTold : Type 0
+FirstIsTold = (m : Message) (base : List ℕ) (ring : List (List ℕ × List ℕ)) (now : ℕ) (fault : SigFault)
+    → verified m base ring now first_tag ≡ Err fault → rotated_keys m base ring now ≡ Err (First fault)
+
+-- a fault of the second is, where the first has none
+abbrev pub SecondIsTold : Type 0
+SecondIsTold = (m : Message) (base : List ℕ) (ring : List (List ℕ × List ℕ)) (now : ℕ) (old : List ℕ) (fault : SigFault)
+    → verified m base ring now first_tag ≡ Ok old → verified_again m base ring now ≡ Err fault → rotated_keys m base ring now ≡ Err (Second fault)
+
+-- and where neither has one, that the second doesn't cover the first
+abbrev pub NotChainedIsTold : Type 0
+NotChainedIsTold = (m : Message) (base : List ℕ) (ring : List (List ℕ × List ℕ)) (now : ℕ) (old new : List ℕ) (first second : Signature)
+    → verified m base ring now first_tag ≡ Ok old → verified_again m base ring now ≡ Ok new → tagged m first_tag ≡ Ok first → tagged m second_tag ≡ Ok second
+    → is_chained first.label second.list ≡ false → rotated_keys m base ring now ≡ Err NotChained
 
 -- a message that was signed, with or without a nonce, can be signed again
 abbrev pub SignedIsSigned : Type 0
