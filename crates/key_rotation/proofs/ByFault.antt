@@ -3,7 +3,7 @@ use Rattle.std.proofs.Common.{◌≡◌, ◌⊎◌, inl, inr, Ok, Err, Result, r
 use Rattle.message_signature.specs.declared.fault.SigFault.{SigFault}
 use Rattle.message_signature.specs.declared.tags.SignatureFields.{SignatureFields}
 use Rattle.message_signature.specs.Faults.{◌>>=◌}
-use Rattle.message_signature.specs.Verified.{Signature, signature_fields, tagged_in, tagged, judged, verified}
+use Rattle.message_signature.specs.Verified.{signature_fields, tagged_in, tagged, judged, verified}
 use Rattle.message_signature.proofs.AcceptedSteps.{step_ok}
 use Rattle.key_rotation.specs.SecondSignature.{first_tag, second_tag, judged_again, verified_again, is_chained}
 use Rattle.key_rotation.specs.Rotated.{rotated_keys}

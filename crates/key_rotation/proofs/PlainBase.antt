@@ -1,18 +1,18 @@
 -- Where no covered component has parameters, the base is that of any signature.
 use Rattle.std.proofs.Common.{◌≡◌, ◌∙◌, ℕ, Bool, true, false, ◌&&◌, ◌||◌, if◌then◌else◌, List, [], ◌∷◌, ◌++◌, Option, Some, None, refl, sym, ap, append_assoc, append-nil}
-use Rattle.std.specs.Prelude.{codes, option_map}
+use Rattle.std.specs.Prelude.{codes}
 use Rattle.std.specs.List.{list_any, AllByRecursion}
 use Rattle.std.specs.Str.{bytes_eq}
 use Rattle.bytes_and_lists.specs.declared.message.Message.{Message}
 use Rattle.structured_fields.specs.declared.bare.Bare.{Bare}
 use Rattle.structured_fields.specs.declared.bare.Bare.TheVariants.{Integer, Decimal, Str, Token, Binary, Boolean, Date, Display}
 use Rattle.structured_fields.specs.declared.item.Item.{Item}
-use Rattle.structured_fields.specs.Canonical.{bare_text, item_text}
+use Rattle.structured_fields.specs.Canonical.{bare_text}
 use Rattle.structured_fields.specs.Reading.{◌>>=◌}
 use Rattle.message_signature.specs.declared.tags.SignatureFields.{SignatureFields}
 use Rattle.message_signature.specs.Base.{is_string, is_named, line_of, base_lines, base_line, params_line, signature_base}
 use Rattle.message_signature.specs.Components.{component}
-use Rattle.key_rotation.specs.RotationBase.{label_in, is_same_label, is_component, value_of, line_with, rotation_line, rotation_lines, base_with, signature_members}
+use Rattle.key_rotation.specs.RotationBase.{label_in, is_same_label, is_component, line_with, rotation_line, rotation_lines, base_with, signature_members}
 use Rattle.key_rotation.specs.Laws.{PlainBaseIsSame}
 
 abbrev IsPlain : Item → Type 0

@@ -1,8 +1,11 @@
 -- What holds of a message with two signatures, and of one that is signed by both.
-use Rattle.std.specs.Prelude.{◌≡◌, ℕ, ◌+◌, ◌<◌, ◌≤◌, ◌^◌, true, false, List, [], Option, Some, Ok, Err, IsSome}
+use Rattle.std.specs.Prelude.{◌≡◌, ℕ, ◌+◌, ◌<◌, ◌≤◌, ◌^◌, ◌⊎◌, true, false, List, [], ◌∷◌, ◌++◌, Option, Some, Ok, Err, IsSome, codes}
 use Rattle.std.specs.List.{list_all, AllByRecursion}
 use Rattle.bytes_and_lists.specs.declared.message.Message.{Message}
+use Rattle.structured_fields.specs.declared.bare.Bare.TheVariants.{Str}
 use Rattle.structured_fields.specs.declared.item.InnerList.{InnerList}
+use Rattle.structured_fields.specs.declared.item.Member.{Member}
+use Rattle.structured_fields.specs.Canonical.{item_text, member_text}
 use Rattle.structured_fields.specs.Letters.{is_string_byte}
 use Rattle.structured_fields.specs.Named.{value_at}
 use Rattle.message_signature.specs.declared.fault.SigFault.{SigFault}
@@ -12,7 +15,7 @@ use Rattle.message_signature.specs.Signed.{params_of, signed_under}
 use Rattle.message_signature.specs.Laws.{CanPass}
 use Rattle.key_rotation.specs.declared.fault.RotationFault.TheVariants.{First, Second, NotChained}
 use Rattle.key_rotation.specs.declared.verifying.RotatedKeys.{RotatedKeys}
-use Rattle.key_rotation.specs.RotationBase.{rotation_base}
+use Rattle.key_rotation.specs.RotationBase.{members_of, rotation_base}
 use Rattle.key_rotation.specs.SecondSignature.{first_tag, second_tag, verified_again, is_chained}
 use Rattle.key_rotation.specs.Rotated.{rotated_keys}
 use Rattle.key_rotation.specs.SignedRotation.{is_signed, signed_rotation}
@@ -20,6 +23,28 @@ use Rattle.key_rotation.specs.SignedRotation.{is_signed, signed_rotation}
 -- where no covered component has parameters, the base is that of any signature
 abbrev pub PlainBaseIsSame : Type 0
 PlainBaseIsSame = (m : Message) (base : List ℕ) (list : InnerList) → AllByRecursion (λ item. item.params ≡ []) list.items → rotation_base m base list ≡ signature_base m base list
+
+-- the line of a field's member under a label, as `"signature";key="sig1": :c2lnbmVk:`
+abbrev pub member_line : List ℕ → List ℕ → Member → List ℕ
+member_line name label member = item_text (record { bare = Str name; params = (codes "key", Str label) ∷ [] }) ++ (codes ": " ++ (member_text member ++ 10 ∷ []))
+
+-- whole lines
+abbrev pub AreLines : List ℕ → Type 0
+AreLines text = (text ≡ []) ⊎ ((front : List ℕ) × (text ≡ front ++ 10 ∷ []))
+
+-- the field has a member under the label, whose line is one of the text's
+pub record HoldsMember (m : Message) (name label text : List ℕ) : Type 0 where
+  pub member : Member
+  pub is : value_at (members_of m name) label ≡ Some member
+  pub before : List ℕ
+  pub after : List ℕ
+  pub lines : AreLines before
+  pub split : text ≡ before ++ (member_line name label member ++ after)
+
+-- where a list covers the signature with this label, the text that is signed holds that signature's bytes and its own list
+abbrev pub CoveredIsHeld : Type 0
+CoveredIsHeld = (m : Message) (base : List ℕ) (list : InnerList) (label text : List ℕ) → is_chained label list ≡ true → rotation_base m base list ≡ Some text
+    → HoldsMember m (codes "signature") label text × HoldsMember m (codes "signature-input") label text
 
 -- the first signature is the old key's, the second the new key's, and the second covers the first
 pub record AreKeysOf (m : Message) (base : List ℕ) (ring : List (List ℕ × List ℕ)) (now : ℕ) (keys : RotatedKeys) : Type 0 where
