@@ -23,8 +23,7 @@ use Rattle.message_signature.specs.Components.{values_of, field_value}
 use Rattle.message_signature.specs.Faults.{◌>>=◌, need}
 use Rattle.message_signature.specs.Base.{is_named, signature_base}
 use Rattle.message_signature.specs.Verified.{is_any_string, is_well_formed, has_body, has_field, covers_enough, is_in_window, key_in, has_right_digest, Signature, signature_fields, tagged_in, tagged, admitted, made_under, judged_over, judged, verified}
-use Rattle.message_signature.specs.Signed.{component_item, with_fields, with_digest, params_of, signature_input, signature_lines, label}
-use Rattle.message_signature.specs.Laws.{CanPass}
+use Rattle.message_signature.specs.Signed.{has_signature, component_item, with_fields, with_digest, params_of, signature_input, signature_lines, label}
 use Rattle.message_signature.proofs.AcceptedSteps.{step_ok, need_ok, must_ok}
 use Rattle.message_signature.proofs.Appended.{value_beside, value_added}
 use Rattle.message_signature.proofs.Passes.{signed_passes}
@@ -251,33 +250,33 @@ digest_there : (body digest : Bool) → (body ≡ true → digest ≡ true) → 
 digest_there true digest h = h refl
 digest_there false digest h = refl
 
-module _ (m : Message) (base : List ℕ) (ring : List (List ℕ × List ℕ)) (id secret : List ℕ) (created : ℕ) (nonce : Option (List ℕ)) (now : ℕ)
-    (can : CanPass m ring id secret created nonce first_tag now) where
+module _ (m : Message) (id secret : List ℕ) (created : ℕ) (nonce : Option (List ℕ)) (unsigned : has_signature m ≡ false)
+    (created_size : created < 10 ^ 15) (id_text : list_all is_string_byte id ≡ true) (nonce_text : IfSome nonce (λ n. list_all is_string_byte n ≡ true)) where
   abbrev digested_one : Message
   digested_one = with_digest m
 
   no_input_in : has_field (codes "signature-input") digested_one ≡ false
-  no_input_in = no_field m digested_one (codes "signature-input") (digested m) refl (or_parts _ _ can.unsigned).0
+  no_input_in = no_field m digested_one (codes "signature-input") (digested m) refl (or_parts _ _ unsigned).0
 
   no_signature_in : has_field (codes "signature") digested_one ≡ false
-  no_signature_in = no_field m digested_one (codes "signature") (digested m) refl (or_parts _ _ can.unsigned).1
+  no_signature_in = no_field m digested_one (codes "signature") (digested m) refl (or_parts _ _ unsigned).1
 
-  signed_one : (text : List ℕ) → is_signed (n digested_one id secret text created nonce no_input_in no_signature_in can.created_size can.id_text can.nonce_text) ≡ true
+  signed_one : (text : List ℕ) → is_signed (n digested_one id secret text created nonce no_input_in no_signature_in created_size id_text nonce_text) ≡ true
   signed_one text =
       let w = digested_one in
-      let digest : (not (has_body w) || has_field (codes "content-digest") (n w id secret text created nonce no_input_in no_signature_in can.created_size can.id_text can.nonce_text)) ≡ true =
+      let digest : (not (has_body w) || has_field (codes "content-digest") (n w id secret text created nonce no_input_in no_signature_in created_size id_text nonce_text)) ≡ true =
       ap (λ (o : Option (List ℕ)). not (has_body w) || is_some o)
-      (kept w id secret text created nonce no_input_in no_signature_in can.created_size can.id_text can.nonce_text (codes "content-digest") refl)
+      (kept w id secret text created nonce no_input_in no_signature_in created_size id_text nonce_text (codes "content-digest") refl)
       ∙ digest_there (has_body w) (has_field (codes "content-digest") w) (digested m).there in
       ap (λ (r : Result SignatureFields SigFault). are_first_alone r
-      && (not (has_body w) || has_field (codes "content-digest") (n w id secret text created nonce no_input_in no_signature_in can.created_size can.id_text can.nonce_text)))
-      (fields_are w id secret text created nonce no_input_in no_signature_in can.created_size can.id_text can.nonce_text) ∙ digest
+      && (not (has_body w) || has_field (codes "content-digest") (n w id secret text created nonce no_input_in no_signature_in created_size id_text nonce_text)))
+      (fields_are w id secret text created nonce no_input_in no_signature_in created_size id_text nonce_text) ∙ digest
 
 pub signed_is_signed : SignedIsSigned
-signed_is_signed m k base ring id secret created nonce now is can =
+signed_is_signed m k base id secret created nonce is unsigned created_size id_text nonce_text =
     let text = there_is _ (always_based m base (params_of id created nonce first_tag)) in
     subst (λ (x : Message). is_signed x ≡ true) (signed_is m k base (params_of id created nonce first_tag) secret text.value text.is is)
-    (signed_one m base ring id secret created nonce now can text.value)
+    (signed_one m id secret created nonce unsigned created_size id_text nonce_text text.value)
 
 -- the signature that a message has with the first tag is the one that passed
 judged_first : (signed : Message) (first : Signature) (base : List ℕ) (ring : List (List ℕ × List ℕ)) (old : List ℕ) (now : ℕ) → verified signed base ring now first_tag ≡ Ok old
@@ -292,8 +291,8 @@ both_pass m k x base ring old old_secret created nonce new new_secret moment now
     let w = with_digest m in
     let params = params_of old created nonce first_tag in
     let text = there_is _ (always_based m base params) in
-    let no_input = no_input_in m base ring old old_secret created nonce now can in
-    let no_signature = no_signature_in m base ring old old_secret created nonce now can in
+    let no_input = no_input_in m old old_secret created nonce can.unsigned can.created_size can.id_text can.nonce_text in
+    let no_signature = no_signature_in m old old_secret created nonce can.unsigned can.created_size can.id_text can.nonce_text in
     let signed : Message = n w old old_secret text.value created nonce no_input no_signature can.created_size can.id_text can.nonce_text in
     let first : Signature = one w old old_secret text.value created nonce no_input no_signature can.created_size can.id_text can.nonce_text in
     let signed_same : signed ≡ k = signed_is m k base params old_secret text.value text.is is in
@@ -301,7 +300,7 @@ both_pass m k x base ring old old_secret created nonce new new_secret moment now
     subst (λ (y : Message). verified y base ring now first_tag ≡ Ok old) (sym signed_same) (signed_passes m k base ring old old_secret created nonce first_tag now is can) in
     let first_passes : judged signed base ring now first ≡ Ok old = judged_first signed first base ring old now passes
     (tagged_is w old old_secret text.value created nonce no_input no_signature can.created_size can.id_text can.nonce_text) in
-    let new_text = there_is _ (based signed base new moment (signed_one m base ring old old_secret created nonce now can text.value)) in
+    let new_text = there_is _ (based signed base new moment (signed_one m old old_secret created nonce can.unsigned can.created_size can.id_text can.nonce_text text.value)) in
     let again_signed : signed_rotation signed base new new_secret moment ≡ Some x =
     subst (λ (y : Message). signed_rotation y base new new_secret moment ≡ Some x) (sym signed_same) again in
     let whole = signed_again_is signed x base new new_secret moment new_text.value new_text.is again_signed in

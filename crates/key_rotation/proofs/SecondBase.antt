@@ -9,7 +9,6 @@ use Rattle.structured_fields.specs.declared.bare.Bare.{Bare}
 use Rattle.structured_fields.specs.declared.item.Item.{Item}
 use Rattle.structured_fields.specs.declared.item.InnerList.{InnerList}
 use Rattle.structured_fields.specs.declared.item.Member.{Member}
-use Rattle.structured_fields.specs.declared.item.Member.TheVariants.{Item as Single, Inner}
 use Rattle.structured_fields.specs.Letters.{is_string_byte}
 use Rattle.structured_fields.specs.Named.{value_at}
 use Rattle.structured_fields.specs.Reading.{◌>>=◌}
@@ -97,9 +96,8 @@ not_digested m d = ap (λ (b : Bool). are_first_alone (signature_fields m) && b)
     both false = refl
 
 inner_there : (member : Option Member) → is_inner member ≡ true → is_some member ≡ true
-inner_there (Some (Inner list)) h = refl
-inner_there (Some (Single item)) h = cc h
-inner_there None h = cc h
+inner_there (Some member) h = refl
+inner_there None h = absurd cc
 
 digest_there : (body digest : Bool) → (not body || digest) ≡ true → body ≡ true → digest ≡ true
 digest_there true digest h e = h

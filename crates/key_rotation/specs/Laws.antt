@@ -1,5 +1,5 @@
 -- What holds of a message with two signatures, and of one that is signed by both.
-use Rattle.std.specs.Prelude.{◌≡◌, ℕ, ◌+◌, ◌<◌, ◌≤◌, ◌^◌, ◌⊎◌, true, false, List, [], ◌∷◌, ◌++◌, Option, Some, Ok, Err, IsSome, codes}
+use Rattle.std.specs.Prelude.{◌≡◌, ℕ, ◌+◌, ◌<◌, ◌≤◌, ◌^◌, ◌⊎◌, true, false, List, [], ◌∷◌, ◌++◌, Option, Some, Ok, Err, IsSome, IfSome, codes}
 use Rattle.std.specs.List.{list_all, AllByRecursion}
 use Rattle.bytes_and_lists.specs.declared.message.Message.{Message}
 use Rattle.structured_fields.specs.declared.bare.Bare.TheVariants.{Str}
@@ -11,7 +11,7 @@ use Rattle.structured_fields.specs.Named.{value_at}
 use Rattle.message_signature.specs.declared.fault.SigFault.{SigFault}
 use Rattle.message_signature.specs.Base.{signature_base}
 use Rattle.message_signature.specs.Verified.{Signature, tagged, verified}
-use Rattle.message_signature.specs.Signed.{params_of, signed_under}
+use Rattle.message_signature.specs.Signed.{has_signature, params_of, signed_under}
 use Rattle.message_signature.specs.Laws.{CanPass}
 use Rattle.key_rotation.specs.declared.fault.RotationFault.TheVariants.{First, Second, NotChained}
 use Rattle.key_rotation.specs.declared.verifying.RotatedKeys.{RotatedKeys}
@@ -82,8 +82,8 @@ NotChainedIsTold = (m : Message) (base : List ℕ) (ring : List (List ℕ × Lis
 
 -- a message that was signed, with or without a nonce, can be signed again
 abbrev pub SignedIsSigned : Type 0
-SignedIsSigned = (m n : Message) (base : List ℕ) (ring : List (List ℕ × List ℕ)) (id secret : List ℕ) (created : ℕ) (nonce : Option (List ℕ)) (now : ℕ)
-    → signed_under m base (params_of id created nonce first_tag) secret ≡ Some n → CanPass m ring id secret created nonce first_tag now → is_signed n ≡ true
+SignedIsSigned = (m n : Message) (base id secret : List ℕ) (created : ℕ) (nonce : Option (List ℕ)) → signed_under m base (params_of id created nonce first_tag) secret ≡ Some n
+    → has_signature m ≡ false → created < 10 ^ 15 → list_all is_string_byte id ≡ true → IfSome nonce (λ n. list_all is_string_byte n ≡ true) → is_signed n ≡ true
 
 -- a message that can be signed again always is
 abbrev pub IsAlwaysSignedAgain : Type 0
