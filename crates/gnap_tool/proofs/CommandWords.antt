@@ -30,56 +30,6 @@ or_none : (reading : Option Command) → option_or reading None ≡ reading
 or_none None = refl
 or_none (Some command) = refl
 
--- what five words are read as, and what others are
-pub of_five : (result : Result Command WrongWords) (words : List (List ℕ)) (a b c d e : List ℕ) → words ≡ a ∷ b ∷ c ∷ d ∷ e ∷ []
-    → AreRead result words (with_five marked_sign_words words) → AreRead result words (sign_of words)
-of_five result words a b c d e is read =
-    let plain : with_four sign_words words ≡ None = ap (with_four sign_words) is in
-    let same : sign_of words ≡ with_five marked_sign_words words =
-    ap (option_or (with_five marked_sign_words words)) plain ∙ or_none (with_five marked_sign_words words) in
-    subst (AreRead result words) (sym same) read
-
-pub of_four : (result : Result Command WrongWords) (words : List (List ℕ))
-    → ((f : List ℕ → List ℕ → List ℕ → List ℕ → List ℕ → Option Command) → with_five f words ≡ None)
-    → AreRead result words (with_four sign_words words) → AreRead result words (sign_of words)
-of_four result words none read =
-    let same : sign_of words ≡ with_four sign_words words = ap (λ r. option_or r (with_four sign_words words)) (none marked_sign_words) in
-    subst (AreRead result words) (sym same) read
-
-not_sign : (words : List (List ℕ)) → exactly (count_among 4 5 (length words)) words ≡ None → sign_of words ≡ None
-not_sign [] is = refl
-not_sign (a ∷ []) is = refl
-not_sign (a ∷ b ∷ []) is = refl
-not_sign (a ∷ b ∷ c ∷ []) is = refl
-not_sign (a ∷ b ∷ c ∷ d ∷ []) is = cc
-not_sign (a ∷ b ∷ c ∷ d ∷ e ∷ []) is = cc
-not_sign (a ∷ b ∷ c ∷ d ∷ e ∷ f ∷ words) is = refl
-
--- the same of a resource server
-pub rs_of_five : (result : Result Command WrongWords) (words : List (List ℕ)) (a b c d e : List ℕ) → words ≡ a ∷ b ∷ c ∷ d ∷ e ∷ []
-    → AreRead result words (with_five cached_rs_words words) → AreRead result words (rs_of words)
-rs_of_five result words a b c d e is read =
-    let plain : with_four rs_words words ≡ None = ap (with_four rs_words) is in
-    let same : rs_of words ≡ with_five cached_rs_words words =
-    ap (option_or (with_five cached_rs_words words)) plain ∙ or_none (with_five cached_rs_words words) in
-    subst (AreRead result words) (sym same) read
-
-pub rs_of_four : (result : Result Command WrongWords) (words : List (List ℕ))
-    → ((f : List ℕ → List ℕ → List ℕ → List ℕ → List ℕ → Option Command) → with_five f words ≡ None)
-    → AreRead result words (with_four rs_words words) → AreRead result words (rs_of words)
-rs_of_four result words none read =
-    let same : rs_of words ≡ with_four rs_words words = ap (λ r. option_or r (with_four rs_words words)) (none cached_rs_words) in
-    subst (AreRead result words) (sym same) read
-
-not_rs : (words : List (List ℕ)) → exactly (count_among 4 5 (length words)) words ≡ None → rs_of words ≡ None
-not_rs [] is = refl
-not_rs (a ∷ []) is = refl
-not_rs (a ∷ b ∷ []) is = refl
-not_rs (a ∷ b ∷ c ∷ []) is = refl
-not_rs (a ∷ b ∷ c ∷ d ∷ []) is = cc
-not_rs (a ∷ b ∷ c ∷ d ∷ e ∷ []) is = cc
-not_rs (a ∷ b ∷ c ∷ d ∷ e ∷ f ∷ words) is = refl
-
 not_four : (f : List ℕ → List ℕ → List ℕ → List ℕ → Option Command) (words : List (List ℕ)) → exactly 4 words ≡ None → with_four f words ≡ None
 not_four f [] is = refl
 not_four f (a ∷ []) is = refl
@@ -115,13 +65,69 @@ abbrev most_in : Option (ℕ × ℕ) → ℕ
 most_in None = 0
 most_in (Some counts) = counts.1
 
+same_counts : (n m least most : ℕ) (words : List (List ℕ)) → ◌≡◌ {A = Option (ℕ × ℕ)} (Some (n, m)) (Some (least, most))
+    → IsMiscount least most words → IsMiscount n m words
+same_counts n m least most words is none =
+    let first : n ≡ least = ap least_in is in
+    let last : m ≡ most = ap most_in is in
+    subst (λ l. IsMiscount l m words) (sym first) (subst (λ k. IsMiscount least k words) (sym last) none)
+
 at : (n least most : ℕ) (words : List (List ℕ)) → ◌≡◌ {A = Option (ℕ × ℕ)} (Some (n, n)) (Some (least, most))
     → IsMiscount least most words → exactly n words ≡ None
 at n least most words is none =
-    let first : n ≡ least = ap least_in is in
-    let last : n ≡ most = ap most_in is in
-    let one : IsMiscount n n words = subst (λ l. IsMiscount l n words) (sym first) (subst (λ m. IsMiscount least m words) (sym last) none) in
-    subst (λ m. exactly m words ≡ None) (one_count n (length words == n)) one
+    subst (λ m. exactly m words ≡ None) (one_count n (length words == n)) (same_counts n n least most words is none)
+
+-- four words, or five
+module _ (five : List ℕ → List ℕ → List ℕ → List ℕ → List ℕ → Option Command) (four : List ℕ → List ℕ → List ℕ → List ℕ → Option Command) where
+  abbrev either : List (List ℕ) → Option Command
+  either words = option_or (with_five five words) (with_four four words)
+
+  by_five : (result : Result Command WrongWords) (words : List (List ℕ)) (a b c d e : List ℕ) → words ≡ a ∷ b ∷ c ∷ d ∷ e ∷ []
+      → AreRead result words (with_five five words) → AreRead result words (either words)
+  by_five result words a b c d e is read =
+      let plain : with_four four words ≡ None = ap (with_four four) is in
+      let same : either words ≡ with_five five words = ap (option_or (with_five five words)) plain ∙ or_none (with_five five words) in
+      subst (AreRead result words) (sym same) read
+
+  by_four : (result : Result Command WrongWords) (words : List (List ℕ))
+      → ((f : List ℕ → List ℕ → List ℕ → List ℕ → List ℕ → Option Command) → with_five f words ≡ None)
+      → AreRead result words (with_four four words) → AreRead result words (either words)
+  by_four result words none read =
+      let same : either words ≡ with_four four words = ap (λ r. option_or r (with_four four words)) (none five) in
+      subst (AreRead result words) (sym same) read
+
+  neither : (words : List (List ℕ)) → exactly (count_among 4 5 (length words)) words ≡ None → either words ≡ None
+  neither [] is = refl
+  neither (a ∷ []) is = refl
+  neither (a ∷ b ∷ []) is = refl
+  neither (a ∷ b ∷ c ∷ []) is = refl
+  neither (a ∷ b ∷ c ∷ d ∷ []) is = cc
+  neither (a ∷ b ∷ c ∷ d ∷ e ∷ []) is = cc
+  neither (a ∷ b ∷ c ∷ d ∷ e ∷ f ∷ words) is = refl
+
+  either_miscount : (least most : ℕ) (words : List (List ℕ)) → ◌≡◌ {A = Option (ℕ × ℕ)} (Some (4, 5)) (Some (least, most))
+      → IsMiscount least most words → either words ≡ None
+  either_miscount least most words is none = neither words (same_counts 4 5 least most words is none)
+
+-- what five words are read as, and what others are
+pub of_five : (result : Result Command WrongWords) (words : List (List ℕ)) (a b c d e : List ℕ) → words ≡ a ∷ b ∷ c ∷ d ∷ e ∷ []
+    → AreRead result words (with_five marked_sign_words words) → AreRead result words (sign_of words)
+of_five = by_five marked_sign_words sign_words
+
+pub of_four : (result : Result Command WrongWords) (words : List (List ℕ))
+    → ((f : List ℕ → List ℕ → List ℕ → List ℕ → List ℕ → Option Command) → with_five f words ≡ None)
+    → AreRead result words (with_four sign_words words) → AreRead result words (sign_of words)
+of_four = by_four marked_sign_words sign_words
+
+-- the same of a resource server
+pub rs_of_five : (result : Result Command WrongWords) (words : List (List ℕ)) (a b c d e : List ℕ) → words ≡ a ∷ b ∷ c ∷ d ∷ e ∷ []
+    → AreRead result words (with_five cached_rs_words words) → AreRead result words (rs_of words)
+rs_of_five = by_five cached_rs_words rs_words
+
+pub rs_of_four : (result : Result Command WrongWords) (words : List (List ℕ))
+    → ((f : List ℕ → List ℕ → List ℕ → List ℕ → List ℕ → Option Command) → with_five f words ≡ None)
+    → AreRead result words (with_four rs_words words) → AreRead result words (rs_of words)
+rs_of_four = by_four cached_rs_words rs_words
 
 -- how many words there have to be, and what they are read as, by whether the name is each of those
 abbrev number_by : (a b c d e f g h i : Bool) → Option (ℕ × ℕ)
@@ -135,30 +141,16 @@ reading_by a b c d e f g h i words =
     else if e then with_four as_words words else if f then rs_of words else if g then with_three client_words words
     else if h then hash_of words else if i then with_three load_words words else None
 
-sign_miscount : (least most : ℕ) (words : List (List ℕ)) → ◌≡◌ {A = Option (ℕ × ℕ)} (Some (4, 5)) (Some (least, most))
-    → IsMiscount least most words → sign_of words ≡ None
-sign_miscount least most words is none =
-    let first : 4 ≡ least = ap least_in is in
-    let last : 5 ≡ most = ap most_in is in
-    not_sign words (subst (λ l. IsMiscount l 5 words) (sym first) (subst (λ m. IsMiscount least m words) (sym last) none))
-
-rs_miscount : (least most : ℕ) (words : List (List ℕ)) → ◌≡◌ {A = Option (ℕ × ℕ)} (Some (4, 5)) (Some (least, most))
-    → IsMiscount least most words → rs_of words ≡ None
-rs_miscount least most words is none =
-    let first : 4 ≡ least = ap least_in is in
-    let last : 5 ≡ most = ap most_in is in
-    not_rs words (subst (λ l. IsMiscount l 5 words) (sym first) (subst (λ m. IsMiscount least m words) (sym last) none))
-
 counted : (a b c d e f g h i : Bool) (least most : ℕ) (words : List (List ℕ))
     → number_by a b c d e f g h i ≡ Some (least, most)
     → IsMiscount least most words
     → reading_by a b c d e f g h i words ≡ None
 counted true b c d e f g h i least most words is none = no_replay words (at 1 least most words is none)
 counted false true c d e f g h i least most words is none = no_field words (at 2 least most words is none)
-counted false false true d e f g h i least most words is none = sign_miscount least most words is none
+counted false false true d e f g h i least most words is none = either_miscount marked_sign_words sign_words least most words is none
 counted false false false true e f g h i least most words is none = not_three verify_words words (at 3 least most words is none)
 counted false false false false true f g h i least most words is none = not_four as_words words (at 4 least most words is none)
-counted false false false false false true g h i least most words is none = rs_miscount least most words is none
+counted false false false false false true g h i least most words is none = either_miscount cached_rs_words rs_words least most words is none
 counted false false false false false false true h i least most words is none = not_three client_words words (at 3 least most words is none)
 counted false false false false false false false true i least most words is none = no_hash words (at 5 least most words is none)
 counted false false false false false false false false true least most words is none = not_three load_words words (at 3 least most words is none)

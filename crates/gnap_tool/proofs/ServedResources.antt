@@ -3,6 +3,7 @@ use Rattle.std.proofs.Common.{◌≡◌, ◌⊎◌, ℕ, List, [], ◌∷◌, re
 use Rattle.std.specs.Prelude.{Option, Some, None, Result, Err}
 use Rattle.gnap_io.specs.declared.world.Opening.TheVariants.{Gears, Link}
 use Rattle.gnap_io.specs.declared.world.WorldFault.{WorldFault}
+use Rattle.gnap_io.specs.declared.world.WorldFault.TheVariants as faults
 use Rattle.gnap_io.specs.Links.{new_link}
 use Rattle.gnap_io.specs.Worlds.{WorldState, with_opening, with_gears}
 use Rattle.resource_server.specs.declared.setup.RsSetup.{RsSetup}
