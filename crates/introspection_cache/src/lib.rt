@@ -3,7 +3,7 @@
 //! `CachedGuard` guards requests as `resource_server::guard` does, and keeps the replies by which requests were let through. Where a reply to the question of
 //! a request is kept and fresh, nothing is asked: the kept reply is judged anew, at this moment and for this request, so that the client's signature is
 //! verified each time. `laws` say what it takes that a request is let through, that a fresh reply spares the exchange, and that what is kept came from the
-//! link at its moment. A token that was revoked may be let through for 30 seconds more. No command uses it yet.
+//! link at its moment. A token that was revoked may be let through for 30 seconds more.
 #![tactic(auto)]
 
 pub mod cached_guard;
