@@ -174,175 +174,139 @@ fn run(
     Ok(true)
 }
 
-// Each case: a capacity, the replies of the link, and the steps.
+// A case: a capacity, the replies of the link, and the steps.
+type Case = (usize, &'static [&'static str], &'static [Step]);
+
+const CASES: [Case; 11] = [
+    // The signature is verified at each request.
+    (
+        4,
+        &["bound"],
+        &[
+            (1000, "/photos", GNAP_A, AT_1000, "allow 0", 1),
+            (1030, "/photos", GNAP_A, AT_1030, "allow 0", 1),
+            (1010, "/photos", GNAP_A, CHANGED, "signature", 1),
+            (1031, "/photos", GNAP_A, AT_1031, "fault", 2),
+            (1030, "/photos", GNAP_A, AT_1030, "fault", 3),
+        ],
+    ),
+    // At capacity 1 two tokens drive each other out.
+    (
+        1,
+        &["live", "live", "live", "live"],
+        &[
+            (1000, "/photos", BEARER_A, NONE, "allow 0", 1),
+            (1000, "/photos", BEARER_B, NONE, "allow 0", 2),
+            (1000, "/photos", BEARER_A, NONE, "allow 0", 3),
+            (1000, "/photos", BEARER_B, NONE, "allow 0", 4),
+        ],
+    ),
+    // A clock that goes back.
+    (
+        4,
+        &["live", "live"],
+        &[
+            (1000, "/photos", BEARER_A, NONE, "allow 0", 1),
+            (999, "/photos", BEARER_A, NONE, "allow 0", 2),
+            (1029, "/photos", BEARER_A, NONE, "allow 0", 2),
+        ],
+    ),
+    // 30 seconds.
+    (
+        4,
+        &["live", "live"],
+        &[
+            (1000, "/photos", BEARER_A, NONE, "allow 0", 1),
+            (1030, "/photos", BEARER_A, NONE, "allow 0", 1),
+            (1031, "/photos", BEARER_A, NONE, "allow 0", 2),
+            (1061, "/photos", BEARER_A, NONE, "allow 0", 2),
+        ],
+    ),
+    // The token's end.
+    (
+        4,
+        &["ends at 1020", "live"],
+        &[
+            (1000, "/photos", BEARER_A, NONE, "allow 0", 1),
+            (1019, "/photos", BEARER_A, NONE, "allow 0", 1),
+            (1020, "/photos", BEARER_A, NONE, "allow 0", 2),
+        ],
+    ),
+    // Two routes with one right share a reply.
+    (
+        4,
+        &["live"],
+        &[
+            (1000, "/photos", BEARER_A, NONE, "allow 0", 1),
+            (1001, "/album", BEARER_A, NONE, "allow 1", 1),
+            (1002, "/other", BEARER_A, NONE, "no route", 1),
+        ],
+    ),
+    // GNAP and Bearer share none.
+    (
+        4,
+        &["bound", "live"],
+        &[
+            (1000, "/photos", GNAP_A, AT_1000, "allow 0", 1),
+            (1000, "/photos", BEARER_A, NONE, "allow 0", 2),
+            (1000, "/photos", GNAP_A, AT_1000, "allow 0", 2),
+        ],
+    ),
+    // Refusals aren't kept.
+    (
+        4,
+        &["inactive", "inactive", "live", "bound", "bound"],
+        &[
+            (1000, "/photos", BEARER_A, NONE, "inactive", 1),
+            (1000, "/photos", BEARER_A, NONE, "inactive", 2),
+            (1000, "/photos", BEARER_A, NONE, "allow 0", 3),
+            (1000, "/photos", BEARER_A, NONE, "allow 0", 3),
+            (1010, "/photos", GNAP_A, CHANGED, "signature", 4),
+            (1030, "/photos", GNAP_A, AT_1030, "allow 0", 5),
+            (1031, "/photos", GNAP_A, AT_1031, "allow 0", 5),
+        ],
+    ),
+    // 13,501 bytes aren't kept.
+    (
+        4,
+        &["13,390 bytes", "13,390 bytes"],
+        &[
+            (1000, "/photos", BEARER_A, NONE, "allow 0", 1),
+            (1000, "/photos", BEARER_A, NONE, "allow 0", 2),
+        ],
+    ),
+    // 13,500 bytes are.
+    (
+        4,
+        &["13,389 bytes"],
+        &[
+            (1000, "/photos", BEARER_A, NONE, "allow 0", 1),
+            (1000, "/photos", BEARER_A, NONE, "allow 0", 1),
+        ],
+    ),
+    // The reply used longest ago goes out.
+    (
+        2,
+        &["live", "live", "live", "live"],
+        &[
+            (1000, "/photos", BEARER_A, NONE, "allow 0", 1),
+            (1001, "/photos", BEARER_B, NONE, "allow 0", 2),
+            (1002, "/photos", BEARER_A, NONE, "allow 0", 2),
+            (1003, "/photos", BEARER_C, NONE, "allow 0", 3),
+            (1004, "/photos", BEARER_A, NONE, "allow 0", 3),
+            (1005, "/photos", BEARER_B, NONE, "allow 0", 4),
+        ],
+    ),
+];
+
 #[test]
 fn requests_are_guarded_with_a_cache(rt: HostRuntime) -> Result<(), Fail> {
     let Ok(setup) = read_rs_setup(rt.alloc(), SETUP) else {
         panic!(rt; "no setup");
     };
-    // The signature is verified at each request.
-    assert!(rt;
-        run(
-            rt.alloc(),
-            &setup,
-            4,
-            &["bound"],
-            &[
-                (1000, "/photos", GNAP_A, AT_1000, "allow 0", 1),
-                (1030, "/photos", GNAP_A, AT_1030, "allow 0", 1),
-                (1010, "/photos", GNAP_A, CHANGED, "signature", 1),
-                (1031, "/photos", GNAP_A, AT_1031, "fault", 2),
-                (1030, "/photos", GNAP_A, AT_1030, "fault", 3),
-            ],
-        ) == Ok(true)
-    );
-    // At capacity 1 two tokens drive each other out.
-    assert!(rt;
-        run(
-            rt.alloc(),
-            &setup,
-            1,
-            &["live", "live", "live", "live"],
-            &[
-                (1000, "/photos", BEARER_A, NONE, "allow 0", 1),
-                (1000, "/photos", BEARER_B, NONE, "allow 0", 2),
-                (1000, "/photos", BEARER_A, NONE, "allow 0", 3),
-                (1000, "/photos", BEARER_B, NONE, "allow 0", 4),
-            ],
-        ) == Ok(true)
-    );
-    // A clock that goes back.
-    assert!(rt;
-        run(
-            rt.alloc(),
-            &setup,
-            4,
-            &["live", "live"],
-            &[
-                (1000, "/photos", BEARER_A, NONE, "allow 0", 1),
-                (999, "/photos", BEARER_A, NONE, "allow 0", 2),
-                (1029, "/photos", BEARER_A, NONE, "allow 0", 2),
-            ],
-        ) == Ok(true)
-    );
-    // 30 seconds.
-    assert!(rt;
-        run(
-            rt.alloc(),
-            &setup,
-            4,
-            &["live", "live"],
-            &[
-                (1000, "/photos", BEARER_A, NONE, "allow 0", 1),
-                (1030, "/photos", BEARER_A, NONE, "allow 0", 1),
-                (1031, "/photos", BEARER_A, NONE, "allow 0", 2),
-                (1061, "/photos", BEARER_A, NONE, "allow 0", 2),
-            ],
-        ) == Ok(true)
-    );
-    // The token's end.
-    assert!(rt;
-        run(
-            rt.alloc(),
-            &setup,
-            4,
-            &["ends at 1020", "live"],
-            &[
-                (1000, "/photos", BEARER_A, NONE, "allow 0", 1),
-                (1019, "/photos", BEARER_A, NONE, "allow 0", 1),
-                (1020, "/photos", BEARER_A, NONE, "allow 0", 2),
-            ],
-        ) == Ok(true)
-    );
-    // Two routes with one right share a reply.
-    assert!(rt;
-        run(
-            rt.alloc(),
-            &setup,
-            4,
-            &["live"],
-            &[
-                (1000, "/photos", BEARER_A, NONE, "allow 0", 1),
-                (1001, "/album", BEARER_A, NONE, "allow 1", 1),
-                (1002, "/other", BEARER_A, NONE, "no route", 1),
-            ],
-        ) == Ok(true)
-    );
-    // GNAP and Bearer share none.
-    assert!(rt;
-        run(
-            rt.alloc(),
-            &setup,
-            4,
-            &["bound", "live"],
-            &[
-                (1000, "/photos", GNAP_A, AT_1000, "allow 0", 1),
-                (1000, "/photos", BEARER_A, NONE, "allow 0", 2),
-                (1000, "/photos", GNAP_A, AT_1000, "allow 0", 2),
-            ],
-        ) == Ok(true)
-    );
-    // Refusals aren't kept.
-    assert!(rt;
-        run(
-            rt.alloc(),
-            &setup,
-            4,
-            &["inactive", "inactive", "live", "bound", "bound"],
-            &[
-                (1000, "/photos", BEARER_A, NONE, "inactive", 1),
-                (1000, "/photos", BEARER_A, NONE, "inactive", 2),
-                (1000, "/photos", BEARER_A, NONE, "allow 0", 3),
-                (1000, "/photos", BEARER_A, NONE, "allow 0", 3),
-                (1010, "/photos", GNAP_A, CHANGED, "signature", 4),
-                (1030, "/photos", GNAP_A, AT_1030, "allow 0", 5),
-                (1031, "/photos", GNAP_A, AT_1031, "allow 0", 5),
-            ],
-        ) == Ok(true)
-    );
-    // 13,501 bytes aren't kept.
-    assert!(rt;
-        run(
-            rt.alloc(),
-            &setup,
-            4,
-            &["13,390 bytes", "13,390 bytes"],
-            &[
-                (1000, "/photos", BEARER_A, NONE, "allow 0", 1),
-                (1000, "/photos", BEARER_A, NONE, "allow 0", 2),
-            ],
-        ) == Ok(true)
-    );
-    // 13,500 bytes are.
-    assert!(rt;
-        run(
-            rt.alloc(),
-            &setup,
-            4,
-            &["13,389 bytes"],
-            &[
-                (1000, "/photos", BEARER_A, NONE, "allow 0", 1),
-                (1000, "/photos", BEARER_A, NONE, "allow 0", 1),
-            ],
-        ) == Ok(true)
-    );
-    // The reply used longest ago goes out.
-    assert!(rt;
-        run(
-            rt.alloc(),
-            &setup,
-            2,
-            &["live", "live", "live", "live"],
-            &[
-                (1000, "/photos", BEARER_A, NONE, "allow 0", 1),
-                (1001, "/photos", BEARER_B, NONE, "allow 0", 2),
-                (1002, "/photos", BEARER_A, NONE, "allow 0", 2),
-                (1003, "/photos", BEARER_C, NONE, "allow 0", 3),
-                (1004, "/photos", BEARER_A, NONE, "allow 0", 3),
-                (1005, "/photos", BEARER_B, NONE, "allow 0", 4),
-            ],
-        ) == Ok(true)
-    );
+    for (capacity, names, steps) in &CASES {
+        assert!(rt; run(rt.alloc(), &setup, *capacity, names, steps) == Ok(true));
+    }
     Ok(())
 }
 
