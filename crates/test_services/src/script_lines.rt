@@ -43,33 +43,36 @@ fn faults_are_printed(rt: HostRuntime) -> Result<(), Fail> {
     let busy = Bytes::from_slice(alloc, BUSY)?;
     let mut link = MemLink::new(vec![in alloc; busy]?, vec![in alloc; 1]?);
     let lines = [
-        (BEGIN, "begin LinkFault\n"),
-        (AGAIN, "begin NotInGrammar\n"),
+        (1, BEGIN, "begin LinkFault\n"),
+        (2, AGAIN, "begin NotInGrammar\n"),
         (
+            3,
             b"{\"at\":1000,\"do\":\"poll\"}".as_slice(),
             "poll WrongState\n",
         ),
         (
+            4,
             b"{\"at\":1000,\"do\":\"use\",\"token\":0,\"method\":\"get\",\"path\":\"/\"}".as_slice(),
             "bad line\n",
         ),
         (
+            5,
             b"{\"at\":1000,\"nonce\":\"a b\",\"do\":\"poll\"}".as_slice(),
             "bad line\n",
         ),
         (
+            6,
             b"{\"at\":1000,\"nonce\":\"\",\"do\":\"poll\"}".as_slice(),
             "bad line\n",
         ),
         (
+            7,
             b"{\"at\":1000,\"nonce\":7,\"do\":\"poll\"}".as_slice(),
             "bad line\n",
         ),
-        (b"".as_slice(), "bad line\n"),
+        (8, b"".as_slice(), "bad line\n"),
     ];
-    let mut number = 0;
-    for (line, expected) in lines {
-        number += 1;
+    for (number, line, expected) in lines {
         match script_line(alloc, &mut client, &mut link, number, line) {
             Some(said) => {
                 assert_eq!(rt; said.text.as_slice(), expected.as_bytes());
