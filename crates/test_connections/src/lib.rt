@@ -1,13 +1,7 @@
-//! Tests of connections to the authorization server, in memory: what is answered to the bytes of a connection, whole, cut or changed, by one worker and by two.
+//! Tests of connections to the authorization server, in memory: what is answered to signed requests with and without nonces, by one worker and by two.
 //! What is signed is compared with what other implementations worked out.
 #![tactic(auto)]
 
-#[cfg(test)]
-mod changed_bits;
-#[cfg(test)]
-mod conversations;
-#[cfg(test)]
-mod cut_connections;
 #[cfg(test)]
 mod gates;
 #[cfg(test)]
