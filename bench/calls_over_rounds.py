@@ -6,7 +6,8 @@
 For n of 1,000 and MANY, 65,500 where it isn't given: a file of n grant requests that ask for a user code and are live to its end, and behind them 32 calls of one kind: a further grant
 request with a user code, a look at a handle that none has, a search for a code that one has, a decision. A call's instructions are what the whole file takes
 more than its grant requests alone, by 32, counted by valgrind. Printed are both numbers and their ratio. The last line is a file of grant requests whose
-random words are all equal. With 65,500 it takes half an hour. The program is ./gnap, or the one that GNAP names.
+random words are all equal. With 65,500 it takes half an hour. The program is
+crates/gnap/out/gnap, or the one that GNAP names; not the script ./gnap, since valgrind doesn't follow that to the program.
 """
 
 import base64
@@ -87,7 +88,7 @@ WANTED = {"begin": '"user_code":', "look": "unknown_interaction", "find_code": '
 
 def main():
     random.seed(1)
-    program = os.environ.get("GNAP", "./gnap")
+    program = os.environ.get("GNAP", "crates/gnap/out/gnap")
     many = int(sys.argv[1]) if len(sys.argv) > 1 else 65_500
     with tempfile.TemporaryDirectory() as folder:
         costs = {kind: [] for kind in WANTED}

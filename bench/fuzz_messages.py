@@ -25,7 +25,7 @@ import tempfile
 import time
 
 import signed_http
-from signed_http import SETUP, TOP, Served, grant_request, introspection
+from signed_http import SETUP, TOP, Served, fresh_nonce, grant_request, introspection
 
 WORKERS = 4
 EVERY = 100
@@ -88,8 +88,8 @@ def messages():
     plain = [b"GET /x HTTP/1.1\r\n\r\n", b"OPTIONS /gnap HTTP/1.1\r\n\r\n", b"GET /.well-known/gnap-as-rs HTTP/1.1\r\nHost: as.example\r\n\r\n",
              b"PUT /token HTTP/1.0\r\n\r\n", b"POST /continue HTTP/1.1\r\nAuthorization: GNAP AAAA\r\nContent-Length: 0\r\n\r\n"]
     interaction = json.dumps({"access_token": {"access": ["mail"]}, "client": "c1", "interact": {"start": ["redirect", "user_code"]}}).encode()
-    return plain + [grant_request(), introspection("AAAA"), signed_http.signed_post("/gnap", "c1", interaction),
-                    signed_http.signed_post("/introspect", "r1", signed_http.BEGIN), signed_http.signed_post("/token", "c1", b"{}")]
+    return plain + [grant_request(), introspection("AAAA"), signed_http.signed_post("/gnap", "c1", interaction, nonce=fresh_nonce()),
+                    signed_http.signed_post("/introspect", "r1", signed_http.BEGIN), signed_http.signed_post("/token", "c1", b"{}", nonce=fresh_nonce())]
 
 
 # ---- messages

@@ -20,7 +20,7 @@ import subprocess
 import sys
 import tempfile
 
-from signed_http import SETUP, TOP, Served, first_reply, signed_request
+from signed_http import SETUP, TOP, Served, first_reply, fresh_nonce, signed_request
 
 SHIM = r"""
 #include <fcntl.h>
@@ -148,7 +148,7 @@ class Run:
 
     def granted(self):
         body = json.dumps({"access_token": {"access": ["photos"]}, "client": "c1"}).encode()
-        status, text = self.answer(lambda: signed_request("POST", "/gnap", "c1", body))
+        status, text = self.answer(lambda: signed_request("POST", "/gnap", "c1", body, nonce=fresh_nonce()))
         if status != 200:
             raise Difference(f"a grant request is answered {status}")
         return json.loads(text)
@@ -160,11 +160,11 @@ class Run:
         if not self.is_active(old["value"]):
             raise Difference("a new token isn't active")
         manage = old["manage"]["access_token"]["value"]
-        status, _ = self.answer(lambda: signed_request("POST", "/token", "c1", b"", manage), ["invalid_rotation"])
+        status, _ = self.answer(lambda: signed_request("POST", "/token", "c1", b"", manage, nonce=fresh_nonce()), ["invalid_rotation"])
         if status not in (200, 400) or self.is_active(old["value"]):
             raise Difference("a rotated token is active")
         door = grant["continue"]["access_token"]["value"]
-        status, _ = self.answer(lambda: signed_request("DELETE", "/continue", "c1", b"", door), ["invalid_continuation"])
+        status, _ = self.answer(lambda: signed_request("DELETE", "/continue", "c1", b"", door, nonce=fresh_nonce()), ["invalid_continuation"])
         if status not in (204, 400) or self.is_active(old["value"]):
             raise Difference("a token of a cancelled grant is active")
         if not self.is_active(self.granted()["access_token"]["value"]):

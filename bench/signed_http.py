@@ -5,6 +5,7 @@ import hashlib
 import hmac
 import json
 import os
+import secrets
 import socket
 import subprocess
 import tempfile
@@ -26,8 +27,8 @@ SETUP = json.dumps({"base": BASE, "front": "https://front.example", "keys": [
 ]})
 
 
-def signed_request(method, path, key, body, value=None, created=None):
-    """The bytes of a request that a key of the setup signs, with a body, with a presented value, or without."""
+def signed_request(method, path, key, body, value=None, created=None, nonce=None):
+    """The bytes of a request that a key of the setup signs, with a body, with a presented value, or without, and with a nonce where there is one."""
     created = int(time.time()) if created is None else created
     covered = [("@method", method), ("@target-uri", BASE + path)]
     head = [f"{method} {path} HTTP/1.1", "Host: as.example"]
@@ -39,20 +40,26 @@ def signed_request(method, path, key, body, value=None, created=None):
         covered.append(("authorization", f"GNAP {value}"))
         head.append(f"Authorization: GNAP {value}")
     names = " ".join(f'"{name}"' for name, _ in covered)
-    params = f'({names});created={created};keyid="{key}";tag="gnap"'
+    told = "" if nonce is None else f';nonce="{nonce}"'
+    params = f'({names});created={created};keyid="{key}"{told};tag="gnap"'
     signature_base = "".join(f'"{name}": {text}\n' for name, text in covered) + f'"@signature-params": {params}'
     code = text_of(hmac.new(SECRETS[key], signature_base.encode(), hashlib.sha256).digest())
     head += [f"Signature-Input: sig1={params}", f"Signature: sig1=:{code}:"]
     return ("\r\n".join(head) + "\r\n\r\n").encode() + body
 
 
-def signed_post(path, key, body, created=None):
-    """The bytes of a POST with a body, signed by a key of the setup."""
-    return signed_request("POST", path, key, body, created=created)
+def signed_post(path, key, body, created=None, nonce=None):
+    """The bytes of a POST with a body, signed by a key of the setup, with a nonce where there is one."""
+    return signed_request("POST", path, key, body, created=created, nonce=nonce)
+
+
+def fresh_nonce():
+    return secrets.token_urlsafe(16)
 
 
 def grant_request():
-    return signed_post("/gnap", "c1", BEGIN)
+    """Another one each time, since the server takes a client's nonce once."""
+    return signed_post("/gnap", "c1", BEGIN, nonce=fresh_nonce())
 
 
 def introspection(value):

@@ -1,12 +1,14 @@
 """Signs HTTP requests by RFC 9421 with HMAC-SHA256, as GNAP asks it (RFC 9635, section 7.3.1).
 
 A signature covers the method, the whole target URI, and, where they are there, the digest of the body (RFC 9530) and the
-Authorization field. Only the standard library is needed.
+Authorization field. Each has a nonce of its own, so that a request that is caught and sent again is refused. Only the standard
+library is needed.
 """
 
 import base64
 import hashlib
 import hmac
+import secrets
 import time
 
 LABEL = "sig1"
@@ -39,7 +41,8 @@ class Signer:
         if authorization is not None:
             fields["Authorization"] = covered["authorization"] = authorization
         names = " ".join(f'"{name}"' for name in covered)
-        params = f'({names});created={int(time.time())};keyid="{self.key_id}";tag="gnap"'
+        nonce = secrets.token_urlsafe(16)
+        params = f'({names});created={int(time.time())};keyid="{self.key_id}";nonce="{nonce}";tag="gnap"'
         lines = [f'"{name}": {value}' for name, value in covered.items()]
         base = "\n".join([*lines, f'"@signature-params": {params}'])
         signature = hmac.new(self._secret, base.encode(), hashlib.sha256).digest()

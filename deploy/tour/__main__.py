@@ -32,6 +32,7 @@ def go_around(tour: Tour, quick: bool) -> None:
         guards.other_site,
         guards.colours,
         elsewhere.signed_in_elsewhere,
+        guards.caught,
         guards.terminator,
     ):
         print(visit.__doc__, flush=True)

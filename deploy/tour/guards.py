@@ -1,11 +1,16 @@
 """What the front and the terminator have to keep out."""
 
+import base64
+import json
 import re
 from concurrent.futures import ThreadPoolExecutor
 
+from http_signatures import Signer
 from tour.checks import Tour, form_token
 
 REQUESTS = 60
+# Fewer than the terminator lets through at once for a key.
+REPETITIONS = 20
 
 # Names of colours in the style of the pages, and the contrast that they need: that of texts, and that of a focus ring and a field's frame.
 CONTRASTS = {
@@ -94,6 +99,24 @@ def contrast(one: str, other: str) -> float:
     """The contrast of two colours: from 1 to 21."""
     dark, light = sorted((brightness(one), brightness(other)))
     return (light + 0.05) / (dark + 0.05)
+
+
+def caught(tour: Tour) -> None:
+    """A request that somebody caught and sends again, on other connections:"""
+    uri = tour.client.endpoint
+    asked = {"access_token": tour.config["wanted"], "client": tour.config["id"], "interact": {"start": ["redirect"]}}
+    body = json.dumps(asked).encode()
+    signer = Signer(tour.config["id"], base64.b64decode(tour.config["secret"]))
+    caught_fields = signer.fields("POST", uri, body)
+
+    def send_again(_: int) -> str | None:
+        return tour.connections.send("POST", uri, caught_fields, body).error()
+
+    tour.check("it is answered once", tour.connections.send("POST", uri, caught_fields, body).status == 200)
+    tour.check("signed with another nonce it is answered", tour.connections.send("POST", uri, signer.fields("POST", uri, body), body).status == 200)
+    with ThreadPoolExecutor(20) as pool:
+        refusals = set(pool.map(send_again, range(REPETITIONS)))
+    tour.check(f"and the first one is refused {REPETITIONS} times, whichever worker it comes to", refusals == {"invalid_client"})
 
 
 def terminator(tour: Tour) -> None:

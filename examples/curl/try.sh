@@ -1,7 +1,8 @@
 #!/usr/bin/env bash
 # A client made of curl and openssl, as docs/CLIENTS.md tells it, and the servers of setup.json and rs.json on this machine. It asks for `mail`; the user
 # grants it by the front f1; the client checks the hash, continues, uses its token at the resource server, exchanges it, gives it back, and cancels the
-# grant. Then it asks again, with a user code, and polls. What came of each request has to be what stands at the end of this file.
+# grant. Then it asks again, with a user code, and polls. The very bytes of this request, sent once more on another connection, are refused. What came of
+# each request has to be what stands at the end of this file.
 set -eu
 here=$(cd "$(dirname "$0")" && pwd)
 gnap=${GNAP:-$here/../../gnap}
@@ -42,7 +43,7 @@ sign() {
         cover authorization "GNAP $5"
         echo "Authorization: GNAP $5" >>"$work/fields"
     fi
-    params="($list);created=$(date +%s);keyid=\"$1\";tag=\"gnap\""
+    params="($list);created=$(date +%s);keyid=\"$1\";nonce=\"$(openssl rand -hex 16)\";tag=\"gnap\""
     printf '"@signature-params": %s' "$params" >>"$work/base"
     signature=$(openssl dgst -sha256 -mac HMAC -macopt "hexkey:$(secret "$1")" -binary "$work/base" | openssl base64 -A)
     printf 'Signature-Input: sig1=%s\nSignature: sig1=:%s:\n' "$params" "$signature" >>"$work/fields"
@@ -84,7 +85,7 @@ serve() {
     done
     pids="$pids $server"
 }
-serve as "$here/setup.json" 1 15
+serve as "$here/setup.json" 1 16
 as_port=$port
 serve rs "$here/rs.json" "127.0.0.1:$as_port" 1
 rs_port=$port
@@ -112,9 +113,12 @@ call DELETE $as/token '' "$(member "$managed")"
 call DELETE $as/continue '' "$value"
 call POST $as/continue '' "$value"
 
-call POST $as/gnap '{"access_token":{"access":["photos","mail"]},"client":"c1","interact":{"start":["user_code"]}}'
+asked='{"access_token":{"access":["photos","mail"]},"client":"c1","interact":{"start":["user_code"]}}'
+call POST $as/gnap "$asked"
 value=$(member "$onward")
 shown=$(member '"user_code":')
+# The fields are still those of the request before: so does somebody ask who caught it.
+send POST $as/gnap "$asked"
 call POST $as/continue '' "$value"
 call POST $as/front/code "{\"code\":\"$shown\"}" '' f1
 call POST $as/front/decide "{\"handle\":\"$(member '"handle":')\",\"verdict\":\"grant\",\"access\":[\"mail\"]}" '' f1
@@ -135,6 +139,7 @@ DELETE https://as.example/token 204
 DELETE https://as.example/continue 204
 POST https://as.example/continue 401
 POST https://as.example/gnap 200
+POST https://as.example/gnap 401
 POST https://as.example/continue 400
 POST https://as.example/front/code 200
 POST https://as.example/front/decide 200

@@ -41,7 +41,7 @@ send() {
 ask() {
     printf 'POST %s HTTP/1.1\r\nHost: as.example\r\nConnection: close\r\nContent-Type: application/json\r\nContent-Length: %s\r\n\r\n%s' \
         "$1" "${#2}" "$2" >"$work/request"
-    $gnap sign "$setup" f1 "$(date +%s)" "$work/request" >"$work/signed"
+    $gnap sign "$setup" f1 "$(date +%s)" "$work/request" "$(openssl rand -hex 16)" >"$work/signed"
     send "$as_port" "$work/signed"
 }
 

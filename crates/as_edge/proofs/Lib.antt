@@ -1,3 +1,1 @@
-pub mod Requests
 pub mod Statuses
-pub mod Wholes

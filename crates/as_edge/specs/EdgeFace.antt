@@ -4,9 +4,9 @@ use Rattle.histories.specs.Turns.{Face}
 use Rattle.bytes_and_lists.specs.declared.message.Message.{Message}
 use Rattle.http_edge.specs.Replies.{reply_bytes, busy_reply}
 use Rattle.gnap_model.specs.declared.objects.Setup.{Setup}
-use Rattle.gnap_model.specs.declared.calls.Call.{Call}
 use Rattle.gnap_model.specs.declared.calls.Reply.{Reply}
 use Rattle.gnap_replies.specs.Responses.{response_of}
+use Rattle.signed_calls.specs.declared.signed.Signed.{Signed}
 use Rattle.as_requests.specs.declared.desk_calls.DirectAnswer.{DirectAnswer}
 use Rattle.as_requests.specs.declared.desk_calls.RequestStep.TheVariants.{Direct, Ask}
 use Rattle.as_requests.specs.DeskCalls.{desk_call}
@@ -17,7 +17,7 @@ abbrev pub IsAnsweredBy : Setup → Bool → Message → ℕ → List ℕ → Ty
 IsAnsweredBy setup last m moment bytes = (answer : DirectAnswer) × (desk_call setup m moment ≡ Direct answer) × (bytes ≡ reply_bytes (direct_reply setup last answer))
 
 -- The words that are drawn don't change what a request asks. Where memory ran out it is answered by 503.
-abbrev pub edge_face : Face Message Setup Call Reply
+abbrev pub edge_face : Face Message Setup Signed Reply
 edge_face = record {
   says = IsAnsweredBy;
   asks = λ setup m moment draw call. desk_call setup m moment ≡ Ask call;

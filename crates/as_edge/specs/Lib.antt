@@ -1,4 +1,3 @@
 pub mod DirectReplies
 pub mod EdgeFace
-pub mod EdgeWire
 pub mod EdgeSessions

@@ -1,22 +1,24 @@
 //! The authorization server, as `serving` serves it.
-ghost use Rattle.std.specs.Prelude.{◌≡◌};
-ghost use Rattle.as_edge.specs.EdgeWire.{no_message};
-
-use crate::replies::{ReadyReply, http_reply, print_direct, write_whole};
+use crate::replies::{http_reply, print_direct};
 use as_requests::{Edge, RequestStep, desk_call};
 use bytes_and_lists::memory::Mem;
 use bytes_and_lists::message::Message;
 use gnap_io::device::{Failed, Sink, Source};
 use gnap_io::gear::{Clock, Draws};
-use gnap_model::calls::{Call, Reply};
+use gnap_model::calls::Reply;
 use grant_machine::Gnap;
 use histories::machine::Desk;
-use http_edge::{EdgeFault, Held, HttpReply, fault_reply};
+use http_edge::{EdgeFault, Held};
+use http_serving::{ReadyReply, read_request, write_busy, write_fault};
 use serving::connection::serve_connection;
-use serving::ends::NoMessage;
+use serving::ends::{AfterTurn, NoMessage};
 use serving::front::Front;
+use serving::message_reader::MessageReader;
 use serving::message_step::MessageStep;
+use serving::message_turn::take_turn;
 use serving::server::Server;
+use serving::turn_taker::TurnTaker;
+use signed_calls::signed::Signed;
 use std::alloc::Global;
 
 /// The authorization server of a setup. Its workers share it, and it keeps nothing of what they do.
@@ -25,49 +27,20 @@ pub struct AuthorizationServer {
     pub edge: Edge,
 }
 
-fn no_message(fault: EdgeFault) -> NoMessage<EdgeFault>
-    ensures { result ≡ no_message fault }
-{
-    match fault {
-        EdgeFault::BadHead | EdgeFault::TooLarge | EdgeFault::Coded => NoMessage::Refused(fault),
-        EdgeFault::Truncated => NoMessage::Truncated,
-        EdgeFault::ReadFault => NoMessage::Failed,
-        EdgeFault::OutOfMemory => NoMessage::OutOfMemory,
-    }
-}
-
-impl Server for AuthorizationServer {
-    ghost use Rattle.gnap_objects.specs.CallsFit.{ReplyFits};
-    ghost use Rattle.http_edge.specs.Replies.{reply_bytes};
-    ghost use Rattle.as_edge.specs.EdgeFace.{edge_face};
-    ghost use Rattle.as_edge.specs.EdgeWire.{edge_wire, stays};
-    ghost use Rattle.as_edge.specs.EdgeSessions.{says_all};
-
-    type M = Gnap;
+impl MessageReader for AuthorizationServer {
+    ghost use Rattle.http_serving.specs.EdgeWire.{edge_wire, stays};
 
     type Message = Message;
 
     type Fault = EdgeFault;
 
-    type Response = ReadyReply;
-
     type Held = Held;
 
-    ghost rules = { λ server. server.edge };
-
-    ghost face = { edge_face };
-
     ghost wire = { edge_wire };
-
-    ghost text = { λ response. reply_bytes response };
-
-    ghost can_say = { ReplyFits };
 
     ghost held_bytes = { λ held. held };
 
     ghost stays = { stays };
-
-    ghost says_all = { says_all };
 
     fn hold_none(&self, alloc: Global) -> Held {
         Held::new(alloc)
@@ -79,15 +52,41 @@ impl Server for AuthorizationServer {
         source: &mut S,
         held: &mut Held,
     ) -> Result<Option<Message>, NoMessage<EdgeFault>> {
-        match http_edge::next_message(alloc, source, held) {
-            Ok(found) => Ok(found),
-            Err(fault) => Err(no_message(fault)),
-        }
+        read_request(alloc, source, held)
     }
 
     fn is_last(&self, message: &Message) -> bool {
         message.last
     }
+
+    fn write_starved<K: Sink>(&self, out: &mut K) -> Result<(), Failed> {
+        write_busy(out)
+    }
+
+    fn write_refusal<K: Sink>(&self, fault: &EdgeFault, out: &mut K) -> Result<(), Failed> {
+        write_fault(*fault, out)
+    }
+}
+
+impl Server for AuthorizationServer {
+    ghost use Rattle.gnap_objects.specs.CallsFit.{ReplyFits};
+    ghost use Rattle.http_edge.specs.Replies.{reply_bytes};
+    ghost use Rattle.as_edge.specs.EdgeFace.{edge_face};
+    ghost use Rattle.as_edge.specs.EdgeSessions.{says_all};
+
+    type M = Gnap;
+
+    type Response = ReadyReply;
+
+    ghost rules = { λ server. server.edge };
+
+    ghost face = { edge_face };
+
+    ghost text = { λ response. reply_bytes response };
+
+    ghost can_say = { ReplyFits };
+
+    ghost says_all = { says_all };
 
     fn step(
         &self,
@@ -95,7 +94,7 @@ impl Server for AuthorizationServer {
         message: &Message,
         moment: u64,
         last: bool,
-    ) -> Result<MessageStep<ReadyReply, Call>, Mem> {
+    ) -> Result<MessageStep<ReadyReply, Signed>, Mem> {
         match desk_call(alloc, message, &self.edge, moment)? {
             RequestStep::Direct(answer) => {
                 let said = print_direct(alloc, self.edge.setup(), answer, last)?;
@@ -114,18 +113,35 @@ impl Server for AuthorizationServer {
     }
 
     fn write_busy<K: Sink>(&self, out: &mut K) -> Result<(), Failed> {
-        write_whole(out, &HttpReply::busy())
+        write_busy(out)
     }
+}
 
-    fn write_starved<K: Sink>(&self, out: &mut K) -> Result<(), Failed> {
-        self.write_busy(out)
-    }
+impl<D: Desk<M = Gnap>, G: Clock + Draws> TurnTaker<D, G> for AuthorizationServer {
+    ghost use Rattle.std.specs.Prelude.{List};
+    ghost use Rattle.histories.specs.Turns.{IsTurn};
+    ghost use Rattle.grant_machine.specs.Gnap.{GnapEntry, gnap};
+    ghost use Rattle.serving.specs.Desks.{desk_backend};
+    ghost use Rattle.as_edge.specs.EdgeFace.{edge_face};
 
-    fn write_refusal<K: Sink>(&self, fault: &EdgeFault, out: &mut K) -> Result<(), Failed> {
-        match fault_reply(*fault) {
-            Some(reply) => write_whole(out, &reply),
-            None => Ok(()),
-        }
+    ghost Entry = { GnapEntry };
+
+    ghost Past = { List GnapEntry };
+
+    ghost backend_kind = { λ server. desk_backend D.rules D.number D.home D.seen server.edge };
+
+    ghost is_turn = { λ server. IsTurn gnap edge_face server.edge };
+
+    fn turn<S: Source + Sink>(
+        &self,
+        alloc: Global,
+        desk: &mut D,
+        conn: &mut S,
+        gear: &mut G,
+        message: &Message,
+        last: bool,
+    ) -> AfterTurn {
+        take_turn(self, alloc, desk, conn, gear, message, last)
     }
 }
 
@@ -138,7 +154,7 @@ impl Front for AuthorizationServer {
 
     ghost rules = { λ server. server.edge };
 
-    ghost session = { IsEdgeSession };
+    ghost session = { λ server. IsEdgeSession server.edge };
 
     fn serve<D: Desk<M = Gnap>, S: Source + Sink, G: Clock + Draws>(
         &self,

@@ -10,4 +10,4 @@ pub mod laws;
 pub mod replies;
 
 pub use authorization_server::AuthorizationServer;
-pub use replies::{ReadyReply, http_reply, print_direct};
+pub use replies::{http_reply, print_direct};

@@ -1,3 +1,4 @@
 pub mod NewKeys
-pub mod Signers
+pub mod WhoSigned
 pub mod Authorizations
+pub mod Askable

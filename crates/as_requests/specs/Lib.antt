@@ -1,4 +1,5 @@
 pub mod Rings
 pub mod Routes
 pub mod Presented
+pub mod Signers
 pub mod DeskCalls

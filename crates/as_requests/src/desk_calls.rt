@@ -1,18 +1,20 @@
 //! What a request asks of the authorization server.
-ghost use Rattle.std.specs.Prelude.{◌≡◌, IfOk, IfSome, IsUtf8};
-ghost use Rattle.gnap_objects.specs.CallReading.{IsReadable, IsTaken, body_in, call_of};
-ghost use Rattle.as_requests.specs.DeskCalls.{signer, signed_call, step_of, route_step, desk_call, IsAskable};
+ghost use Rattle.std.specs.Prelude.{◌≡◌, IfOk, IsUtf8};
+ghost use Rattle.grant_machine.specs.Gnap.{MarkFits};
+ghost use Rattle.gnap_objects.specs.CallReading.{IsTaken, call_of};
+ghost use Rattle.as_requests.specs.Signers.{needs_mark, signer};
+ghost use Rattle.as_requests.specs.Presented.{presented_value};
+ghost use Rattle.as_requests.specs.DeskCalls.{message_body, step_of, signed_step, route_step, desk_call, IsAskable};
 
 use crate::authorization::presented_value;
 use crate::edge::Edge;
 use crate::routes::{Purpose, Route, path_of};
-use bytes_and_lists::bytes::Bytes;
+use crate::signers::{Signer, find_signer, needs_mark};
 use bytes_and_lists::memory::Mem;
 use bytes_and_lists::message::Message;
-use gnap_model::calls::Call;
 use gnap_objects::{BodyForm, CallKind, CallOrRefusal, ErrorCode, read_call, stranger};
 use json_objects::{BodyFault, read_body};
-use message_signature::{SigFault, verify};
+use signed_calls::signed::{Mark, Signed};
 use std::alloc::Global;
 
 /// An answer that needs no state.
@@ -35,79 +37,47 @@ pub enum DirectAnswer {
 pub enum RequestStep {
     /// The machine isn't asked.
     Direct(DirectAnswer),
-    /// The machine is asked this call.
-    Ask(Call),
+    /// The machine is asked this call. It has the mark of its signature, and an introspection has none.
+    Ask(Signed),
 }
 
-// The id of the key that signed. None where no signature passes.
-fn signer(alloc: Global, edge: &Edge, message: &Message, moment: u64) -> Result<Option<Bytes>, Mem>
-    ensures signer { IfOk result (λ key. key ≡ signer edge.now message.now moment) }
-    ensures utf8 { IfOk result (λ key. IfSome key IsUtf8) }
-{
-    match verify(
-        alloc,
-        message,
-        &edge.setup().base,
-        edge.ring(),
-        moment,
-        edge.tag(),
-    ) {
-        Ok(id) => Ok(Some(id)),
-        Err(SigFault::OutOfMemory) => Err(Mem),
-        Err(_) => Ok(None),
-    }
-}
-
-// A call is asked, and a refusal is answered by its code.
-fn step_of(answer: CallOrRefusal) -> RequestStep
-    requires { IsTaken answer }
-    ensures step { result ≡ step_of answer }
+// A call is asked with the mark, and a refusal is answered by its code.
+fn step_of(mark: Option<Mark>, answer: CallOrRefusal) -> RequestStep
+    requires mark { MarkFits mark }
+    requires taken { IsTaken answer }
+    ensures step { result ≡ step_of mark answer }
     ensures askable { IsAskable result }
 {
     match answer {
-        CallOrRefusal::Accepted(call) => RequestStep::Ask(call),
+        CallOrRefusal::Accepted(call) => RequestStep::Ask(Signed { mark, call }),
         CallOrRefusal::Refused(code) => RequestStep::Direct(DirectAnswer::Error(code)),
     }
 }
 
-// The call of this key with this body.
-fn call_with(
-    alloc: Global,
-    edge: &Edge,
-    kind: CallKind,
-    key: &[u8],
-    value: &[u8],
-    body: BodyForm<'_>,
-) -> Result<RequestStep, Mem>
-    requires key { IsUtf8 key.now }
-    requires body { IsReadable body }
-    ensures step { IfOk result (λ s. s ≡ step_of (call_of edge.now kind key.now value.now (body_in body.entry))) }
-    ensures askable { IfOk result IsAskable }
-{
-    Ok(step_of(read_call(alloc, edge.setup(), kind, key, value, body)?))
-}
-
-// The call of the key that signed the message.
+// The call that the message makes under this key.
 fn call_by(
     alloc: Global,
     edge: &Edge,
     kind: CallKind,
     key: &[u8],
     message: &Message,
-) -> Result<RequestStep, Mem>
+) -> Result<CallOrRefusal, Mem>
     requires { IsUtf8 key.now }
-    ensures step { IfOk result (λ s. s ≡ step_of (signed_call edge.now kind message.now (Some key.now))) }
-    ensures askable { IfOk result IsAskable }
+    ensures call { IfOk result (λ c. c ≡ call_of edge.now kind key.now (presented_value message.now) (message_body message.now.body)) }
+    ensures taken { IfOk result IsTaken }
 {
     let value = presented_value(message);
     if message.body.len() == 0 {
-        return call_with(alloc, edge, kind, key, value, BodyForm::Absent);
+        return read_call(alloc, edge.setup(), kind, key, value, BodyForm::Absent);
     }
     match read_body(alloc, message.body.as_slice()) {
-        Ok(object) => call_with(alloc, edge, kind, key, value, BodyForm::Object(&object)),
+        Ok(object) => {
+            let body = BodyForm::Object(&object);
+            read_call(alloc, edge.setup(), kind, key, value, body)
+        }
         Err(BodyFault::OutOfMemory) => Err(Mem),
         Err(BodyFault::NotAnObject | BodyFault::Number) => {
-            call_with(alloc, edge, kind, key, value, BodyForm::NotOfForm)
+            read_call(alloc, edge.setup(), kind, key, value, BodyForm::NotOfForm)
         }
     }
 }
@@ -120,12 +90,15 @@ fn signed_step(
     message: &Message,
     moment: u64,
 ) -> Result<RequestStep, Mem>
-    ensures step { IfOk result (λ s. s ≡ step_of (signed_call edge.now kind message.now (signer edge.now message.now moment))) }
+    ensures step { IfOk result (λ s. s ≡ signed_step edge.now kind message.now (signer edge.now (needs_mark kind) message.now moment)) }
     ensures askable { IfOk result IsAskable }
 {
-    match signer(alloc, edge, message, moment)? {
-        None => Ok(step_of(stranger(kind))),
-        Some(key) => call_by(alloc, edge, kind, key.as_slice(), message),
+    match find_signer(alloc, edge, needs_mark(kind), message, moment)? {
+        None => Ok(step_of(None, stranger(kind))),
+        Some(Signer { key, mark }) => {
+            let call = call_by(alloc, edge, kind, key.as_slice(), message)?;
+            Ok(step_of(mark, call))
+        }
     }
 }
 
@@ -151,7 +124,8 @@ fn route_step(
 /// What the message asks of the authorization server at this moment, in seconds since 1970: the first of these that applies. `NotFound` where no route has
 /// its path; `NotAllowed` where the route hasn't its method; a discovery, for which nobody has to sign; `Error` with `InvalidClient`, for an introspection
 /// with `InvalidResourceServer`, where `message_signature::verify` passes no signature with the setup's base, its keys and the tag `gnap`, or where the
-/// signer's role isn't that of the call; and from there on what `gnap_objects::read_call` answers of the signer, the presented value and the body.
+/// signature has no mark (`message_signature::mark_of`) and the call isn't an introspection, or where the signer's role isn't that of the call; and from there
+/// on what `gnap_objects::read_call` answers of the signer, the presented value and the body. A call other than an introspection has the signature's mark.
 ///
 /// A body goes through unread until the signature passed. Err only where memory ran out, and nothing is changed then.
 #[tactic(auto, unfolding(crate::specs::DeskCalls::desk_call))]

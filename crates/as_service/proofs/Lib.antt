@@ -1,2 +1,1 @@
-pub mod TakenBack
 mod FewEntries

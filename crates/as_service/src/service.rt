@@ -1,34 +1,20 @@
 //! Serving at an address.
 ghost use Rattle.std.specs.Prelude.{◌≡◌, ◌≤◌};
-ghost use Rattle.std.specs.List.{list_any};
 ghost use Rattle.gnap_objects.specs.Setups.{IsSetup};
-ghost use Rattle.serving.specs.ServiceEnds.{has_failed};
 ghost use Rattle.as_service.specs.Services.{IsService};
 
 use as_edge::AuthorizationServer;
 use as_requests::Edge;
 use bytes_and_lists::bytes::Bytes;
-use bytes_and_lists::memory::{Duplicate, Mem};
-use gnap_io::gear::{Counted, Door};
+use bytes_and_lists::memory::Duplicate;
 use gnap_io::world::{World, WorldFault};
 use gnap_model::objects::Setup;
 use grant_machine::laws::what_holds;
-use serving::threads::serve_gears;
+use serving::service::serve_front_at;
 use std::alloc::Global;
 use std::sync::Wait;
 use std::thread::Threads;
 use table_core::TableCore;
-
-fn any_failed<G: Door>(gears: &[G]) -> bool
-    ensures { result ≡ list_any (λ gear. has_failed (G.state gear)) gears.now }
-{
-    for gear in gears {
-        if gear.has_failed() {
-            return true;
-        }
-    }
-    false
-}
 
 /// Serves the authorization server of a setup at an address of the world, by 1 to 64 workers on threads of their own, each for at most `quota` connections,
 /// and gives the workers' gears back to the world.
@@ -56,19 +42,8 @@ pub fn serve_at<R: Threads + Wait + Sync, W: World>(
     let Ok(edge) = Edge::new(alloc, setup) else {
         return Err(WorldFault::OutOfMemory);
     };
-    let gears = world.start_gears(address, workers, quota)?;
     let server = AuthorizationServer { edge };
     let core = TableCore::new(alloc, rules);
-    let (gears, served) = serve_gears(rt, alloc, core, &server, gears);
     what_holds();
-    let failed = any_failed(gears.as_slice());
-    world.stop_gears(gears);
-    match served {
-        Err(Mem) => Err(WorldFault::OutOfMemory),
-        Ok(()) => if failed {
-            Err(WorldFault::Failed)
-        } else {
-            Ok(())
-        },
-    }
+    serve_front_at(rt, alloc, world, core, &server, address, workers, quota)
 }

@@ -15,7 +15,7 @@ use bytes_and_lists::memory::{Duplicate, Mem};
 use gnap_io::memory_conn::MemConn;
 use gnap_io::memory_gear::MemGear;
 use gnap_objects::read_setup;
-use serving::connection::serve_connection;
+use serving::front::Front;
 use std::alloc::Global;
 use std::io;
 use std::rt::Clock;
@@ -103,7 +103,7 @@ impl Introspections {
         let mut desk = table_desk(alloc, self.server.edge.setup().copy()?);
         let mut conn = conn(alloc, requests)?;
         let mut gear = gear(alloc)?;
-        serve_connection(&self.server, alloc, &mut desk, &mut conn, &mut gear);
+        self.server.serve(alloc, &mut desk, &mut conn, &mut gear);
         Ok(conn)
     }
 

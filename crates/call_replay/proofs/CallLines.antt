@@ -63,31 +63,32 @@ view_next values i x within is =
 
 -- ---- the text of a line
 
-pub text_is : (setup : Setup) (line : List ℕ) (d : Data) → IsUtf8 line × (read line ≡ Some d) → text_step setup line ≡ read_step setup (Some d)
-text_is setup line d h = rw (is_utf8-from_IsUtf8 line h.0) (ap (read_step setup) h.1)
+pub text_is : (setup : Setup) (number : ℕ) (line : List ℕ) (d : Data) → IsUtf8 line × (read line ≡ Some d) → text_step setup number line ≡ read_step setup number (Some d)
+text_is setup number line d h = rw (is_utf8-from_IsUtf8 line h.0) (ap (read_step setup number) h.1)
 
-none_at : (setup : Setup) (line : List ℕ) (b : Bool) → is_utf8 line ≡ b → (IsUtf8 line → read line ≡ None) → cond b (read_step setup (read line)) (refused InvalidRequest) ≡ refused InvalidRequest
-none_at setup line true e h = ap (read_step setup) (h (IsUtf8-from_is_utf8 line e))
-none_at setup line false e h = refl
+none_at : (setup : Setup) (number : ℕ) (line : List ℕ) (b : Bool) → is_utf8 line ≡ b → (IsUtf8 line → read line ≡ None)
+    → cond b (read_step setup number (read line)) (refused InvalidRequest) ≡ refused InvalidRequest
+none_at setup number line true e h = ap (read_step setup number) (h (IsUtf8-from_is_utf8 line e))
+none_at setup number line false e h = refl
 
-pub text_is_none : (setup : Setup) (line : List ℕ) → (IsUtf8 line → read line ≡ None) → text_step setup line ≡ refused InvalidRequest
-text_is_none setup line h = none_at setup line (is_utf8 line) refl h
+pub text_is_none : (setup : Setup) (number : ℕ) (line : List ℕ) → (IsUtf8 line → read line ≡ None) → text_step setup number line ≡ refused InvalidRequest
+text_is_none setup number line h = none_at setup number line (is_utf8 line) refl h
 
 -- ---- of a line that is too long no more than one byte past the limit is looked at
 
 third : {A : Type 0} (n : ℕ) (a b c : A) → 131072 < n → (if n == 0 then a else (if nat_lt 131072 n then b else c)) ≡ b
 third n a b c long = grind (arith, nat_tests)
 
-long_step : (setup : Setup) (line : List ℕ) → 131072 < length line → line_step setup line ≡ Say (codes "413\n")
+long_step : (setup : Setup) (number : ℕ) (line : List ℕ) → 131072 < length line → line_step setup number line ≡ Say (codes "413\n")
 unfolding line_step
-long_step setup line long = third (length line) _ _ _ long
+long_step setup number line long = third (length line) _ _ _ long
 
-pub kept_step : (setup : Setup) (full : List ℕ) → line_step setup full ≡ line_step setup (take 131073 full)
-kept_step setup full =
+pub kept_step : (setup : Setup) (number : ℕ) (full : List ℕ) → line_step setup number full ≡ line_step setup number (take 131073 full)
+kept_step setup number full =
     let either : (length full ≤ 131073) ⊎ (131073 < length full) = grind arith in
     elim either [
-      | inl short ↦ ap (line_step setup) (sym (take_all 131073 full short))
+      | inl short ↦ ap (line_step setup number) (sym (take_all 131073 full short))
       | inr long ↦
           let size : length (take 131073 full) ≡ 131073 = length-take-le 131073 full (omega (arith, long)) in
-          long_step setup full (omega (arith, long)) ∙ sym (long_step setup (take 131073 full) (omega (arith, size)))
+          long_step setup number full (omega (arith, long)) ∙ sym (long_step setup number (take 131073 full) (omega (arith, size)))
     ]

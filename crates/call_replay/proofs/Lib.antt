@@ -1,3 +1,4 @@
+pub mod Asked
 pub mod CallLines
 pub mod Files
 pub mod Going

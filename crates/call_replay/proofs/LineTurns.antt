@@ -8,9 +8,9 @@ use Rattle.histories.specs.Steps.{Enters, EntersLapse, NoneOf}
 use Rattle.histories.specs.Whole.{own_of}
 use Rattle.histories.proofs.OwnEntries.{own-next}
 use Rattle.gnap_model.specs.declared.objects.Setup.{Setup}
-use Rattle.gnap_model.specs.declared.calls.Call.{Call}
-use Rattle.gnap_model.specs.declared.calls.Call.TheVariants.{Lapse}
 use Rattle.gnap_model.specs.declared.calls.Reply.{Reply}
+use Rattle.signed_calls.specs.declared.signed.Signed.{Signed}
+use Rattle.signed_calls.specs.Marks.{unmarked_lapse}
 use Rattle.grant_machine.specs.Gnap.{GnapEntry, gnap}
 use Rattle.command_inputs.specs.declared.printed_text.After.{After}
 use Rattle.command_inputs.specs.declared.printed_text.After.TheVariants.{On, Starved, Cut}
@@ -23,10 +23,10 @@ goes_on On isnt = refl
 goes_on Starved isnt = absurd (isnt refl)
 goes_on Cut isnt = tt
 
-module _ (setup : Setup) (number : ℕ) (line : List ℕ) (seen : List GnapEntry → Type 0) (h : List GnapEntry) (before after : Told) (result : After)
+module _ (setup : Setup) (worker number : ℕ) (line : List ℕ) (seen : List GnapEntry → Type 0) (h : List GnapEntry) (before after : Told) (result : After)
     (moment : ℕ) (bytes : List ℕ) (on : Bool) (goes : GoesBy result on) (prints : Prints result bytes before after) where
-  pub without_entry : seen h → IsLineTurn setup (record { message = line; moment = moment; entries = []; bytes = bytes; on = on })
-      → AnswersLine setup number line seen h before after result
+  pub without_entry : seen h → IsLineTurn setup number (record { message = line; moment = moment; entries = []; bytes = bytes; on = on })
+      → AnswersLine setup worker number line seen h before after result
   without_entry was is = record {
     turn = record { message = line; moment = moment; entries = []; bytes = bytes; on = on };
     is_turn = is;
@@ -34,12 +34,12 @@ module _ (setup : Setup) (number : ℕ) (line : List ℕ) (seen : List GnapEntry
     goes = goes;
     history = h;
     seen_now = was;
-    own = sym (append-nil (own_of number h));
+    own = sym (append-nil (own_of worker h));
     prints = prints;
   }
 
-  with_one : (others : List GnapEntry) (e : GnapEntry) → NoneOf number others → e.number ≡ number → seen (h ++ others ++ e ∷ [])
-      → IsLineTurn setup (record { message = line; moment = moment; entries = e ∷ []; bytes = bytes; on = on }) → AnswersLine setup number line seen h before after result
+  with_one : (others : List GnapEntry) (e : GnapEntry) → NoneOf worker others → e.number ≡ worker → seen (h ++ others ++ e ∷ [])
+      → IsLineTurn setup number (record { message = line; moment = moment; entries = e ∷ []; bytes = bytes; on = on }) → AnswersLine setup worker number line seen h before after result
   with_one others e not_mine mine seen_now is = record {
     turn = record { message = line; moment = moment; entries = e ∷ []; bytes = bytes; on = on };
     is_turn = is;
@@ -47,16 +47,16 @@ module _ (setup : Setup) (number : ℕ) (line : List ℕ) (seen : List GnapEntry
     goes = goes;
     history = h ++ others ++ e ∷ [];
     seen_now = seen_now;
-    own = own-next number h others e not_mine mine;
+    own = own-next worker h others e not_mine mine;
     prints = prints;
   }
 
-  pub with_entry : (rules : Setup) (draw : List ℕ) (call : Call) (reply : Reply) → (x : Enters gnap rules number h moment draw call reply seen)
-      → IsLineTurn setup (record { message = line; moment = moment; entries = entry_of gnap rules (h ++ x.others) number moment draw call ∷ []; bytes = bytes; on = on })
-      → AnswersLine setup number line seen h before after result
-  with_entry rules draw call reply x is = with_one x.others (entry_of gnap rules (h ++ x.others) number moment draw call) x.not_mine refl x.seen_now is
+  pub with_entry : (rules : Setup) (draw : List ℕ) (signed : Signed) (reply : Reply) → (x : Enters gnap rules worker h moment draw signed reply seen)
+      → IsLineTurn setup number (record { message = line; moment = moment; entries = entry_of gnap rules (h ++ x.others) worker moment draw signed ∷ []; bytes = bytes; on = on })
+      → AnswersLine setup worker number line seen h before after result
+  with_entry rules draw signed reply x is = with_one x.others (entry_of gnap rules (h ++ x.others) worker moment draw signed) x.not_mine refl x.seen_now is
 
-  pub with_lapse : (rules : Setup) (draw : List ℕ) → (x : EntersLapse gnap rules number h moment draw seen)
-      → IsLineTurn setup (record { message = line; moment = moment; entries = entry_of gnap rules (h ++ x.others) number moment draw Lapse ∷ []; bytes = bytes; on = on })
-      → AnswersLine setup number line seen h before after result
-  with_lapse rules draw x is = with_one x.others (entry_of gnap rules (h ++ x.others) number moment draw Lapse) x.not_mine refl x.seen_now is
+  pub with_lapse : (rules : Setup) (draw : List ℕ) → (x : EntersLapse gnap rules worker h moment draw seen)
+      → IsLineTurn setup number (record { message = line; moment = moment; entries = entry_of gnap rules (h ++ x.others) worker moment draw unmarked_lapse ∷ []; bytes = bytes; on = on })
+      → AnswersLine setup worker number line seen h before after result
+  with_lapse rules draw x is = with_one x.others (entry_of gnap rules (h ++ x.others) worker moment draw unmarked_lapse) x.not_mine refl x.seen_now is

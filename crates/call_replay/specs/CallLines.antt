@@ -1,10 +1,12 @@
 -- A line of a replay: the call that it makes, or what is said to it at once.
-use Rattle.std.specs.Prelude.{ℕ, ◌-◌, ◌==◌, Bool, true, List, [], ◌∷◌, ◌++◌, length, codes, replicate, nat_lt, nat_le, is_some, Option, Some, None, if◌then◌else◌, option_and_then}
+use Rattle.std.specs.Prelude.{ℕ, ◌-◌, ◌==◌, Bool, true, List, [], ◌∷◌, ◌++◌, length, codes, replicate, nat_lt, nat_le, is_some, Option, Some, None, if◌then◌else◌, option_map, option_and_then}
+use Rattle.std.specs.Option.{unwrap_or}
 use Rattle.std.specs.Str.{bytes_eq, is_utf8}
 use Rattle.serde_json.specs.Data.{Data, Items, no_items, item}
 use Rattle.serde_json.specs.Find.{get, as_str, as_array, as_object, as_number, as_u64}
 use Rattle.serde_json.specs.Read.{read}
 use Rattle.serde_json.specs.Written.{has_float}
+use Rattle.message_signature.specs.Marks.{has_nonce_length}
 use Rattle.gnap_model.specs.declared.objects.Setup.{Setup}
 use Rattle.gnap_model.specs.declared.objects.ErrorCode.{ErrorCode}
 use Rattle.gnap_model.specs.declared.objects.ErrorCode.TheVariants.{InvalidRequest}
@@ -13,6 +15,8 @@ use Rattle.gnap_objects.specs.declared.call_reading.CallKind.TheVariants.{Begin,
 use Rattle.gnap_objects.specs.declared.call_reading.CallOrRefusal.{CallOrRefusal}
 use Rattle.gnap_objects.specs.declared.call_reading.CallOrRefusal.TheVariants.{Accepted, Refused}
 use Rattle.gnap_objects.specs.CallReading.{Body, NoBody, ObjectBody, NoObject, call_of}
+use Rattle.signed_calls.specs.declared.signed.Mark.{Mark}
+use Rattle.signed_requests.specs.Nonces.{line_nonce}
 use Rattle.call_replay.specs.declared.call_lines.LineStep.{LineStep}
 use Rattle.call_replay.specs.declared.call_lines.LineStep.TheVariants.{Say, Ask}
 use Rattle.call_replay.specs.ReplyLines.{error_line}
@@ -70,7 +74,36 @@ draw_in (Some v) = words_in (as_array v)
 unfoldable pub draw_of : Data → Option (List ℕ)
 draw_of d = draw_in (get (codes "draw") d)
 
+-- `nonce`: a string of 1 to 64 bytes, or absent
+abbrev pub sized_nonce : List ℕ → Option (List ℕ)
+sized_nonce nonce = if has_nonce_length nonce then Some nonce else None
+
+abbrev pub nonce_or_absent : Option Data → Option (Option (List ℕ))
+nonce_or_absent None = Some None
+nonce_or_absent (Some v) = option_map Some (option_and_then sized_nonce (as_str v))
+
+unfoldable pub nonce_in : Data → Option (Option (List ℕ))
+nonce_in d = nonce_or_absent (get (codes "nonce") d)
+
+-- `created`: a moment as `at` is, or absent
+abbrev pub moment_or_absent : Option Data → Option (Option ℕ)
+moment_or_absent None = Some None
+moment_or_absent (Some v) = option_map Some (option_and_then in_time (word_of v))
+
+unfoldable pub created_in : Data → Option (Option ℕ)
+created_in d = moment_or_absent (get (codes "created") d)
+
 -- ---- what is done with it
+
+-- What the signature of a line says of itself: its moment, which is `at` where the line tells none, and its nonce, which is that of `at` and of the line's
+-- number where the line tells none.
+abbrev pub line_mark : ℕ → ℕ → Option (List ℕ) → Option ℕ → Mark
+line_mark at number nonce created = record { nonce = unwrap_or nonce (line_nonce at number); created = unwrap_or created at }
+
+-- An introspection has no mark.
+abbrev pub mark_for : CallKind → Mark → Option Mark
+mark_for Introspect mark = None
+mark_for _ mark = Some mark
 
 abbrev pub refused : ErrorCode → LineStep
 refused code = Say (error_line code)
@@ -94,37 +127,39 @@ kind_named name = if bytes_eq name (codes "begin") then Some Begin
     else (if bytes_eq name (codes "decide") then Some Decide else None)))))))))
 
 -- a call is asked of the machine, and a refusal is said
-abbrev pub asked : ℕ → List ℕ → CallOrRefusal → LineStep
-asked at draw (Accepted call) = Ask at draw call
-asked at draw (Refused code) = refused code
+abbrev pub asked : ℕ → List ℕ → Option Mark → CallOrRefusal → LineStep
+asked at draw mark (Accepted call) = Ask at draw (record { mark = mark; call = call })
+asked at draw mark (Refused code) = refused code
 
 -- a call of another name is not found
-abbrev pub call_step : Setup → ℕ → List ℕ → Option CallKind → List ℕ → List ℕ → Body → LineStep
-call_step setup at draw None key value body = Say (codes "404\n")
-call_step setup at draw (Some kind) key value body = asked at draw (call_of setup kind key value body)
+abbrev pub call_step : Setup → ℕ → List ℕ → Mark → Option CallKind → List ℕ → List ℕ → Body → LineStep
+call_step setup at draw mark None key value body = Say (codes "404\n")
+call_step setup at draw mark (Some kind) key value body = asked at draw (mark_for kind mark) (call_of setup kind key value body)
 
--- an object of the form, or none
-abbrev pub form_step : Setup → Data → Option ℕ → Option (List ℕ) → Option (List ℕ) → Option (List ℕ) → Option (List ℕ) → Bool → LineStep
-form_step setup d (Some at) (Some call) (Some key) (Some value) (Some draw) true =
-    call_step setup at draw (kind_named call) key value (line_body (get (codes "body") d))
-form_step setup d _ _ _ _ _ _ = refused InvalidRequest
+-- what a line says of its signature, and who makes the call of which name with what, where all of it is of its form
+abbrev pub form_step : Setup → ℕ → Data → Option ℕ → Option (List ℕ) → Option (List ℕ) → Option (List ℕ) → Option (List ℕ) → Bool
+    → Option (Option (List ℕ)) → Option (Option ℕ) → LineStep
+form_step setup number d (Some at) (Some call) (Some key) (Some value) (Some draw) true (Some nonce) (Some created) =
+    call_step setup at draw (line_mark at number nonce created) (kind_named call) key value (line_body (get (codes "body") d))
+form_step setup number d _ _ _ _ _ _ _ _ = refused InvalidRequest
 
-unfoldable pub object_step : Setup → Data → LineStep
-object_step setup d =
-    form_step setup d (moment_of d) (text_under (codes "call") d) (text_under (codes "key") d) (value_of d) (draw_of d) (has_body_form d)
+unfoldable pub object_step : Setup → ℕ → Data → LineStep
+object_step setup number d =
+    form_step setup number d (moment_of d) (text_under (codes "call") d) (text_under (codes "key") d) (value_of d) (draw_of d) (has_body_form d)
+    (nonce_in d) (created_in d)
 
-abbrev pub read_step : Setup → Option Data → LineStep
-read_step setup None = refused InvalidRequest
-read_step setup (Some d) = object_step setup d
+abbrev pub read_step : Setup → ℕ → Option Data → LineStep
+read_step setup number None = refused InvalidRequest
+read_step setup number (Some d) = object_step setup number d
 
-abbrev pub text_step : Setup → List ℕ → LineStep
-text_step setup line = if is_utf8 line then read_step setup (read line) else refused InvalidRequest
+abbrev pub text_step : Setup → ℕ → List ℕ → LineStep
+text_step setup number line = if is_utf8 line then read_step setup number (read line) else refused InvalidRequest
 
 -- the most bytes of a call line
 abbrev pub line_limit : ℕ
 line_limit = 131072
 
--- An empty line is skipped, and one that is too long isn't read.
-unfoldable pub line_step : Setup → List ℕ → LineStep
-line_step setup line =
-    if length line == 0 then Say [] else (if nat_lt line_limit (length line) then Say (codes "413\n") else text_step setup line)
+-- What the line of this number is to the desk; the setup's line has the number 1. An empty line is skipped, and one that is too long isn't read.
+unfoldable pub line_step : Setup → ℕ → List ℕ → LineStep
+line_step setup number line =
+    if length line == 0 then Say [] else (if nat_lt line_limit (length line) then Say (codes "413\n") else text_step setup number line)

@@ -1,10 +1,10 @@
 -- What a replay does with the lines of its file, and what it prints.
 use Rattle.std.specs.Prelude.{◌≡◌, ◌≤◌, ℕ, false, List, [], ◌∷◌, ◌++◌, length, Some, None}
 use Rattle.gnap_io.specs.Outside.{Told, Writes}
-use Rattle.histories.specs.Turns.{Turn, Face, IsTurn, Each, messages_in, entries_in}
+use Rattle.histories.specs.Turns.{Turn, Face, IsTurn, messages_in, entries_in}
 use Rattle.histories.specs.Whole.{OneHistory}
 use Rattle.gnap_model.specs.declared.objects.Setup.{Setup}
-use Rattle.gnap_model.specs.declared.calls.Call.{Call}
+use Rattle.signed_calls.specs.declared.signed.Signed.{Signed}
 use Rattle.gnap_model.specs.declared.calls.Reply.{Reply}
 use Rattle.grant_machine.specs.Gnap.{GnapEntry, gnap}
 use Rattle.grant_machine.specs.Laws.{WhatHolds}
@@ -14,7 +14,7 @@ use Rattle.command_inputs.specs.declared.ended.Ended.TheVariants.{Done, NoSetup,
 use Rattle.call_replay.specs.CallLines.{line_step}
 use Rattle.command_inputs.specs.Configs.{setup_limit, setup_in}
 use Rattle.command_inputs.specs.Lines.{IsLine, lines_of, whole_lines}
-use Rattle.command_inputs.specs.LineRuns.{EndsAs}
+use Rattle.command_inputs.specs.LineRuns.{EachFrom, EndsAs}
 use Rattle.call_replay.specs.ReplyLines.{reply_line}
 
 -- ---- lines
@@ -23,22 +23,30 @@ use Rattle.call_replay.specs.ReplyLines.{reply_line}
 abbrev pub LineTurn : Type 0
 LineTurn = Turn (List ℕ) GnapEntry
 
--- A line is answered at once or asks a call, at the line's own moment and with its own words. Nothing is printed where memory runs out.
-abbrev pub line_face : Face (List ℕ) Setup Call Reply
-line_face = record {
-  says = λ setup last line moment text. line_step setup line ≡ Say text;
-  asks = λ setup line moment draw call. line_step setup line ≡ Ask moment draw call;
+-- The line of this number is answered at once or asks a call, at the line's own moment and with its own words. Nothing is printed where memory runs out.
+abbrev pub line_face : ℕ → Face (List ℕ) Setup Signed Reply
+line_face number = record {
+  says = λ setup last line moment text. line_step setup number line ≡ Say text;
+  asks = λ setup line moment draw signed. line_step setup number line ≡ Ask moment draw signed;
   prints = λ setup last reply. reply_line setup reply;
   busy = [];
 }
 
-abbrev pub IsLineTurn : Setup → LineTurn → Type 0
-IsLineTurn setup = IsTurn gnap line_face setup false
+abbrev pub IsLineTurn : Setup → ℕ → LineTurn → Type 0
+IsLineTurn setup number = IsTurn gnap (line_face number) setup false
+
+-- the line of the setup is the first of a file, so the first call line has this number
+abbrev pub first_call_line : ℕ
+first_call_line = 2
+
+-- Each line had its turn, by its number in the file. An empty line has a number and a turn too.
+abbrev pub AreLineTurns : Setup → List LineTurn → Type 0
+AreLineTurns setup turns = EachFrom first_call_line (IsLineTurn setup) turns
 
 -- The account of a replay: these entries are those of the turns of its first lines, in order, and this was printed.
 pub record IsReplay (setup : Setup) (whole lines : List (List ℕ)) (sent : List ℕ) (ended : Ended) (own : List GnapEntry) : Type 0 where
   pub turns : List LineTurn
-  pub each : Each (IsLineTurn setup) turns
+  pub each : AreLineTurns setup turns
   pub own_is : own ≡ entries_in turns
   pub later : List (List ℕ)
   pub lines_are : lines ≡ messages_in turns ++ later

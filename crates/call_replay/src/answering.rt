@@ -16,12 +16,13 @@ use grant_machine::Gnap;
 use histories::machine::Desk;
 use std::alloc::Global;
 
-/// Answers one line, of which at most one byte more than a call line may have is looked at.
+/// Answers the line of this number, of which at most one byte more than a call line may have is looked at.
 pub fn answer_line<D: Desk<M = Gnap>, O: Sink>(
     alloc: Global,
     setup: &Setup,
     desk: &mut D,
     out: &mut O,
+    number: u64,
     line: &Bytes,
 ) -> After
     requires rules { D.rules desk.old ≡ setup.now }
@@ -30,14 +31,14 @@ pub fn answer_line<D: Desk<M = Gnap>, O: Sink>(
     requires room { (h : _) × D.seen desk.old h × (length (places (D.number desk.old) h) < 2 ^ 52) }
     ensures rules { D.rules desk.new ≡ D.rules desk.old }
     ensures number { D.number desk.new ≡ D.number desk.old }
-    ensures turn { (h full : _) → D.seen desk.old h → line_step setup.now full ≡ line_step setup.now line.now
-        → AnswersLine setup.now (D.number desk.old) full (D.seen desk.new) h (O.told out.old) (O.told out.new) result }
+    ensures turn { (h full : _) → D.seen desk.old h → line_step setup.now number full ≡ line_step setup.now number line.now
+        → AnswersLine setup.now (D.number desk.old) number full (D.seen desk.new) h (O.told out.old) (O.told out.new) result }
     ensures counts { CountsPrint result (O.faults out.old) (O.faults out.new) }
 {
-    match line_step(alloc, setup, line.as_slice()) {
+    match line_step(alloc, setup, number, line.as_slice()) {
         Err(Mem) => After::Starved,
         Ok(LineStep::Say(text)) => say(out, &text),
-        Ok(LineStep::Ask(moment, draw, call)) => match desk.submit(moment, &draw, call) {
+        Ok(LineStep::Ask(moment, draw, signed)) => match desk.submit(moment, &draw, signed) {
             Err(Mem) => After::Starved,
             Ok(reply) => match reply_line(alloc, setup, &reply) {
                 Err(Mem) => After::Starved,

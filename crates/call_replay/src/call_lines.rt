@@ -1,21 +1,24 @@
 //! A line of a replay: the call that it makes, or what is said to it at once.
-ghost use Rattle.std.specs.Prelude.{◌≡◌, ◌≤◌, [], IfOk, IfSome, codes, option_map};
+ghost use Rattle.std.specs.Prelude.{◌≡◌, ◌≤◌, [], true, IfOk, IfSome, codes, option_map, option_and_then};
+ghost use Rattle.std.specs.Option.{option_copied};
 ghost use Rattle.histories.specs.History.{last_moment};
 ghost use Rattle.serde_json.specs.Data.{depth};
 ghost use Rattle.serde_json.specs.Find.{get};
 ghost use Rattle.serde_json.specs.Read.{max_depth};
 ghost use Rattle.serde_json.specs.View.{view, items_view};
+ghost use Rattle.message_signature.specs.Marks.{has_nonce_length};
 ghost use Rattle.gnap_objects.specs.CallReading.{IsReadable, body_in};
-ghost use Rattle.call_replay.specs.CallLines.{moment_of, text_under, value_of, has_body_form, words_from, draw_of, refused, line_body, kind_named, call_step, object_step, text_step, line_step};
+ghost use Rattle.call_replay.specs.CallLines.{in_time, word_of, moment_of, text_under, value_of, has_body_form, words_from, draw_of, line_mark, refused, line_body, kind_named, call_step, object_step, text_step, line_step};
 ghost use Rattle.call_replay.specs.Asked.{IsAsked};
 
+use crate::line_marks::{MarkFields, created_in, mark_for, nonce_in};
 use crate::reply_lines::error_line;
 use bytes_and_lists::bytes::Bytes;
 use bytes_and_lists::memory::Mem;
-use gnap_model::calls::Call;
 use gnap_objects::{BodyForm, CallKind, CallOrRefusal, ErrorCode, Setup, read_call};
 use json_objects::{has_fraction, member, member_within};
 use serde_json::Value;
+use signed_calls::signed::Signed;
 use std::alloc::Global;
 
 /// The most bytes of a call line.
@@ -28,8 +31,17 @@ const LAST_MOMENT: u64 = 253_402_300_799;
 pub enum LineStep {
     /// This is said at once.
     Say(Bytes),
-    /// The moment, in seconds since 1970, the words that are drawn, and the call.
-    Ask(u64, [u64; 48], Call),
+    /// The moment, in seconds since 1970, the words that are drawn, and the call as it is signed.
+    Ask(u64, [u64; 48], Signed),
+}
+
+/// The moment that a value is, in seconds since 1970.
+pub(crate) fn moment_in(value: &Value) -> Option<u64>
+    ensures moment { result ≡ option_and_then in_time (word_of (view value.now)) }
+    ensures in_time { IfSome result (λ at. at ≤ last_moment) }
+{
+    let at = value.as_u64()?;
+    if at <= LAST_MOMENT { Some(at) } else { None }
 }
 
 #[tactic(auto, unfolding(crate::specs::CallLines::moment_of))]
@@ -37,8 +49,7 @@ fn moment_of(value: &Value) -> Option<u64>
     ensures moment { result ≡ moment_of (view value.now) }
     ensures in_time { IfSome result (λ at. at ≤ last_moment) }
 {
-    let at = member(value, "at")?.as_u64()?;
-    if at <= LAST_MOMENT { Some(at) } else { None }
+    moment_in(member(value, "at")?)
 }
 
 #[tactic(auto, unfolding(crate::specs::CallLines::text_under))]
@@ -136,19 +147,23 @@ fn kind_named(name: &str) -> Option<CallKind>
     }
 }
 
+#[tactic(auto, using(crate::proofs::Asked::is_asked))]
 fn call_step(
     alloc: Global,
     setup: &Setup,
-    at: u64,
+    fields: MarkFields<'_>,
     draw: [u64; 48],
     kind: Option<CallKind>,
     key: &str,
     presented: &str,
     body: BodyForm<'_>,
 ) -> Result<LineStep, Mem>
-    requires in_time { at ≤ last_moment }
+    requires in_time { fields.at ≤ last_moment }
+    requires sized { IfSome (option_copied fields.nonce) (λ n. has_nonce_length n ≡ true) }
+    requires signed_in_time { IfSome fields.created (λ moment. moment ≤ last_moment) }
     requires readable { IsReadable body }
-    ensures step { IfOk result (λ s. s ≡ call_step setup.now at draw kind key.now presented.now (body_in body.entry)) }
+    ensures step { IfOk result (λ s. s ≡ call_step setup.now fields.entry.at draw (line_mark fields.entry.at fields.entry.number (option_copied fields.entry.nonce) fields.entry.created)
+        kind key.now presented.now (body_in body.entry)) }
     ensures asked { IfOk result IsAsked }
 {
     let Some(kind) = kind else {
@@ -162,15 +177,18 @@ fn call_step(
         presented.as_bytes(),
         body,
     )? {
-        CallOrRefusal::Accepted(call) => Ok(LineStep::Ask(at, draw, call)),
+        CallOrRefusal::Accepted(call) => {
+            let mark = mark_for(alloc, kind, fields)?;
+            Ok(LineStep::Ask(fields.at, draw, Signed { mark, call }))
+        }
         CallOrRefusal::Refused(code) => refused(alloc, code),
     }
 }
 
 #[tactic(auto, unfolding(crate::specs::CallLines::object_step))]
-fn object_step(alloc: Global, setup: &Setup, value: &Value) -> Result<LineStep, Mem>
+fn object_step(alloc: Global, setup: &Setup, number: u64, value: &Value) -> Result<LineStep, Mem>
     requires { depth (view value.now) ≤ max_depth }
-    ensures step { IfOk result (λ s. s ≡ object_step setup.now (view value.now)) }
+    ensures step { IfOk result (λ s. s ≡ object_step setup.now number (view value.now)) }
     ensures asked { IfOk result IsAsked }
 {
     let Some(at) = moment_of(value) else {
@@ -191,10 +209,22 @@ fn object_step(alloc: Global, setup: &Setup, value: &Value) -> Result<LineStep, 
     if !has_body_form(value) {
         return refused(alloc, ErrorCode::InvalidRequest);
     }
+    let Some(nonce) = nonce_in(value) else {
+        return refused(alloc, ErrorCode::InvalidRequest);
+    };
+    let Some(created) = created_in(value) else {
+        return refused(alloc, ErrorCode::InvalidRequest);
+    };
+    let fields = MarkFields {
+        at,
+        number,
+        nonce,
+        created,
+    };
     call_step(
         alloc,
         setup,
-        at,
+        fields,
         draw,
         kind_named(call),
         key,
@@ -203,12 +233,12 @@ fn object_step(alloc: Global, setup: &Setup, value: &Value) -> Result<LineStep, 
     )
 }
 
-fn text_step(alloc: Global, setup: &Setup, line: &[u8]) -> Result<LineStep, Mem>
-    ensures step { IfOk result (λ s. s ≡ text_step setup.now line.now) }
+fn text_step(alloc: Global, setup: &Setup, number: u64, line: &[u8]) -> Result<LineStep, Mem>
+    ensures step { IfOk result (λ s. s ≡ text_step setup.now number line.now) }
     ensures asked { IfOk result IsAsked }
 {
     match Value::from_slice(alloc, line) {
-        Ok(value) => object_step(alloc, setup, &value),
+        Ok(value) => object_step(alloc, setup, number, &value),
         Err(e) => if e.is_memory() {
             Err(Mem)
         } else {
@@ -217,10 +247,11 @@ fn text_step(alloc: Global, setup: &Setup, line: &[u8]) -> Result<LineStep, Mem>
     }
 }
 
-/// What a line is to the desk. An empty line says nothing. A line of more than 131,072 bytes is answered `413`, whatever follows.
+/// What the line of this number is to the desk; the setup's line has the number 1. An empty line says nothing. A line of more than 131,072 bytes is answered
+/// `413`, whatever follows.
 #[tactic(auto, unfolding(crate::specs::CallLines::line_step))]
-pub fn line_step(alloc: Global, setup: &Setup, line: &[u8]) -> Result<LineStep, Mem>
-    ensures step { IfOk result (λ s. s ≡ line_step setup.now line.now) }
+pub fn line_step(alloc: Global, setup: &Setup, number: u64, line: &[u8]) -> Result<LineStep, Mem>
+    ensures step { IfOk result (λ s. s ≡ line_step setup.now number line.now) }
     ensures asked { IfOk result IsAsked }
 {
     if line.is_empty() {
@@ -229,5 +260,5 @@ pub fn line_step(alloc: Global, setup: &Setup, line: &[u8]) -> Result<LineStep, 
     if LINE_LIMIT < line.len() {
         return Ok(LineStep::Say(Bytes::from_slice(alloc, b"413\n")?));
     }
-    text_step(alloc, setup, line)
+    text_step(alloc, setup, number, line)
 }

@@ -6,6 +6,7 @@
 
 mod answering;
 mod call_lines;
+mod line_marks;
 mod replaying;
 mod reply_lines;
 

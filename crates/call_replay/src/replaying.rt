@@ -22,7 +22,10 @@ use histories::machine::Desk;
 use std::alloc::Global;
 use table_core::table_desk;
 
-/// Answers the lines that the source has left, at a desk that has seen nothing.
+// The line of the setup is the first of a file.
+const FIRST_CALL_LINE: u64 = 2;
+
+/// Answers the lines that the source has left, at a desk that has seen nothing. The first of them is the second line of its file.
 pub fn replay_lines<D: Desk<M = Gnap>, S: Source, O: Sink>(
     alloc: Global,
     setup: &Setup,
@@ -45,17 +48,19 @@ pub fn replay_lines<D: Desk<M = Gnap>, S: Source, O: Sink>(
     ensures took { EndsAt result reader.new.taken (S.told source.new) }
 {
     let mut line = Bytes::new(alloc);
+    let mut number = FIRST_CALL_LINE;
     'lines: loop {
         let end = reader.next_line(source, &mut line, LINE_LIMIT, true);
         if let Some(ended) = end.stopped() {
             return ended;
         }
-        match answer_line(alloc, setup, desk, out, &line) {
+        match answer_line(alloc, setup, desk, out, number, &line) {
             After::On => {
                 if end.is_last() {
                     return Ended::Done;
                 }
                 line = emptied(line);
+                number += 1;
             }
             After::Starved => return Ended::Memory,
             After::Cut => return Ended::WriteFault,

@@ -8,12 +8,12 @@ use Rattle.gnap_client.specs.declared.client.Took.{Took}
 use Rattle.gnap_client.specs.declared.client.Client.{Client}
 use Rattle.gnap_client.specs.declared.client.ClientFault.{ClientFault}
 use Rattle.gnap_client.specs.declared.client.ClientFault.TheVariants as faults
-use Rattle.client_scripts.specs.declared.deeds.Deed.{Deed}
+use Rattle.client_scripts.specs.declared.deeds.ScriptStep.{ScriptStep}
 use Rattle.client_scripts.specs.declared.line_faults.BadLine.{BadLine}
 use Rattle.client_scripts.specs.declared.line_faults.LineFault.{LineFault}
 use Rattle.client_scripts.specs.Deeds.{Called, said_line, is_fine, bad_line}
-use Rattle.client_scripts.specs.Lines.{line_deed}
-use Rattle.client_scripts.specs.Carrying.{CarriesDeed, unasked, sent}
+use Rattle.client_scripts.specs.Lines.{line_step}
+use Rattle.client_scripts.specs.Carrying.{CarriesStep, unasked, sent}
 use Rattle.client_scripts.specs.Starving.{is_memory}
 use Rattle.client_scripts.specs.Turns.{exchanges_of, HasScriptTurn}
 use Rattle.client_scripts.specs.Turns as turns
@@ -25,12 +25,12 @@ adds_exchange request before after (Ok reply) is = ap (λ (s : LinkState). s.ask
 adds_exchange request before after (Err link_faults.Failed) is = ap (λ (s : LinkState). s.asked) is.0
 adds_exchange request before after (Err link_faults.OutOfMemory) is = ap (λ (s : LinkState). s.asked) is ∙ sym (append-nil before.asked)
 
-pub bad_turn : (line text : List ℕ) (c : Client) (asked : List Exchange) (why : BadLine) → line_deed line ≡ Err (LineFault.BadLine why) → text ≡ bad_line
-    → HasScriptTurn line c c asked asked (Some (record { text = text; fine = false }))
-bad_turn line text c asked why none is = rw is (record { at = 0; exchanges = []; turn = turns.bad line 0 c why none; adds = sym (append-nil asked) })
+pub bad_turn : (number : ℕ) (line text : List ℕ) (c : Client) (asked : List Exchange) (why : BadLine)
+    → line_step number line ≡ Err (LineFault.BadLine why) → text ≡ bad_line → HasScriptTurn number line c c asked asked (Some (record { text = text; fine = false }))
+bad_turn number line text c asked why none is = rw is (record { at = 0; exchanges = []; turn = turns.bad line 0 c why none; adds = sym (append-nil asked) })
 
-pub starved_turn : (line : List ℕ) (c : Client) (asked : List Exchange) → HasScriptTurn line c c asked asked None
-starved_turn line c asked = record { at = 0; exchanges = []; turn = turns.starved line 0 c; adds = sym (append-nil asked) }
+pub starved_turn : (number : ℕ) (line : List ℕ) (c : Client) (asked : List Exchange) → HasScriptTurn number line c c asked asked None
+starved_turn number line c asked = record { at = 0; exchanges = []; turn = turns.starved line 0 c; adds = sym (append-nil asked) }
 
 not_memory : (fault : ClientFault) → is_memory (Err fault) ≡ false → fault ≢ faults.OutOfMemory
 not_memory fault some e = let both : true ≡ false = sym (ap (λ (f : ClientFault). is_memory (Err f)) e) ∙ some in absurd (cc)
@@ -38,33 +38,40 @@ not_memory fault some e = let both : true ≡ false = sym (ap (λ (f : ClientFau
 not_memory_answer : (answer : Result Took ClientFault) → is_memory answer ≡ false → answer ≢ Err faults.OutOfMemory
 not_memory_answer answer some e = let both : true ≡ false = sym (ap is_memory e) ∙ some in absurd (cc)
 
-module _ (line : List ℕ) (at : ℕ) (deed : Deed) (before after : LinkState) (old new : Client) (step : line_deed line ≡ Ok (at, deed)) where
+module _ (number : ℕ) (line : List ℕ) (step : ScriptStep) (before after : LinkState) (old new : Client) (says : line_step number line ≡ Ok step) where
   -- what was carried out was said
-  pub said_turn : (answer : Result Took ClientFault) (text : List ℕ) (fine : Bool) → CarriesDeed deed at before after old new answer
-      → is_memory answer ≡ false → text ≡ said_line deed new.received.state answer → fine ≡ is_fine answer
-      → HasScriptTurn line old new before.asked after.asked (Some (record { text = text; fine = fine }))
+  pub said_turn : (answer : Result Took ClientFault) (text : List ℕ) (fine : Bool) → CarriesStep step before after old new answer
+      → is_memory answer ≡ false → text ≡ said_line step.deed new.received.state answer → fine ≡ is_fine answer
+      → HasScriptTurn number line old new before.asked after.asked (Some (record { text = text; fine = fine }))
   said_turn _ text fine (unasked fault called same) some is good =
       let stays : new ≡ old = called.1 in
-      let C : Client → Type 0 = λ c. Called deed at old c (Err fault) in
-      let here : HasScriptTurn line old old before.asked before.asked (Some (record { text = said_line deed old.received.state (Err fault); fine = false })) =
-      record { at = at; exchanges = []; turn = turns.unasked line at deed step old fault (subst C stays called) (not_memory fault some); adds = sym (append-nil before.asked) } in
+      let C : Client → Type 0 = λ c. Called step old c (Err fault) in
+      let text_is : List ℕ = said_line step.deed old.received.state (Err fault) in
+      let here : HasScriptTurn number line old old before.asked before.asked (Some (record { text = text_is; fine = false })) =
+      record {
+        at = step.at;
+        exchanges = [];
+        turn = turns.unasked line step says old fault (subst C stays called) (not_memory fault some);
+        adds = sym (append-nil before.asked);
+      } in
       rw (is, good, same, stays) here
   said_turn _ text fine (sent between request called answer sends) some is good =
       rw (is, good) (record {
-        at = at;
+        at = step.at;
         exchanges = exchanges_of request sends.answer;
-        turn = turns.sent line at deed step old between new request called sends.answer answer sends.takes (not_memory_answer answer some);
+        turn = turns.sent line step says old between new request called sends.answer answer sends.takes (not_memory_answer answer some);
         adds = adds_exchange request before after sends.answer sends.exchanges;
       })
 
   -- or memory ran out
-  pub unsaid_turn : (answer : Result Took ClientFault) → CarriesDeed deed at before after old new answer → HasScriptTurn line old new before.asked after.asked None
+  pub unsaid_turn : (answer : Result Took ClientFault) → CarriesStep step before after old new answer
+      → HasScriptTurn number line old new before.asked after.asked None
   unsaid_turn _ (unasked fault called same) =
       let stays : new ≡ old = called.1 in
-      rw (same, stays) (starved_turn line old before.asked)
+      rw (same, stays) (starved_turn number line old before.asked)
   unsaid_turn _ (sent between request called answer sends) = record {
-    at = at;
+    at = step.at;
     exchanges = exchanges_of request sends.answer;
-    turn = turns.starved_later line at deed step old between new request called sends.answer answer sends.takes;
+    turn = turns.starved_later line step says old between new request called sends.answer answer sends.takes;
     adds = adds_exchange request before after sends.answer sends.exchanges;
   }

@@ -16,6 +16,7 @@ use Rattle.gnap_client.specs.declared.client.ClientFault.TheVariants as faults
 use Rattle.gnap_client.specs.declared.calls.DueRequest.{DueRequest}
 use Rattle.gnap_client.specs.Calls.{begin_call, poll_call, patch_call, cancel_call, finish_call, rotate_call, revoke_call, use_call, HasAsked}
 use Rattle.client_scripts.specs.declared.deeds.Deed.{Deed}
+use Rattle.client_scripts.specs.declared.deeds.ScriptStep.{ScriptStep}
 use Rattle.client_scripts.specs.declared.deeds.Deed.TheVariants.{Begin, Poll, Finish, Patch, Cancel, Rotate, Revoke, Use}
 
 -- ---- what is done
@@ -46,9 +47,9 @@ due_of (Rotate token) c = rotate_call c token
 due_of (Revoke token) c = revoke_call c token
 due_of (Use token method path) c = use_call c token method path
 
--- the client was asked for the request, at this moment
-abbrev pub Called : Deed → ℕ → Client → Client → Result (List ℕ) ClientFault → Type 0
-Called deed at old new result = HasAsked (due_of deed old) at old new result
+-- the client was asked for the request of this step
+abbrev pub Called : ScriptStep → Client → Client → Result (List ℕ) ClientFault → Type 0
+Called step old new result = HasAsked (due_of step.deed old) step.at step.nonce old new result
 
 -- ---- what is printed
 

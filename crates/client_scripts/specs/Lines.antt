@@ -1,4 +1,4 @@
--- A line of a script: the moment and the deed that it is, a JSON object (RFC 8259). Members of other names aren't looked at.
+-- A line of a script: the step that it is, a JSON object (RFC 8259). Members of other names aren't looked at.
 use Rattle.std.specs.Prelude.{ℕ, ◌&&◌, nat_le, Bool, true, false, not, List, Option, Some, None, Result, Ok, Err, option_and_then, is_some, if◌then◌else◌, codes}
 use Rattle.std.specs.Str.{bytes_eq, is_utf8}
 use Rattle.serde_json.specs.Data.{Data}
@@ -9,20 +9,24 @@ use Rattle.json_objects.specs.Reading.{◌>>=◌, or_fault}
 use Rattle.gnap_model.specs.declared.objects.GrantRequest.{GrantRequest}
 use Rattle.gnap_objects.specs.declared.fault.ObjectFault.{ObjectFault}
 use Rattle.gnap_objects.specs.Grants.{request_of}
+use Rattle.message_signature.specs.Marks.{is_nonce}
 use Rattle.signed_requests.specs.Forms.{is_method, is_target}
+use Rattle.signed_requests.specs.Nonces.{line_nonce}
 use Rattle.gnap_objects.specs.declared.fault.ObjectFault.TheVariants as object_faults
 use Rattle.client_scripts.specs.declared.line_faults.LineMember.{LineMember}
-use Rattle.client_scripts.specs.declared.line_faults.LineMember.TheVariants.{At, Do, Body, Hash, Reference, Token, Method, Path}
+use Rattle.client_scripts.specs.declared.line_faults.LineMember.TheVariants.{At, Nonce, Do, Body, Hash, Reference, Token, Method, Path}
 use Rattle.client_scripts.specs.declared.line_faults.BadLine.TheVariants as bad
 use Rattle.client_scripts.specs.declared.line_faults.LineFault.{LineFault}
 use Rattle.client_scripts.specs.declared.line_faults.LineFault.TheVariants as faults
 use Rattle.client_scripts.specs.declared.deeds.Deed.{Deed}
+use Rattle.client_scripts.specs.declared.deeds.ScriptStep.{ScriptStep}
 use Rattle.client_scripts.specs.declared.deeds.Deed.TheVariants.{Begin, Poll, Finish, Patch, Cancel, Rotate, Revoke, Use}
 
--- ---- members, which must be there
+-- ---- members, which must be there but for `nonce`
 
 abbrev pub name_of : LineMember → List ℕ
 name_of At = codes "at"
+name_of Nonce = codes "nonce"
 name_of Do = codes "do"
 name_of Body = codes "body"
 name_of Hash = codes "hash"
@@ -77,6 +81,15 @@ line_request modify d = line_member Body d >>= line_object >>= λ body. readable
 abbrev pub passing : (List ℕ → Bool) → LineMember → List ℕ → Result (List ℕ) LineFault
 passing test member s = if test s then Ok s else Err (wrong member)
 
+-- `nonce`: one that can be signed
+abbrev pub nonce_or : List ℕ → Option Data → Result (List ℕ) LineFault
+nonce_or default None = Ok default
+nonce_or default (Some m) = or_fault (wrong Nonce) (as_str m) >>= passing is_nonce Nonce
+
+-- where there is none, the nonce of the line's number
+unfoldable pub step_nonce : ℕ → ℕ → Data → Result (List ℕ) LineFault
+step_nonce at number d = nonce_or (line_nonce at number) (get (name_of Nonce) d)
+
 -- ---- the deed
 
 unfoldable pub finish_in : Data → Result Deed LineFault
@@ -104,21 +117,22 @@ deed_named word d =
     else if bytes_eq word (codes "use") then use_in d
     else Err (wrong Do)
 
-unfoldable pub object_deed : Data → Result (ℕ × Deed) LineFault
-object_deed d = do
+unfoldable pub object_step : ℕ → Data → Result ScriptStep LineFault
+object_step number d = do
   at ← line_moment d
+  nonce ← step_nonce at number d
   word ← line_text Do d
   deed ← deed_named word d
-  Ok (at, deed)
+  Ok (record { at = at; nonce = nonce; deed = deed })
 
 -- no JSON text in UTF-8
 abbrev pub not_json : LineFault
 not_json = faults.BadLine bad.NotJson
 
-abbrev pub read_deed : Option Data → Result (ℕ × Deed) LineFault
-read_deed None = Err not_json
-read_deed (Some d) = object_deed d
+abbrev pub read_step : ℕ → Option Data → Result ScriptStep LineFault
+read_step number None = Err not_json
+read_step number (Some d) = object_step number d
 
--- the moment and the deed of a line
-unfoldable pub line_deed : List ℕ → Result (ℕ × Deed) LineFault
-line_deed line = if is_utf8 line then read_deed (read line) else Err not_json
+-- what the line of this number says
+unfoldable pub line_step : ℕ → List ℕ → Result ScriptStep LineFault
+line_step number line = if is_utf8 line then read_step number (read line) else Err not_json

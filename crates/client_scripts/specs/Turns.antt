@@ -9,12 +9,12 @@ use Rattle.gnap_client.specs.declared.client.Client.{Client}
 use Rattle.gnap_client.specs.declared.client.ClientFault.{ClientFault}
 use Rattle.gnap_client.specs.declared.client.ClientFault.TheVariants as faults
 use Rattle.gnap_client.specs.Sending.{HasExchanged}
-use Rattle.client_scripts.specs.declared.deeds.Deed.{Deed}
+use Rattle.client_scripts.specs.declared.deeds.ScriptStep.{ScriptStep}
 use Rattle.client_scripts.specs.declared.line_faults.BadLine.{BadLine}
 use Rattle.client_scripts.specs.declared.line_faults.LineFault.{LineFault}
 use Rattle.client_scripts.specs.declared.turns.LineSaid.{LineSaid}
 use Rattle.client_scripts.specs.Deeds.{Called, said_line, is_fine, bad_line}
-use Rattle.client_scripts.specs.Lines.{line_deed}
+use Rattle.client_scripts.specs.Lines.{line_step}
 
 -- What a line did: the client before and after it, the exchanges that were made, and whether the line was ok.
 pub record ScriptEntry : Type 0 where
@@ -42,25 +42,26 @@ turn_of line at before after exchanges bytes fine on = record {
   on = on;
 }
 
--- A line's turn is one of these.
-pub data IsScriptTurn : ScriptTurn → Type 0 where
+-- The turn of the line of this number is one of these. The first line of a script is number 1, and each line counts.
+pub data IsScriptTurn (number : ℕ) : ScriptTurn → Type 0 where
   -- the line isn't one of a script
-  bad : (line : List ℕ) → (at : ℕ) → (c : Client) → (why : BadLine) → line_deed line ≡ Err (LineFault.BadLine why) → IsScriptTurn (turn_of line at c c [] bad_line false true)
+  bad : (line : List ℕ) → (at : ℕ) → (c : Client) → (why : BadLine) → line_step number line ≡ Err (LineFault.BadLine why)
+      → IsScriptTurn number (turn_of line at c c [] bad_line false true)
   -- the client had no request to send, and stays as it was
-  unasked : (line : List ℕ) → (at : ℕ) → (deed : Deed) → line_deed line ≡ Ok (at, deed)
-      → (c : Client) → (fault : ClientFault) → Called deed at c c (Err fault) → fault ≢ faults.OutOfMemory
-      → IsScriptTurn (turn_of line at c c [] (said_line deed c.received.state (Err fault)) false true)
+  unasked : (line : List ℕ) → (step : ScriptStep) → line_step number line ≡ Ok step
+      → (c : Client) → (fault : ClientFault) → Called step c c (Err fault) → fault ≢ faults.OutOfMemory
+      → IsScriptTurn number (turn_of line step.at c c [] (said_line step.deed c.received.state (Err fault)) false true)
   -- its request was exchanged, once, and the reply taken
-  sent : (line : List ℕ) → (at : ℕ) → (deed : Deed) → line_deed line ≡ Ok (at, deed)
-      → (old between new : Client) → (request : List ℕ) → Called deed at old between (Ok request)
+  sent : (line : List ℕ) → (step : ScriptStep) → line_step number line ≡ Ok step
+      → (old between new : Client) → (request : List ℕ) → Called step old between (Ok request)
       → (reply : Result (List ℕ) LinkFault) → (answer : Result Took ClientFault) → HasExchanged reply between new answer → answer ≢ Err faults.OutOfMemory
-      → IsScriptTurn (turn_of line at old new (exchanges_of request reply) (said_line deed new.received.state answer) (is_fine answer) true)
+      → IsScriptTurn number (turn_of line step.at old new (exchanges_of request reply) (said_line step.deed new.received.state answer) (is_fine answer) true)
   -- memory ran out: before a request was made, or once it was
-  starved : (line : List ℕ) → (at : ℕ) → (c : Client) → IsScriptTurn (turn_of line at c c [] [] false false)
-  starved_later : (line : List ℕ) → (at : ℕ) → (deed : Deed) → line_deed line ≡ Ok (at, deed)
-      → (old between new : Client) → (request : List ℕ) → Called deed at old between (Ok request)
+  starved : (line : List ℕ) → (at : ℕ) → (c : Client) → IsScriptTurn number (turn_of line at c c [] [] false false)
+  starved_later : (line : List ℕ) → (step : ScriptStep) → line_step number line ≡ Ok step
+      → (old between new : Client) → (request : List ℕ) → Called step old between (Ok request)
       → (reply : Result (List ℕ) LinkFault) → (answer : Result Took ClientFault) → HasExchanged reply between new answer
-      → IsScriptTurn (turn_of line at old new (exchanges_of request reply) [] false false)
+      → IsScriptTurn number (turn_of line step.at old new (exchanges_of request reply) [] false false)
 
 -- ---- one line over a link
 
@@ -77,11 +78,11 @@ abbrev pub was_said : Option LineSaid → Bool
 was_said None = false
 was_said (Some said) = true
 
--- A line had its turn over a link, which had these exchanges before and those after it.
-pub record HasScriptTurn (line : List ℕ) (old new : Client) (asked asked_now : List Exchange) (result : Option LineSaid) : Type 0 where
+-- The line of this number had its turn over a link, which had these exchanges before and those after it.
+pub record HasScriptTurn (number : ℕ) (line : List ℕ) (old new : Client) (asked asked_now : List Exchange) (result : Option LineSaid) : Type 0 where
   pub at : ℕ
   pub exchanges : List Exchange
-  pub turn : IsScriptTurn (turn_of line at old new exchanges (bytes_said result) (fine_said result) (was_said result))
+  pub turn : IsScriptTurn number (turn_of line at old new exchanges (bytes_said result) (fine_said result) (was_said result))
   pub adds : asked_now ≡ asked ++ exchanges
 
 -- ---- all lines

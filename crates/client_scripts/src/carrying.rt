@@ -1,9 +1,10 @@
 //! Deeds, carried out over a link, and what is printed for them.
-ghost use Rattle.std.specs.Prelude.{◌≡◌, ◌<◌, ◌^◌, ◌++◌, codes, IfOk, OnOk};
+ghost use Rattle.std.specs.Prelude.{◌≡◌, ◌<◌, ◌^◌, ◌++◌, true, codes, IfOk, OnOk};
+ghost use Rattle.message_signature.specs.Marks.{is_nonce};
 ghost use Rattle.client_scripts.specs.Deeds.{DeedFits, Called, word_of, state_text, ok_text, fault_text, said_line};
-ghost use Rattle.client_scripts.specs.Carrying.{CarriesDeed};
+ghost use Rattle.client_scripts.specs.Carrying.{CarriesStep};
 
-use crate::deeds::Deed;
+use crate::deeds::{Deed, ScriptStep};
 use bytes_and_lists::bytes::Bytes;
 use bytes_and_lists::memory::Mem;
 use gnap_client::{Client, ClientFault, State, Took};
@@ -11,41 +12,44 @@ use gnap_io::link::Link;
 use itoa::Buffer;
 use std::alloc::Global;
 
-fn call(client: &mut Client, at: u64, deed: &Deed) -> Result<Bytes, ClientFault>
-    requires at { at < 10 ^ 15 }
-    requires deed { DeedFits deed.now }
-    ensures { Called deed.now at client.old client.new result }
+fn call(client: &mut Client, step: &ScriptStep) -> Result<Bytes, ClientFault>
+    requires at { step.now.at < 10 ^ 15 }
+    requires nonce { is_nonce step.now.nonce ≡ true }
+    requires deed { DeedFits step.now.deed }
+    ensures { Called step.now client.old client.new result }
 {
-    match deed {
-        Deed::Begin(request) => client.begin(at, request),
-        Deed::Poll => client.poll(at),
+    let at = step.at;
+    let nonce = &step.nonce;
+    match &step.deed {
+        Deed::Begin(request) => client.begin(at, nonce, request),
+        Deed::Poll => client.poll(at, nonce),
         Deed::Finish { hash, reference } => {
-            client.finish(at, hash.as_slice(), reference.as_slice())
+            client.finish(at, nonce, hash.as_slice(), reference.as_slice())
         }
-        Deed::Patch(request) => client.patch(at, request),
-        Deed::Cancel => client.cancel(at),
-        Deed::Rotate(token) => client.rotate(at, *token),
-        Deed::Revoke(token) => client.revoke(at, *token),
+        Deed::Patch(request) => client.patch(at, nonce, request),
+        Deed::Cancel => client.cancel(at, nonce),
+        Deed::Rotate(token) => client.rotate(at, nonce, *token),
+        Deed::Revoke(token) => client.revoke(at, nonce, *token),
         Deed::Use {
             token,
             method,
             path,
-        } => client.use_token(at, *token, method.as_slice(), path.as_slice()),
+        } => client.use_token(at, nonce, *token, method.as_slice(), path.as_slice()),
     }
 }
 
-/// Has the client do a deed at this moment, in seconds since 1970: it makes the request, exchanges it once, and takes the reply.
+/// Has the client do what a line says: it makes the request, exchanges it once, and takes the reply.
 pub fn carry_out<L: Link>(
     client: &mut Client,
     link: &mut L,
-    at: u64,
-    deed: &Deed,
+    step: &ScriptStep,
 ) -> Result<Took, ClientFault>
-    requires at { at < 10 ^ 15 }
-    requires deed { DeedFits deed.now }
-    ensures { CarriesDeed deed.now at (L.link link.old) (L.link link.new) client.old client.new result }
+    requires at { step.now.at < 10 ^ 15 }
+    requires nonce { is_nonce step.now.nonce ≡ true }
+    requires deed { DeedFits step.now.deed }
+    ensures { CarriesStep step.now (L.link link.old) (L.link link.new) client.old client.new result }
 {
-    match call(client, at, deed) {
+    match call(client, step) {
         Ok(request) => client.send(link, request.as_slice()),
         Err(fault) => Err(fault),
     }

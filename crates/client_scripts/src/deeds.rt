@@ -1,4 +1,4 @@
-//! What a line has the client do.
+//! What a line says.
 use bytes_and_lists::bytes::Bytes;
 use gnap_model::objects::GrantRequest;
 
@@ -20,4 +20,14 @@ pub enum Deed {
         method: Bytes,
         path: Bytes,
     },
+}
+
+/// What a line says: a deed, its moment, and the nonce with which its request is signed.
+#[derive(Drop)]
+pub struct ScriptStep {
+    /// In seconds since 1970.
+    pub at: u64,
+    /// 1 to 64 letters, digits, `.`, `_` or `-`.
+    pub nonce: Bytes,
+    pub deed: Deed,
 }

@@ -11,7 +11,7 @@ mod line_faults;
 mod lines;
 pub mod turns;
 
-pub use deeds::Deed;
+pub use deeds::{Deed, ScriptStep};
 pub use line_faults::{BadLine, LineFault, LineMember};
 pub use lines::read_line;
 pub use turns::{LineSaid, script_line};

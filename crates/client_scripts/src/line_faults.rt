@@ -10,6 +10,7 @@ use gnap_objects::ObjectFault;
 #[derive(Clone, Copy)]
 pub enum LineMember {
     At,
+    Nonce,
     Do,
     Body,
     Hash,
@@ -26,6 +27,7 @@ impl LineMember {
     {
         match self {
             LineMember::At => "at",
+            LineMember::Nonce => "nonce",
             LineMember::Do => "do",
             LineMember::Body => "body",
             LineMember::Hash => "hash",

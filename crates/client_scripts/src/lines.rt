@@ -7,21 +7,23 @@ ghost use Rattle.serde_json.specs.Read.{max_depth};
 ghost use Rattle.serde_json.specs.View.{view};
 ghost use Rattle.json_objects.specs.Bodies.{IsBody};
 ghost use Rattle.json_objects.specs.Reading.{Gives};
+ghost use Rattle.message_signature.specs.Marks.{is_nonce};
 ghost use Rattle.gnap_objects.specs.Grants.{request_of};
 ghost use Rattle.signed_requests.specs.Forms.{is_method, is_target};
 ghost use Rattle.client_scripts.specs.declared.line_faults.LineFault.TheVariants.{OutOfMemory};
 ghost use Rattle.client_scripts.specs.declared.line_faults.LineMember.TheVariants as forms;
 ghost use Rattle.client_scripts.specs.Deeds.{CanBeShown, DeedFits};
-ghost use Rattle.client_scripts.specs.Lines.{line_member, line_text, line_number, line_moment, line_object, readable_request, line_request, passing, finish_in, use_in, deed_named, object_deed, line_deed};
+ghost use Rattle.client_scripts.specs.Lines.{line_member, line_text, line_number, line_moment, line_object, readable_request, line_request, passing, step_nonce, finish_in, use_in, deed_named, object_step, line_step};
 
-use crate::deeds::Deed;
+use crate::deeds::{Deed, ScriptStep};
 use crate::line_faults::{BadLine, LineFault, LineMember, missing, wrong};
 use bytes_and_lists::bytes::Bytes;
 use gnap_model::objects::GrantRequest;
 use gnap_objects::read_grant;
 use json_objects::{has_fraction, member_within};
+use message_signature::is_nonce;
 use serde_json::Value;
-use signed_requests::{is_method, is_target};
+use signed_requests::{is_method, is_target, line_nonce};
 use std::alloc::Global;
 
 // The last second of the year 9999, in seconds since 1970.
@@ -73,6 +75,32 @@ fn line_moment(value: &Value) -> Result<u64, LineFault>
         Ok(at)
     } else {
         Err(wrong(LineMember::At))
+    }
+}
+
+fn nonce_in(text: Bytes) -> Result<Bytes, LineFault>
+    ensures value { Gives OutOfMemory (λ b. b) result (passing is_nonce forms.Nonce text) }
+    ensures is { IfOk result (λ b. is_nonce b ≡ true) }
+{
+    if is_nonce(text.as_slice()) {
+        Ok(text)
+    } else {
+        Err(wrong(LineMember::Nonce))
+    }
+}
+
+// The nonce of the line of this number.
+#[tactic(auto, unfolding(crate::specs::Lines::step_nonce))]
+fn step_nonce(alloc: Global, value: &Value, at: u64, number: u64) -> Result<Bytes, LineFault>
+    ensures value { Gives OutOfMemory (λ b. b) result (step_nonce at number (view value.now)) }
+    ensures is { IfOk result (λ b. is_nonce b ≡ true) }
+{
+    let Some(found) = value.get(LineMember::Nonce.name()) else {
+        return Ok(line_nonce(alloc, at, number)?);
+    };
+    match found.as_str() {
+        Some(text) => nonce_in(Bytes::from_slice(alloc, text.as_bytes())?),
+        None => Err(wrong(LineMember::Nonce)),
     }
 }
 
@@ -191,33 +219,37 @@ fn deed_named(alloc: Global, word: &Bytes, value: &Value) -> Result<Deed, LineFa
     }
 }
 
-#[tactic(auto, unfolding(crate::specs::Lines::object_deed))]
-fn object_deed(alloc: Global, value: &Value) -> Result<(u64, Deed), LineFault>
+#[tactic(auto, unfolding(crate::specs::Lines::object_step))]
+fn object_step(alloc: Global, number: u64, value: &Value) -> Result<ScriptStep, LineFault>
     requires { depth (view value.now) ≤ max_depth }
-    ensures value { Gives OutOfMemory (λ s. s) result (object_deed (view value.now)) }
-    ensures in_time { IfOk result (λ s. s.0 ≤ 253402300799) }
-    ensures fits { IfOk result (λ s. DeedFits s.1) }
+    ensures value { Gives OutOfMemory (λ s. s) result (object_step number (view value.now)) }
+    ensures in_time { IfOk result (λ s. s.at ≤ 253402300799) }
+    ensures nonce { IfOk result (λ s. is_nonce s.nonce ≡ true) }
+    ensures fits { IfOk result (λ s. DeedFits s.deed) }
 {
     let at = line_moment(value)?;
+    let nonce = step_nonce(alloc, value, at, number)?;
     let word = line_text(alloc, value, LineMember::Do)?;
     let deed = deed_named(alloc, &word, value)?;
-    Ok((at, deed))
+    Ok(ScriptStep { at, nonce, deed })
 }
 
-/// The moment, in seconds since 1970, and the deed of a line. `BadLine` comes exactly where it has none, with the first fault in the order in
-/// which the members are named here.
+/// What the line of this number, counted from 1, says. `BadLine` comes exactly where it says nothing, with the first fault in the order in which the
+/// members are named here.
 ///
 /// A line is a JSON object with `at`, at most 253,402,300,799, `do`, and what the deed takes: `begin` and `patch` take `body`, an object that is a grant
 /// request or a modification (`gnap_objects::read_grant`); `finish` takes the strings `hash` and `reference`; `rotate` and `revoke` take `token`, a
-/// number; `use` takes `token`, `method` and `path` (`signed_requests::forms`). Other members aren't looked at.
-#[tactic(auto, using(crate::proofs::LineTexts::text_deed, crate::proofs::LineTexts::no_text))]
-pub fn read_line(alloc: Global, line: &[u8]) -> Result<(u64, Deed), LineFault>
-    ensures value { Gives OutOfMemory (λ s. s) result (line_deed line.now) }
-    ensures in_time { IfOk result (λ s. s.0 ≤ 253402300799) }
-    ensures fits { IfOk result (λ s. DeedFits s.1) }
+/// number; `use` takes `token`, `method` and `path` (`signed_requests::forms`). Behind `at` it may have `nonce`, a string of 1 to 64 letters, digits, `.`,
+/// `_` or `-`; a line without it has the nonce of its number (`signed_requests::line_nonce`). Other members aren't looked at.
+#[tactic(auto, using(crate::proofs::LineTexts::text_step, crate::proofs::LineTexts::no_text))]
+pub fn read_line(alloc: Global, number: u64, line: &[u8]) -> Result<ScriptStep, LineFault>
+    ensures value { Gives OutOfMemory (λ s. s) result (line_step number line.now) }
+    ensures in_time { IfOk result (λ s. s.at ≤ 253402300799) }
+    ensures nonce { IfOk result (λ s. is_nonce s.nonce ≡ true) }
+    ensures fits { IfOk result (λ s. DeedFits s.deed) }
 {
     match Value::from_slice(alloc, line) {
-        Ok(value) => object_deed(alloc, &value),
+        Ok(value) => object_step(alloc, number, &value),
         Err(e) => if e.is_memory() {
             Err(LineFault::OutOfMemory)
         } else {

@@ -46,17 +46,18 @@ fn is_fine(answer: &Result<Took, ClientFault>) -> bool
     }
 }
 
-/// Reads the line, has the client do what it says, and answers what is printed. None where memory ran out.
+/// Reads the line of this number, counted from 1, has the client do what it says, and answers what is printed. None where memory ran out.
 #[tactic(auto, using(crate::proofs::LineTurns::bad_turn, crate::proofs::LineTurns::starved_turn))]
 pub fn script_line<L: Link>(
     alloc: Global,
     client: &mut Client,
     link: &mut L,
+    number: u64,
     line: &[u8],
 ) -> Option<LineSaid>
-    ensures { HasScriptTurn line.now client.old client.new (L.link link.old).asked (L.link link.new).asked result }
+    ensures { HasScriptTurn number line.now client.old client.new (L.link link.old).asked (L.link link.new).asked result }
 {
-    let (at, deed) = match read_line(alloc, line) {
+    let step = match read_line(alloc, number, line) {
         Ok(step) => step,
         Err(LineFault::BadLine(_)) => match Bytes::from_slice(alloc, b"bad line\n") {
             Ok(text) => return Some(LineSaid { text, fine: false }),
@@ -64,11 +65,11 @@ pub fn script_line<L: Link>(
         },
         Err(LineFault::OutOfMemory) => return None,
     };
-    let answer = carry_out(client, link, at, &deed);
+    let answer = carry_out(client, link, &step);
     if is_memory(&answer) {
         return None;
     }
-    match said_line(alloc, &deed, client.state(), &answer) {
+    match said_line(alloc, &step.deed, client.state(), &answer) {
         Ok(text) => Some(LineSaid {
             text,
             fine: is_fine(&answer),

@@ -11,7 +11,7 @@ use Rattle.command_inputs.specs.declared.ended.Ended.{Ended}
 use Rattle.command_inputs.specs.declared.ended.Ended.TheVariants.{Done, Failed, WriteFault, Memory, TooLong}
 use Rattle.command_inputs.specs.Lines.{IsLine, lines_of, whole_lines}
 use Rattle.command_inputs.specs.Reading.{Came}
-use Rattle.command_inputs.specs.LineRuns.{EndsAs, GoesOn, RunsLines, ended_lines, AreLines}
+use Rattle.command_inputs.specs.LineRuns.{EachFrom, EndsAs, GoesOn, RunsLines, ended_lines, AreLines}
 use Rattle.command_inputs.proofs.Reading.{came-none, came-more}
 use Rattle.command_inputs.proofs.LineTexts.{line_last, lines_ended, whole_ended, whole_none, ended-next, lines-next}
 
@@ -36,6 +36,13 @@ module _ {E : Type 0} where
   pub on-next : (turns : List (Turn (List ℕ) E)) (turn : Turn (List ℕ) E) → AllOn turns → turn.on ≡ true → AllOn (turns ++ turn ∷ [])
   on-next [] turn all on = (on, tt)
   on-next (first ∷ turns) turn all on = (all.0, on-next turns turn all.1 on)
+
+  pub each_from-next : (P : ℕ → Turn (List ℕ) E → Type 0) (number : ℕ) (turns : List (Turn (List ℕ) E)) (turn : Turn (List ℕ) E)
+      → EachFrom number P turns → P (number + length turns) turn → EachFrom number P (turns ++ turn ∷ [])
+  each_from-next P number [] turn each is = let same : number + 0 ≡ number = omega arith in (subst (λ (n : ℕ). P n turn) same is, tt)
+  each_from-next P number (first ∷ turns) turn each is =
+      let place : number + length (first ∷ turns) ≡ number + 1 + length turns = omega arith in
+      (each.0, each_from-next P (number + 1) turns turn each.1 (subst (λ (n : ℕ). P n turn) place is))
 
   module _ (Had : List (Turn (List ℕ) E) → Type 0) (held held1 : List ℕ) (taken taken1 : ℕ) (s s1 o o1 : Told)
       (goes : GoesOn Had held held1 taken taken1 s s1 o o1) where

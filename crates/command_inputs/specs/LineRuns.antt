@@ -57,6 +57,11 @@ AreLines [] = Unit {0}
 AreLines (line ∷ lines) = IsLine line × AreLines lines
 
 module _ {E : Type 0} where
+  -- each of the turns is so, by its number; the first has this one
+  abbrev pub EachFrom : ℕ → (ℕ → Turn (List ℕ) E → Type 0) → List (Turn (List ℕ) E) → Type 0
+  EachFrom number P [] = Unit {0}
+  EachFrom number P (turn ∷ turns) = P number turn × EachFrom (number + 1) P turns
+
   -- How lines ended, by their turns, the lines that were read whole, the lines that had no turn, and what was printed. Memory ran out at the last
   -- of the turns, or at none. Where the reading failed, or came to the limit, all lines that were read whole had had their turns.
   abbrev pub EndsAs : Ended → List (Turn (List ℕ) E) → List (List ℕ) → List (List ℕ) → List ℕ → Type 0

@@ -6,14 +6,14 @@ use Rattle.histories.specs.History.{entry_of, places}
 use Rattle.histories.specs.Steps.{Enters}
 use Rattle.histories.specs.Whole.{own_of}
 use Rattle.histories.proofs.OwnEntries.{own-next, places_own}
-use Rattle.gnap_model.specs.declared.calls.Call.{Call}
 use Rattle.gnap_model.specs.declared.calls.Reply.{Reply}
 use Rattle.gnap_model.specs.declared.objects.Setup.{Setup}
+use Rattle.signed_calls.specs.declared.signed.Signed.{Signed}
 use Rattle.grant_machine.specs.Gnap.{gnap, GnapEntry}
 use Rattle.desk_load.specs.declared.tally.Tally.{Tally}
-use Rattle.desk_load.specs.LoadCalls.{opening_call, question_about, rotation_of, cancellation_of, calls_after, calls_through}
+use Rattle.desk_load.specs.LoadCalls.{load_moment, marked, unmarked, opening_place, rotation_place, cancellation_place, opening_call, question_about, rotation_of, cancellation_of, calls_after, calls_through}
 use Rattle.desk_load.specs.Tallies.{count_by, one_if_active, one_if_inactive, one_if_done, tally_of, tally_of_reply, none_counted, Adds}
-use Rattle.desk_load.specs.Loads.{load_moment, HasRoom, Grows, Asks, PutsThrough, EndsGrant, IsPutThrough, IsPart, IsShare}
+use Rattle.desk_load.specs.Loads.{HasRoom, Grows, Asks, PutsThrough, EndsGrant, IsPutThrough, IsPart, IsShare}
 
 count-append : (one : Reply → ℕ) (h k : List GnapEntry) → count_by one (h ++ k) ≡ count_by one h + count_by one k
 count-append one [] k = omega arith
@@ -55,7 +55,7 @@ grows-then n n' seen seen' h t u v es fs same first second =
     }
 
 -- a call that was entered and counted
-pub asks-entered : (rules : Setup) (n : ℕ) (h : List GnapEntry) (draw : List ℕ) (call : Call) (reply : Reply) (seen : List GnapEntry → Type 0) (t u : Tally)
+pub asks-entered : (rules : Setup) (n : ℕ) (h : List GnapEntry) (draw : List ℕ) (call : Signed) (reply : Reply) (seen : List GnapEntry → Type 0) (t u : Tally)
     → Enters gnap rules n h 1000000 draw call reply seen → Adds (tally_of_reply reply) t u → Asks call reply n seen h t u
 asks-entered rules n h draw call reply seen t u e counted =
     let made : GnapEntry = entry_of gnap rules (h ++ e.others) n 1000000 draw call in
@@ -80,7 +80,7 @@ less-room n n' seen m m' same less room =
     let left = room.2 in
     (room.0, room.1, subst (λ k. length (places k room.0) + m' < 2 ^ 52) (sym same) (omega (arith, left, less)))
 
-pub room-after : (n n' : ℕ) (seen seen' : List GnapEntry → Type 0) (call : Call) (reply : Reply) (t u : Tally) (m : ℕ) → n' ≡ n
+pub room-after : (n n' : ℕ) (seen seen' : List GnapEntry → Type 0) (call : Signed) (reply : Reply) (t u : Tally) (m : ℕ) → n' ≡ n
     → HasRoom n seen (m + 1) → ((h : List GnapEntry) → seen h → Asks call reply n seen' h t u) → HasRoom n' seen' m
 room-after n n' seen seen' call reply t u m same room asks =
     let a = asks room.0 room.1 in
@@ -101,36 +101,36 @@ none_at : All (λ (x : GnapEntry). x.moment ≡ load_moment) []
 none_at k d lt = absurd (let lt' : k < 0 = lt in omega (arith, lt'))
 
 -- the number that two desks have
-asks-of : (call : Call) (reply : Reply) (n n' : ℕ) (seen : List GnapEntry → Type 0) (h : List GnapEntry) (t u : Tally) → n' ≡ n → Asks call reply n' seen h t u → Asks call reply n seen h t u
+asks-of : (call : Signed) (reply : Reply) (n n' : ℕ) (seen : List GnapEntry → Type 0) (h : List GnapEntry) (t u : Tally) → n' ≡ n → Asks call reply n' seen h t u → Asks call reply n seen h t u
 asks-of call reply n n' seen h t u same asks = subst (λ k. Asks call reply k seen h t u) same asks
 
-pub not_ended : (opened rotated : Reply) (n : ℕ) (seen : List GnapEntry → Type 0) (h : List GnapEntry) (t : Tally) → seen h
-    → PutsThrough (EndsGrant false opened rotated) n seen h t t
-not_ended opened rotated n seen h t s = record { entries = []; is_done = record { calls = refl; moments = none_at }; grows = grows-none n seen h t s }
+pub not_ended : (grant : ℕ) (opened rotated : Reply) (n : ℕ) (seen : List GnapEntry → Type 0) (h : List GnapEntry) (t : Tally) → seen h
+    → PutsThrough (EndsGrant false grant opened rotated) n seen h t t
+not_ended grant opened rotated n seen h t s = record { entries = []; is_done = record { calls = refl; moments = none_at }; grows = grows-none n seen h t s }
 
-module _ (n n1 n2 : ℕ) (s0 s1 s2 : List GnapEntry → Type 0) (t0 t1 t2 : Tally) (opened rotated r1 r2 : Reply) (same1 : n1 ≡ n)
-    (ask1 : (h : List GnapEntry) → s0 h → Asks (cancellation_of opened) r1 n s1 h t0 t1)
-    (ask2 : (h : List GnapEntry) → s1 h → Asks (question_about rotated) r2 n1 s2 h t1 t2) where
-  pub ended : (h : List GnapEntry) → s0 h → PutsThrough (EndsGrant true opened rotated) n s2 h t0 t2
+module _ (grant n n1 n2 : ℕ) (s0 s1 s2 : List GnapEntry → Type 0) (t0 t1 t2 : Tally) (opened rotated r1 r2 : Reply) (same1 : n1 ≡ n)
+    (ask1 : (h : List GnapEntry) → s0 h → Asks (marked grant cancellation_place (cancellation_of opened)) r1 n s1 h t0 t1)
+    (ask2 : (h : List GnapEntry) → s1 h → Asks (unmarked (question_about rotated)) r2 n1 s2 h t1 t2) where
+  pub ended : (h : List GnapEntry) → s0 h → PutsThrough (EndsGrant true grant opened rotated) n s2 h t0 t2
   ended h s =
       let a = ask1 h s in
-      let b = asks-of (question_about rotated) r2 n n1 s2 a.grows.history t1 t2 same1 (ask2 a.grows.history a.grows.seen_now) in
-      let calls : map (λ e. e.call) (a.entry ∷ b.entry ∷ []) ≡ calls_after true opened rotated = rw (a.call_is, b.call_is) refl in
+      let b = asks-of (unmarked (question_about rotated)) r2 n n1 s2 a.grows.history t1 t2 same1 (ask2 a.grows.history a.grows.seen_now) in
+      let calls : map (λ e. e.call) (a.entry ∷ b.entry ∷ []) ≡ calls_after true grant opened rotated = rw (a.call_is, b.call_is) refl in
       record {
         entries = a.entry ∷ b.entry ∷ [];
         is_done = record { calls = calls; moments = at_moment a.entry (b.entry ∷ []) a.moment_is (at_moment b.entry [] b.moment_is none_at) };
         grows = grows-then n n s1 s2 h t0 t1 t2 (a.entry ∷ []) (b.entry ∷ []) refl a.grows b.grows;
       }
 
-module _ (n n1 n2 n3 n4 n5 : ℕ) (s0 s1 s2 s3 s4 s5 s6 : List GnapEntry → Type 0) (t0 t1 t2 t3 t4 t5 t6 : Tally) (ends : Bool) (opened r2 rotated r4 r5 : Reply)
+module _ (grant n n1 n2 n3 n4 n5 : ℕ) (s0 s1 s2 s3 s4 s5 s6 : List GnapEntry → Type 0) (t0 t1 t2 t3 t4 t5 t6 : Tally) (ends : Bool) (opened r2 rotated r4 r5 : Reply)
     (same1 : n1 ≡ n) (same2 : n2 ≡ n1) (same3 : n3 ≡ n2) (same4 : n4 ≡ n3) (same5 : n5 ≡ n4)
-    (ask1 : (h : List GnapEntry) → s0 h → Asks opening_call opened n s1 h t0 t1)
-    (ask2 : (h : List GnapEntry) → s1 h → Asks (question_about opened) r2 n1 s2 h t1 t2)
-    (ask3 : (h : List GnapEntry) → s2 h → Asks (rotation_of opened) rotated n2 s3 h t2 t3)
-    (ask4 : (h : List GnapEntry) → s3 h → Asks (question_about opened) r4 n3 s4 h t3 t4)
-    (ask5 : (h : List GnapEntry) → s4 h → Asks (question_about rotated) r5 n4 s5 h t4 t5)
-    (end : (h : List GnapEntry) → s5 h → PutsThrough (EndsGrant ends opened rotated) n5 s6 h t5 t6) where
-  pub put_through : (h : List GnapEntry) → s0 h → PutsThrough (IsPutThrough ends) n s6 h t0 t6
+    (ask1 : (h : List GnapEntry) → s0 h → Asks (marked grant opening_place opening_call) opened n s1 h t0 t1)
+    (ask2 : (h : List GnapEntry) → s1 h → Asks (unmarked (question_about opened)) r2 n1 s2 h t1 t2)
+    (ask3 : (h : List GnapEntry) → s2 h → Asks (marked grant rotation_place (rotation_of opened)) rotated n2 s3 h t2 t3)
+    (ask4 : (h : List GnapEntry) → s3 h → Asks (unmarked (question_about opened)) r4 n3 s4 h t3 t4)
+    (ask5 : (h : List GnapEntry) → s4 h → Asks (unmarked (question_about rotated)) r5 n4 s5 h t4 t5)
+    (end : (h : List GnapEntry) → s5 h → PutsThrough (EndsGrant ends grant opened rotated) n5 s6 h t5 t6) where
+  pub put_through : (h : List GnapEntry) → s0 h → PutsThrough (IsPutThrough ends grant) n s6 h t0 t6
   put_through h s =
       let e1 = ask1 h s in
       let e2 = asks-of _ _ n n1 _ _ _ _ same1 (ask2 e1.grows.history e1.grows.seen_now) in
@@ -142,7 +142,7 @@ module _ (n n1 n2 n3 n4 n5 : ℕ) (s0 s1 s2 s3 s4 s5 s6 : List GnapEntry → Typ
       let g3 = grows-then n n _ _ h t0 t2 t3 (e1.entry ∷ e2.entry ∷ []) (e3.entry ∷ []) refl g2 e3.grows in
       let g4 = grows-then n n _ _ h t0 t3 t4 (e1.entry ∷ e2.entry ∷ e3.entry ∷ []) (e4.entry ∷ []) refl g3 e4.grows in
       let g5 = grows-then n n _ _ h t0 t4 t5 (e1.entry ∷ e2.entry ∷ e3.entry ∷ e4.entry ∷ []) (e5.entry ∷ []) refl g4 e5.grows in
-      let calls : map (λ e. e.call) (e1.entry ∷ e2.entry ∷ e3.entry ∷ e4.entry ∷ e5.entry ∷ more.entries) ≡ calls_through ends opened rotated
+      let calls : map (λ e. e.call) (e1.entry ∷ e2.entry ∷ e3.entry ∷ e4.entry ∷ e5.entry ∷ more.entries) ≡ calls_through ends grant opened rotated
       = rw (e1.call_is, e2.call_is, e3.call_is, e4.call_is, e5.call_is, more.is_done.calls) refl in
       record {
         entries = e1.entry ∷ e2.entry ∷ e3.entry ∷ e4.entry ∷ e5.entry ∷ more.entries;
@@ -193,6 +193,6 @@ module _ (P : List GnapEntry → Type 0) (n n' : ℕ) (same : n ≡ n') (seen : 
       (subst P (sym here) p.is_done, subst (λ l. Adds (tally_of l) none_counted t) (sym here) p.grows.counted)
 
 -- the same of a call that is made by this definition
-pub asks-as : (made call : Call) (reply : Reply) (n : ℕ) (seen seen' : List GnapEntry → Type 0) (t u : Tally) → made ≡ call
+pub asks-as : (made call : Signed) (reply : Reply) (n : ℕ) (seen seen' : List GnapEntry → Type 0) (t u : Tally) → made ≡ call
     → ((h : List GnapEntry) → seen h → Asks made reply n seen' h t u) → (h : List GnapEntry) → seen h → Asks call reply n seen' h t u
 asks-as made call reply n seen seen' t u same asks h s = subst (λ k. Asks k reply n seen' h t u) same (asks h s)

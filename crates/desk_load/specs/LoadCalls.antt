@@ -1,5 +1,6 @@
 -- The setup of a load, and the calls that put a grant through.
-use Rattle.std.specs.Prelude.{ℕ, Bool, true, false, List, [], ◌∷◌, codes, Option, Some, None}
+use Rattle.std.specs.Prelude.{ℕ, Bool, true, false, List, [], ◌∷◌, ◌++◌, codes, Option, Some, None}
+use Rattle.std.specs.Fmt.{decimal}
 use Rattle.gnap_model.specs.declared.rights.Right.{Right}
 use Rattle.gnap_model.specs.declared.rights.Right.TheVariants.{Reference}
 use Rattle.gnap_model.specs.declared.objects.GrantRequest.{GrantRequest}
@@ -11,6 +12,12 @@ use Rattle.gnap_model.specs.declared.calls.Call.TheVariants.{Begin, Cancel, Rota
 use Rattle.gnap_model.specs.declared.calls.Reply.{Reply}
 use Rattle.gnap_model.specs.declared.calls.Reply.TheVariants.{Granted, Pending, Continuing, Rotated}
 use Rattle.gnap_model.specs.declared.calls.TokenOut.{TokenOut}
+use Rattle.signed_calls.specs.declared.signed.Mark.{Mark}
+use Rattle.signed_calls.specs.declared.signed.Signed.{Signed}
+
+-- the moment of all calls, and of the client's signatures
+abbrev pub load_moment : ℕ
+load_moment = 1000000
 
 -- the reference to one right
 abbrev pub reference_to : List ℕ → List Right
@@ -92,12 +99,34 @@ rotation_of reply = Rotate (codes "c1") (manage_of (token_in reply)) None
 abbrev pub cancellation_of : Reply → Call
 cancellation_of reply = Cancel (codes "c1") (door_in reply)
 
--- How a grant is put through: it is opened, its token asked about and rotated, and the old token and the new one asked about. Where the grant is
--- ended too, the new token is asked about once more.
-abbrev pub calls_after : Bool → Reply → Reply → List Call
-calls_after true opened rotated = cancellation_of opened ∷ question_about rotated ∷ []
-calls_after false opened rotated = []
+-- A call of the client has a mark: its nonce is the grant's number, `-`, and the call's place among all calls of the grant, from 1 on, in decimal digits.
+abbrev pub mark_at : ℕ → ℕ → Mark
+mark_at grant place = record { nonce = decimal grant ++ codes "-" ++ decimal place; created = load_moment }
 
-abbrev pub calls_through : Bool → Reply → Reply → List Call
-calls_through ends opened rotated =
-    opening_call ∷ question_about opened ∷ rotation_of opened ∷ question_about opened ∷ question_about rotated ∷ calls_after ends opened rotated
+abbrev pub marked : ℕ → ℕ → Call → Signed
+marked grant place call = record { mark = Some (mark_at grant place); call = call }
+
+-- a question of the resource server has none
+abbrev pub unmarked : Call → Signed
+unmarked call = record { mark = None; call = call }
+
+-- the places of the client's calls
+abbrev pub opening_place : ℕ
+opening_place = 1
+
+abbrev pub rotation_place : ℕ
+rotation_place = 3
+
+abbrev pub cancellation_place : ℕ
+cancellation_place = 6
+
+-- How a grant with a number is put through: it is opened, its token asked about and rotated, and the old token and the new one asked about. Where the
+-- grant is ended too, the new token is asked about once more.
+abbrev pub calls_after : Bool → ℕ → Reply → Reply → List Signed
+calls_after true grant opened rotated = marked grant cancellation_place (cancellation_of opened) ∷ unmarked (question_about rotated) ∷ []
+calls_after false grant opened rotated = []
+
+abbrev pub calls_through : Bool → ℕ → Reply → Reply → List Signed
+calls_through ends grant opened rotated =
+    marked grant opening_place opening_call ∷ unmarked (question_about opened) ∷ marked grant rotation_place (rotation_of opened)
+    ∷ unmarked (question_about opened) ∷ unmarked (question_about rotated) ∷ calls_after ends grant opened rotated

@@ -3,35 +3,31 @@ use Rattle.std.proofs.Common.{suc, zero}
 use Rattle.std.specs.Prelude.{◌≡◌, ◌≢◌, ℕ, ◌+◌, ◌<◌, ◌%◌, ◌^◌, ◌==◌, Bool, true, false, List, [], ◌∷◌, ◌++◌, map, All, length, slice_get, Some}
 use Rattle.histories.specs.History.{places}
 use Rattle.histories.specs.Whole.{OneHistory, own_of}
-use Rattle.gnap_model.specs.declared.calls.Call.{Call}
-use Rattle.gnap_model.specs.declared.calls.Call.TheVariants.{Lapse}
 use Rattle.gnap_model.specs.declared.calls.Reply.{Reply}
-use Rattle.grant_machine.specs.Gnap.{gnap, GnapEntry, GnapFits}
+use Rattle.signed_calls.specs.declared.signed.Signed.{Signed}
+use Rattle.signed_calls.specs.Marks.{unmarked_lapse}
+use Rattle.grant_machine.specs.Gnap.{gnap, GnapEntry, SignedFits}
 use Rattle.desk_load.specs.declared.tally.Tally.{Tally}
-use Rattle.desk_load.specs.LoadCalls.{load_setup, calls_after, calls_through}
+use Rattle.desk_load.specs.LoadCalls.{load_moment, load_setup, calls_after, calls_through}
 use Rattle.desk_load.specs.Tallies.{none_counted, tally_of, Adds}
 
--- the moment of all calls
-abbrev pub load_moment : ℕ
-load_moment = 1000000
-
--- A grant was put through by these entries: their calls are those that follow from the replies to the first and the third.
-pub record IsPutThrough (ends : Bool) (entries : List GnapEntry) : Type 0 where
+-- The grant with this number was put through by these entries: their calls are those that follow from the replies to the first and the third.
+pub record IsPutThrough (ends : Bool) (grant : ℕ) (entries : List GnapEntry) : Type 0 where
   pub opened : Reply
   pub rotated : Reply
-  pub calls : map (λ e. e.call) entries ≡ calls_through ends opened rotated
+  pub calls : map (λ e. e.call) entries ≡ calls_through ends grant opened rotated
   pub opened_is : slice_get (map (λ e. e.reply) entries) 0 ≡ Some opened
   pub rotated_is : slice_get (map (λ e. e.reply) entries) 2 ≡ Some rotated
   pub moments : All (λ e. e.moment ≡ load_moment) entries
 
--- A grant was ended by these entries, where that is to be, by the replies to its opening and to its rotation.
-pub record EndsGrant (ends : Bool) (opened rotated : Reply) (entries : List GnapEntry) : Type 0 where
-  pub calls : map (λ e. e.call) entries ≡ calls_after ends opened rotated
+-- The grant with this number was ended by these entries, where that is to be, by the replies to its opening and to its rotation.
+pub record EndsGrant (ends : Bool) (grant : ℕ) (opened rotated : Reply) (entries : List GnapEntry) : Type 0 where
+  pub calls : map (λ e. e.call) entries ≡ calls_after ends grant opened rotated
   pub moments : All (λ e. e.moment ≡ load_moment) entries
 
 -- what a worker does of the grant with a number: all, where it is the worker's; each grant of an even number is ended
 abbrev pub IsPart : Bool → ℕ → List GnapEntry → Type 0
-IsPart true i entries = IsPutThrough (i % 2 == 0) entries
+IsPart true i entries = IsPutThrough (i % 2 == 0) i entries
 IsPart false i entries = entries ≡ []
 
 -- The worker with a number did its share of the first grants: those whose number, divided by that of the workers, leaves the worker's.
@@ -52,8 +48,8 @@ pub record IsLoad (grants workers : ℕ) (tally : Tally) : Type 0 where
   pub counted : Adds (tally_of one.history) none_counted tally
 
 -- a call that may be made
-abbrev pub MayBeMade : Call → Type 0
-MayBeMade call = GnapFits call × (call ≢ Lapse)
+abbrev pub MayBeMade : Signed → Type 0
+MayBeMade signed = SignedFits signed × (signed ≢ unmarked_lapse)
 
 -- a desk of this number that has seen such histories has room for so many more entries
 abbrev pub HasRoom : ℕ → (List GnapEntry → Type 0) → ℕ → Type 0
@@ -67,7 +63,7 @@ pub record Grows (number : ℕ) (seen : List GnapEntry → Type 0) (before : Lis
   pub counted : Adds (tally_of entries) tally tally_now
 
 -- One call more was made, and got this reply.
-pub record Asks (call : Call) (reply : Reply) (number : ℕ) (seen : List GnapEntry → Type 0) (before : List GnapEntry) (tally tally_now : Tally) : Type 0 where
+pub record Asks (call : Signed) (reply : Reply) (number : ℕ) (seen : List GnapEntry → Type 0) (before : List GnapEntry) (tally tally_now : Tally) : Type 0 where
   pub entry : GnapEntry
   pub call_is : entry.call ≡ call
   pub reply_is : entry.reply ≡ reply

@@ -3,22 +3,21 @@ ghost use Rattle.std.specs.Prelude.{◌≡◌, ◌+◌, ◌<◌, ◌≤◌, ◌^
 ghost use Rattle.desk_load.specs.Loads.{MayBeMade, HasRoom, Asks};
 ghost use Rattle.desk_load.specs.Tallies.{counted_in};
 
+use crate::grant_calls::MOMENT;
 use crate::tally::Tally;
 use crate::words::Words;
 use bytes_and_lists::memory::Mem;
-use gnap_model::calls::{Call, Reply};
+use gnap_model::calls::Reply;
 use grant_machine::Gnap;
 use histories::machine::Desk;
-
-/// The moment of all calls.
-const MOMENT: u64 = 1_000_000;
+use signed_calls::signed::Signed;
 
 /// Makes a call and counts its reply. An `Err` says that memory ran out.
 pub fn ask<D: Desk<M = Gnap>>(
     desk: &mut D,
     words: &mut Words,
     tally: &mut Tally,
-    call: Call,
+    call: Signed,
 ) -> Result<Reply, Mem>
     requires may { MayBeMade call }
     requires room { HasRoom (D.number desk.old) (D.seen desk.old) 1 }

@@ -5,6 +5,7 @@ ghost use Rattle.desk_load.specs.LoadCalls.{reference_to, client_row, server_row
 use bytes_and_lists::bytes::Bytes;
 use bytes_and_lists::memory::Mem;
 use bytes_and_lists::seq::Seq;
+use gnap_model::key_rows::KeyRows;
 use gnap_model::objects::{KeyRow, Role, Setup};
 use gnap_model::rights::{Right, Rights};
 use std::alloc::Global;
@@ -57,6 +58,6 @@ pub fn load_setup(alloc: Global) -> Result<Setup, Mem>
     Ok(Setup {
         base: Bytes::from_slice(alloc, b"https://as.example")?,
         front: Bytes::from_slice(alloc, b"https://front.example")?,
-        keys,
+        keys: KeyRows::new(alloc, keys)?,
     })
 }

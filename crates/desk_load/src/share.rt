@@ -20,6 +20,7 @@ fn end_grant<D: Desk<M = Gnap>>(
     words: &mut Words,
     tally: &mut Tally,
     ends: bool,
+    grant: u32,
     opened: &Reply,
     rotated: &Reply,
 ) -> Result<(), Mem>
@@ -29,7 +30,7 @@ fn end_grant<D: Desk<M = Gnap>>(
     ensures number { D.number desk.new ≡ D.number desk.old }
     ensures home { D.home desk.new ≡ D.home desk.old }
     ensures ends { IfOk result (λ _. (h : _) → D.seen desk.old h
-        → PutsThrough (EndsGrant ends opened.now rotated.now) (D.number desk.old) (D.seen desk.new) h tally.old tally.new) }
+        → PutsThrough (EndsGrant ends grant opened.now rotated.now) (D.number desk.old) (D.seen desk.new) h tally.old tally.new) }
     ensures room { IsOk result → (m : ℕ) → HasRoom (D.number desk.old) (D.seen desk.old) (m + 2)
         → HasRoom (D.number desk.new) (D.seen desk.new) m }
     ensures most { counted_in tally.new ≤ counted_in tally.old + 2 }
@@ -37,7 +38,7 @@ fn end_grant<D: Desk<M = Gnap>>(
     if !ends {
         return Ok(());
     }
-    ask(desk, words, tally, cancellation_of(alloc, opened)?)?;
+    ask(desk, words, tally, cancellation_of(alloc, grant, opened)?)?;
     ask(desk, words, tally, question_about(alloc, rotated)?)?;
     Ok(())
 }
@@ -49,6 +50,7 @@ fn put_through<D: Desk<M = Gnap>>(
     words: &mut Words,
     tally: &mut Tally,
     ends: bool,
+    grant: u32,
 ) -> Result<(), Mem>
     requires room { HasRoom (D.number desk.old) (D.seen desk.old) 7 }
     requires few { counted_in tally.old + 7 < 2 ^ 64 }
@@ -56,17 +58,17 @@ fn put_through<D: Desk<M = Gnap>>(
     ensures number { D.number desk.new ≡ D.number desk.old }
     ensures home { D.home desk.new ≡ D.home desk.old }
     ensures puts { IfOk result (λ _. (h : _) → D.seen desk.old h
-        → PutsThrough (IsPutThrough ends) (D.number desk.old) (D.seen desk.new) h tally.old tally.new) }
+        → PutsThrough (IsPutThrough ends grant) (D.number desk.old) (D.seen desk.new) h tally.old tally.new) }
     ensures room { IsOk result → (m : ℕ) → HasRoom (D.number desk.old) (D.seen desk.old) (m + 7)
         → HasRoom (D.number desk.new) (D.seen desk.new) m }
     ensures most { counted_in tally.new ≤ counted_in tally.old + 7 }
 {
-    let opened = ask(desk, words, tally, opening_call(alloc)?)?;
+    let opened = ask(desk, words, tally, opening_call(alloc, grant)?)?;
     ask(desk, words, tally, question_about(alloc, &opened)?)?;
-    let rotated = ask(desk, words, tally, rotation_of(alloc, &opened)?)?;
+    let rotated = ask(desk, words, tally, rotation_of(alloc, grant, &opened)?)?;
     ask(desk, words, tally, question_about(alloc, &opened)?)?;
     ask(desk, words, tally, question_about(alloc, &rotated)?)?;
-    end_grant(alloc, desk, words, tally, ends, &opened, &rotated)
+    end_grant(alloc, desk, words, tally, ends, grant, &opened, &rotated)
 }
 
 // Puts a grant through where it is the worker's. Each grant of an even number is ended.
@@ -90,7 +92,7 @@ fn do_part<D: Desk<M = Gnap>>(
     ensures most { counted_in tally.new ≤ counted_in tally.old + 7 }
 {
     if mine {
-        return put_through(alloc, desk, words, tally, grant % 2 == 0);
+        return put_through(alloc, desk, words, tally, grant % 2 == 0, grant);
     }
     Ok(())
 }

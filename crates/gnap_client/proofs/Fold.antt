@@ -28,9 +28,9 @@ unchanged : (config : ClientConfig) (taken : List (Asked × ReadReply)) (old new
 unchanged config taken old new fits same = kept config taken old new fits (ap (λ (c : Client). c.config) same) (ap (λ (c : Client). c.received) same)
 
 pub calls_fit_law : CallsFit
-calls_fit_law config taken old new due now (Ok bytes) fits asked =
+calls_fit_law config taken old new due now nonce (Ok bytes) fits asked =
     kept config taken old new fits (ap (λ (c : Client). c.config) asked.leaves) (ap (λ (c : Client). c.received) asked.leaves)
-calls_fit_law config taken old new due now (Err fault) fits asked = unchanged config taken old new fits asked.1
+calls_fit_law config taken old new due now nonce (Err fault) fits asked = unchanged config taken old new fits asked.1
 
 More : ClientConfig → List (Asked × ReadReply) → Client → Client → List ℕ → Result Took ClientFault → Type 0
 More config taken old new bytes result = (more : List (Asked × ReadReply)) × TakesMore old bytes result more × ClientFits config (taken ++ more) new

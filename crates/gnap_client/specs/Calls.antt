@@ -15,7 +15,7 @@ use Rattle.reply_readers.specs.declared.grant_reply.Interaction.{Interaction}
 use Rattle.signed_requests.specs.declared.unsigned.UnsignedRequest.{UnsignedRequest}
 use Rattle.signed_requests.specs.declared.unsigned.Scheme.{Scheme}
 use Rattle.signed_requests.specs.declared.unsigned.Scheme.TheVariants.{Gnap, Bearer}
-use Rattle.signed_requests.specs.Requests.{signed_request}
+use Rattle.signed_requests.specs.Requests.{marked_request}
 use Rattle.gnap_client.specs.declared.config.ClientConfig.{ClientConfig}
 use Rattle.gnap_client.specs.declared.client.State.{State}
 use Rattle.gnap_client.specs.declared.client.State.TheVariants as states
@@ -174,14 +174,14 @@ use_call c i method path = token_at c.received i >>= λ (token : TokenOut). Ok (
 
 -- ---- what a call does
 
--- The bytes are the request that is due, signed at this moment, which is now the outstanding one.
-pub record Asks (due : Result DueRequest ClientFault) (now : ℕ) (old new : Client) (bytes : List ℕ) : Type 0 where
+-- The bytes are the request that is due, signed at this moment with this nonce, which is now the outstanding one.
+pub record Asks (due : Result DueRequest ClientFault) (now : ℕ) (nonce : List ℕ) (old new : Client) (bytes : List ℕ) : Type 0 where
   pub request : DueRequest
   pub is_due : due ≡ Ok request
-  pub signed : signed_request request.base old.config.id old.config.secret now request.message ≡ Some bytes
+  pub signed : marked_request request.base old.config.id old.config.secret now nonce request.message ≡ Some bytes
   pub leaves : new ≡ record old { asked = Some request.asks }
 
 -- A call answers the request that is due, or the fault that is; want of memory may come at any time. An Err changes nothing.
-abbrev pub HasAsked : Result DueRequest ClientFault → ℕ → Client → Client → Result (List ℕ) ClientFault → Type 0
-HasAsked due now old new (Ok bytes) = Asks due now old new bytes
-HasAsked due now old new (Err fault) = Fails faults.OutOfMemory fault due × (new ≡ old)
+abbrev pub HasAsked : Result DueRequest ClientFault → ℕ → List ℕ → Client → Client → Result (List ℕ) ClientFault → Type 0
+HasAsked due now nonce old new (Ok bytes) = Asks due now nonce old new bytes
+HasAsked due now nonce old new (Err fault) = Fails faults.OutOfMemory fault due × (new ≡ old)

@@ -19,7 +19,7 @@ use Rattle.gnap_client.specs.Taking.{Reads, took_of, HasTaken}
 -- a request call hands nothing out
 abbrev pub CallsFit : Type 0
 CallsFit = (config : ClientConfig) (taken : List (Asked × ReadReply)) (old new : Client) (due : Result DueRequest ClientFault) (now : ℕ)
-    (result : Result (List ℕ) ClientFault) → ClientFits config taken old → HasAsked due now old new result → ClientFits config taken new
+    (nonce : List ℕ) (result : Result (List ℕ) ClientFault) → ClientFits config taken old → HasAsked due now nonce old new result → ClientFits config taken new
 
 -- the answer tells that no reply was taken
 abbrev pub IsUntaken : Result Took ClientFault → Type 0

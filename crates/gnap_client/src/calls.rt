@@ -1,10 +1,11 @@
-//! The requests of a client, signed (RFC 9635, sections 2, 5, 6 and 7.2).
+//! The requests of a client, signed with a nonce (RFC 9635, sections 2, 5, 6 and 7.2; RFC 9421, section 2.3).
 ghost use Rattle.std.specs.Prelude.{◌≡◌, ◌<◌, ◌^◌, true, Ok, Err, if◌then◌else◌, option_map, IfOk, IsUtf8};
 ghost use Rattle.serde_json.specs.View.{view};
 ghost use Rattle.json_objects.specs.Objects.{object_of};
 ghost use Rattle.json_objects.specs.Reading.{Gives};
 ghost use Rattle.gnap_objects.specs.Fits.{RequestFits};
 ghost use Rattle.gnap_objects.specs.CallsFit.{ModesFitOr};
+ghost use Rattle.message_signature.specs.Marks.{is_nonce};
 ghost use Rattle.signed_requests.specs.Forms.{is_method, is_target};
 ghost use Rattle.gnap_client.specs.declared.client.ClientFault.TheVariants.{OutOfMemory, WrongState};
 ghost use Rattle.gnap_client.specs.Calls.{HasAsked, is_fresh, is_pending, is_approved, is_open, request_message, with_door, finish_asked, reference_fields, reference_body, begin_call, poll_call, patch_call, cancel_call, awaited_hash, checked_hash, awaits, finish_call, token_at, rotate_call, revoke_call, scheme_for, use_call};
@@ -18,7 +19,7 @@ use grant_values::grant_text;
 use interaction::interaction_hash;
 use json_objects::{compact_text, put, text_value};
 use serde_json::{Map, Value};
-use signed_requests::{Scheme, UnsignedRequest, signed_request};
+use signed_requests::{Scheme, UnsignedRequest, marked_request};
 use std::alloc::Global;
 
 /// A request to the server with this base, and what is outstanding once it is made.
@@ -327,10 +328,11 @@ impl Client {
         })
     }
 
-    // Signs the request, and makes it the outstanding one. An `Err` changes nothing.
-    fn ask(&mut self, now: u64, request: DueRequest) -> Result<Bytes, ClientFault>
-        requires { now < 10 ^ 15 }
-        ensures { HasAsked (Ok request) now self.old self.new result }
+    // Signs the request with this nonce, and makes it the outstanding one. An `Err` changes nothing.
+    fn ask(&mut self, now: u64, nonce: &Bytes, request: DueRequest) -> Result<Bytes, ClientFault>
+        requires now { now < 10 ^ 15 }
+        requires nonce { is_nonce nonce.now ≡ true }
+        ensures { HasAsked (Ok request) now nonce.now self.old self.new result }
     {
         let DueRequest {
             base,
@@ -338,7 +340,15 @@ impl Client {
             asks,
         } = request;
         let config = &self.config;
-        let bytes = signed_request(self.alloc, &base, &config.id, &config.secret, now, message)?;
+        let bytes = marked_request(
+            self.alloc,
+            &base,
+            &config.id,
+            &config.secret,
+            now,
+            nonce,
+            message,
+        )?;
         self.asked = Some(asks);
         Ok(bytes)
     }
@@ -347,94 +357,119 @@ impl Client {
 impl Client {
     /// The grant request. `WrongState` comes exactly where something was asked for already.
     ///
-    /// As for every call here, `now` is in seconds since 1970; on Ok this is the outstanding request in place of an older one, and an `Err` changes
-    /// nothing.
-    pub fn begin(&mut self, now: u64, request: &GrantRequest) -> Result<Bytes, ClientFault>
+    /// As for every call here, `now` is in seconds since 1970, and the nonce, by which the server knows a second use of the request, has 1 to 64 letters,
+    /// digits, `.`, `_` or `-`; on Ok this is the outstanding request in place of an older one, and an `Err` changes nothing.
+    pub fn begin(
+        &mut self,
+        now: u64,
+        nonce: &Bytes,
+        request: &GrantRequest,
+    ) -> Result<Bytes, ClientFault>
         requires now { now < 10 ^ 15 }
+        requires nonce { is_nonce nonce.now ≡ true }
         requires fits { RequestFits request.now }
         requires modes { ModesFitOr request.now.modes }
-        ensures { HasAsked (begin_call self.old request.now) now self.old self.new result }
+        ensures { HasAsked (begin_call self.old request.now) now nonce.now self.old self.new result }
     {
         let request = self.begin_call(request)?;
-        self.ask(now, request)
+        self.ask(now, nonce, request)
     }
 
     /// A continuation without an interaction reference. `WrongState` comes exactly where the grant is neither pending nor approved.
-    pub fn poll(&mut self, now: u64) -> Result<Bytes, ClientFault>
-        requires { now < 10 ^ 15 }
-        ensures { HasAsked (poll_call self.old) now self.old self.new result }
+    pub fn poll(&mut self, now: u64, nonce: &Bytes) -> Result<Bytes, ClientFault>
+        requires now { now < 10 ^ 15 }
+        requires nonce { is_nonce nonce.now ≡ true }
+        ensures { HasAsked (poll_call self.old) now nonce.now self.old self.new result }
     {
         let request = self.poll_call()?;
-        self.ask(now, request)
+        self.ask(now, nonce, request)
     }
 
     /// A modification. `WrongState` comes exactly where the grant is neither pending nor approved.
-    pub fn patch(&mut self, now: u64, request: &GrantRequest) -> Result<Bytes, ClientFault>
+    pub fn patch(
+        &mut self,
+        now: u64,
+        nonce: &Bytes,
+        request: &GrantRequest,
+    ) -> Result<Bytes, ClientFault>
         requires now { now < 10 ^ 15 }
+        requires nonce { is_nonce nonce.now ≡ true }
         requires fits { RequestFits request.now }
         requires modes { ModesFitOr request.now.modes }
-        ensures { HasAsked (patch_call self.old request.now) now self.old self.new result }
+        ensures { HasAsked (patch_call self.old request.now) now nonce.now self.old self.new result }
     {
         let request = self.patch_call(request)?;
-        self.ask(now, request)
+        self.ask(now, nonce, request)
     }
 
     /// The grant's cancellation. `WrongState` comes exactly where the grant is neither pending nor approved.
-    pub fn cancel(&mut self, now: u64) -> Result<Bytes, ClientFault>
-        requires { now < 10 ^ 15 }
-        ensures { HasAsked (cancel_call self.old) now self.old self.new result }
+    pub fn cancel(&mut self, now: u64, nonce: &Bytes) -> Result<Bytes, ClientFault>
+        requires now { now < 10 ^ 15 }
+        requires nonce { is_nonce nonce.now ≡ true }
+        ensures { HasAsked (cancel_call self.old) now nonce.now self.old self.new result }
     {
         let request = self.cancel_call()?;
-        self.ask(now, request)
+        self.ask(now, nonce, request)
     }
 
     /// A continuation with the interaction reference, where the hash is that of this interaction (RFC 9635, section 4.2.3).
     ///
     /// `WrongState` comes exactly where the grant isn't pending, or the interaction has no finish; then `HashDiffers` exactly where the hash is another
     /// one.
-    pub fn finish(&mut self, now: u64, hash: &[u8], reference: &[u8]) -> Result<Bytes, ClientFault>
+    pub fn finish(
+        &mut self,
+        now: u64,
+        nonce: &Bytes,
+        hash: &[u8],
+        reference: &[u8],
+    ) -> Result<Bytes, ClientFault>
         requires now { now < 10 ^ 15 }
+        requires nonce { is_nonce nonce.now ≡ true }
         requires reference { IsUtf8 reference.now }
-        ensures { HasAsked (finish_call self.old hash.now reference.now) now self.old self.new result }
+        ensures { HasAsked (finish_call self.old hash.now reference.now) now nonce.now self.old self.new result }
     {
         let request = self.finish_call(hash, reference)?;
-        self.ask(now, request)
+        self.ask(now, nonce, request)
     }
 
     /// The rotation of a token, by its place, counted from 0.
     ///
     /// `WrongState` comes exactly where the grant isn't approved; then `NoToken` exactly where there is no such place.
-    pub fn rotate(&mut self, now: u64, i: usize) -> Result<Bytes, ClientFault>
-        requires { now < 10 ^ 15 }
-        ensures { HasAsked (rotate_call self.old i) now self.old self.new result }
+    pub fn rotate(&mut self, now: u64, nonce: &Bytes, i: usize) -> Result<Bytes, ClientFault>
+        requires now { now < 10 ^ 15 }
+        requires nonce { is_nonce nonce.now ≡ true }
+        ensures { HasAsked (rotate_call self.old i) now nonce.now self.old self.new result }
     {
         let request = self.rotate_call(i)?;
-        self.ask(now, request)
+        self.ask(now, nonce, request)
     }
 
     /// The revocation of a token, by its place, with the faults of `rotate`.
-    pub fn revoke(&mut self, now: u64, i: usize) -> Result<Bytes, ClientFault>
-        requires { now < 10 ^ 15 }
-        ensures { HasAsked (revoke_call self.old i) now self.old self.new result }
+    pub fn revoke(&mut self, now: u64, nonce: &Bytes, i: usize) -> Result<Bytes, ClientFault>
+        requires now { now < 10 ^ 15 }
+        requires nonce { is_nonce nonce.now ≡ true }
+        ensures { HasAsked (revoke_call self.old i) now nonce.now self.old self.new result }
     {
         let request = self.revoke_call(i)?;
-        self.ask(now, request)
+        self.ask(now, nonce, request)
     }
 
     /// A request without a body to the resource server that presents a token, by its place, with the faults of `rotate`.
     pub fn use_token(
         &mut self,
         now: u64,
+        nonce: &Bytes,
         i: usize,
         method: &[u8],
         path: &[u8],
     ) -> Result<Bytes, ClientFault>
         requires now { now < 10 ^ 15 }
+        requires nonce { is_nonce nonce.now ≡ true }
         requires method { is_method method.now ≡ true }
         requires path { is_target path.now ≡ true }
-        ensures { HasAsked (use_call self.old i method.now path.now) now self.old self.new result }
+        ensures { HasAsked (use_call self.old i method.now path.now) now nonce.now self.old self.new result }
     {
         let request = self.use_call(i, method, path)?;
-        self.ask(now, request)
+        self.ask(now, nonce, request)
     }
 }

@@ -4,7 +4,7 @@ use Rattle.std.specs.Prelude.{Result, IfOk, if◌then◌else◌, is_some, is_non
 use Rattle.std.proofs.lemmas.Bool.Decides.{nat_tests}
 use Rattle.bytes_and_lists.specs.declared.memory.Mem.{Mem}
 use Rattle.gnap_model.specs.Common.{Text, first_of}
-use Rattle.gnap_model.specs.Actions.{Action, Supply, outcome_of, on_found, with_key}
+use Rattle.gnap_model.specs.Actions.{Action, Supply, outcome_of, on_found, with_key, with_owner}
 use Rattle.gnap_model.specs.Actions.Action.{Refuse, RefuseAndFinalize}
 use Rattle.gnap_model.specs.Standing.{opening_in, is_live}
 use Rattle.gnap_model.specs.Continue.{with_grant, continue_round}
@@ -39,12 +39,12 @@ with_grant_as act key named found action is acts = ap (λ (o : Option OpeningNot
 
 -- What is done on a token's grant, by the grant that was looked up.
 pub on_grant_as : (code : ErrorCode) (trail : List Note) (key : Text) (t : TokenNote) (act : OpeningNote → Action) (found : Option OpeningNote) (action : Action)
-    → found ≡ first_of (opening_in t.grant) trail → on_found code (with_key act key) found ≡ action → on_grant code trail key t act ≡ action
-on_grant_as code trail key t act found action is acts = ap (λ (o : Option OpeningNote). on_found code (with_key act key) o) (sym is) ∙ acts
+    → found ≡ first_of (opening_in t.grant) trail → on_found code (with_owner act t.key key) found ≡ action → on_grant code trail key t act ≡ action
+on_grant_as code trail key t act found action is acts = ap (λ (o : Option OpeningNote). on_found code (with_owner act t.key key) o) (sym is) ∙ acts
 
 -- A live token is rotated as its grant says.
 pub rotates_as : (trail : List Note) (now : ℕ) (key : Text) (t : TokenNote) (new_key : Option Text) (found : Option OpeningNote) (action : Action)
-    → is_live trail now t ≡ true → found ≡ first_of (opening_in t.grant) trail → on_found InvalidRotation (with_key (rotate_key new_key t) key) found ≡ action
+    → is_live trail now t ≡ true → found ≡ first_of (opening_in t.grant) trail → on_found InvalidRotation (with_owner (rotate_key new_key t) t.key key) found ≡ action
     → (if is_live trail now t then on_grant InvalidRotation trail key t (rotate_key new_key t) else Refuse InvalidRotation) ≡ action
 rotates_as trail now key t new_key found action live is acts = rw live (on_grant_as InvalidRotation trail key t (rotate_key new_key t) found action is acts)
 

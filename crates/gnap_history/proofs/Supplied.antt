@@ -22,9 +22,9 @@ pub record IsSupply (entry : EntrySupply) (supply : Supply) : Type 0 where
 pub value_is : (entry : EntrySupply) (supply : Supply) (index : ℕ) → IsSupply entry supply → drawn entry.first entry.words.now index ≡ drawn_value supply index
 value_is entry supply index same = rw (same.first, same.words) refl
 
-pub token_is : (entry : EntrySupply) (supply : Supply) (opening : OpeningNote) (ask : Ask) (index : ℕ) → IsSupply entry supply
-    → token_drawn entry opening.grant opening.key opening.end ask index ≡ token_for supply opening ask index
-token_is entry supply opening ask index same = rw (same.moment, same.first, same.words) refl
+pub token_is : (entry : EntrySupply) (supply : Supply) (opening : OpeningNote) (key : Text) (ask : Ask) (index : ℕ) → IsSupply entry supply
+    → token_drawn entry opening.grant key opening.end ask index ≡ record (token_for supply opening ask index) { key = key }
+token_is entry supply opening key ask index same = rw (same.moment, same.first, same.words) refl
 
 pub round_is : (entry : EntrySupply) (supply : Supply) (opening : OpeningNote) (modes : Modes) (code : Option Text) → IsSupply entry supply → code ≡ some_if (wants_code modes) (code_for supply)
     → round_drawn entry opening.grant opening.end modes code ≡ round_for supply opening modes

@@ -64,7 +64,7 @@ outcome_few supply trail call (ModifyAsking o retired request modes) cause few =
     let after = Terms (terms_for o request) ∷ [] in
     pending_few supply o (retire retired ++ after) modes None (retired_few retired after (changed_few call request cause.1 few, tt))
 outcome_few supply trail call (CancelGrant o) cause few = (tt, tt)
-outcome_few supply trail call (RotateToken o token) cause few = (tt, (tt, tt))
+outcome_few supply trail call (RotateToken o token key) cause few = (tt, (tt, tt))
 outcome_few supply trail call (RevokeToken token was_retired) cause few = if_both AskForFew was_retired [] _ tt (tt, tt)
 outcome_few supply trail call _ cause few = tt
 

@@ -15,21 +15,23 @@ use gnap_model::rights::Rights;
 use grant_rules::tokens::token_out;
 use std::alloc::Global;
 
-/// The token with this label and these rights: its value is that of the entry with this index, its management value the next one (RFC 9635, section 3.2.1).
+/// The token of a grant that is bound to this key, with this label and these rights: its value is that of the entry with this index, its management value the
+/// next one (RFC 9635, section 3.2.1).
 pub fn token_with(
     drawing: &Drawing,
     opening: &OpeningNote,
+    key: &Bytes,
     label: Option<Bytes>,
     rights: Rights,
     bearer: bool,
     index: usize,
 ) -> Result<TokenNote, Mem>
     requires { index < 23 }
-    ensures { IfOk result (λ token. token ≡ token_for (supply drawing.now) opening.now (record { label = label; rights = rights; bearer = bearer }) index) }
+    ensures { IfOk result (λ token. token ≡ record (token_for (supply drawing.now) opening.now (record { label = label; rights = rights; bearer = bearer }) index) { key = key.now }) }
 {
     drawing.supply().token(
         opening.grant,
-        &opening.key,
+        key,
         opening.end,
         label,
         rights,
@@ -50,7 +52,15 @@ fn token(
 {
     let label = ask.label.copy()?;
     let rights = ask.rights.copy()?;
-    token_with(drawing, opening, label, rights, ask.bearer, index)
+    token_with(
+        drawing,
+        opening,
+        &opening.key,
+        label,
+        rights,
+        ask.bearer,
+        index,
+    )
 }
 
 /// Issues a token for each ask, the values in turn, and adds their notes to `added`. After an `Err` some may be added.

@@ -11,7 +11,7 @@ ghost use Rattle.gnap_history.specs.Drawings.{trail, supply, IsAnswer};
 use crate::drawing::{Drawing, NotedReply, noted, refuse, silent};
 use crate::granting::token_with;
 use crate::look_ups::{is_live, is_retired, opening_of};
-use crate::presented_values::{managed_token, of_key};
+use crate::presented_values::{managed_token, of_owner};
 use bytes_and_lists::bytes::Bytes;
 use bytes_and_lists::memory::{Duplicate, Mem};
 use bytes_and_lists::seq::Seq;
@@ -21,18 +21,18 @@ use gnap_model::objects::ErrorCode;
 use grant_rules::tokens::token_out;
 use std::alloc::Global;
 
-/// The token gets a successor, with its label, its rights and its flag (RFC 9635, section 6.1).
+/// The token gets a successor, with its key, its label, its rights and its flag (RFC 9635, section 6.1).
 fn replace(
     alloc: Global,
     drawing: &Drawing,
     opening: &OpeningNote,
     token: &TokenNote,
 ) -> Result<NotedReply, Mem>
-    ensures { IfOk result (IsAnswer (outcome_of (supply drawing.now) (RotateToken opening.now token.now))) }
+    ensures { IfOk result (IsAnswer (outcome_of (supply drawing.now) (RotateToken opening.now token.now token.now.key))) }
 {
     let label = token.label.copy()?;
     let rights = token.rights.copy()?;
-    let successor = token_with(drawing, opening, label, rights, token.bearer, 0)?;
+    let successor = token_with(drawing, opening, &token.key, label, rights, token.bearer, 0)?;
     let reply = Reply::Rotated {
         token: token_out(&successor, drawing.moment)?,
     };
@@ -45,7 +45,7 @@ fn replace(
     Ok(NotedReply { reply, notes })
 }
 
-/// A live token of the key's grant gets a successor, unless a new key is named.
+/// A live token of the key gets a successor, unless a new key is named.
 fn rotate_token(
     alloc: Global,
     drawing: &Drawing,
@@ -61,7 +61,8 @@ fn rotate_token(
         return Ok(refuse(alloc, ErrorCode::InvalidRotation));
     }
     let grant = opening_of(notes, token.grant);
-    match of_key(grant, key.as_slice(), ErrorCode::InvalidRotation) {
+    let owner = token.key.as_slice();
+    match of_owner(grant, owner, key.as_slice(), ErrorCode::InvalidRotation) {
         Ok(opening) => match new_key {
             Some(_) => Ok(refuse(alloc, ErrorCode::KeyRotationNotSupported)),
             None => replace(alloc, drawing, opening, token),
@@ -104,7 +105,7 @@ fn retire(alloc: Global, drawing: &Drawing, token: &TokenNote) -> Result<NotedRe
     )
 }
 
-/// A token of the key's grant is revoked.
+/// A token of the key is revoked.
 fn revoke_token(
     alloc: Global,
     drawing: &Drawing,
@@ -115,7 +116,8 @@ fn revoke_token(
         (λ _. RevokeToken token.now (list_any (is_retirement token.now.serial) (trail drawing.now)))))) }
 {
     let grant = opening_of(drawing.notes.as_slice(), token.grant);
-    match of_key(grant, key.as_slice(), ErrorCode::InvalidRequest) {
+    let owner = token.key.as_slice();
+    match of_owner(grant, owner, key.as_slice(), ErrorCode::InvalidRequest) {
         Ok(_) => retire(alloc, drawing, token),
         Err(code) => Ok(refuse(alloc, code)),
     }

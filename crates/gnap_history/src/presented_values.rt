@@ -4,7 +4,7 @@ ghost use Rattle.std.specs.Option.{unwrap_or};
 ghost use Rattle.std.specs.List.{list_any};
 ghost use Rattle.gnap_model.specs.Common.{first_of};
 ghost use Rattle.gnap_model.specs.declared.notes.OpeningNote.{OpeningNote};
-ghost use Rattle.gnap_model.specs.Actions.{Action, on_found, with_key};
+ghost use Rattle.gnap_model.specs.Actions.{Action, on_found, with_key, with_owner};
 ghost use Rattle.gnap_model.specs.Actions.Action.{Refuse};
 ghost use Rattle.gnap_model.specs.Standing.{door, is_door_of as is_door_text_of, grant_state, is_finalized as finalized, named_grant as grant_by_value, is_replacement, is_managed as token_is_managed, managed_token as token_by_manage};
 ghost use Rattle.gnap_history.specs.Holders.{holder_in, is_held_by_other};
@@ -172,6 +172,28 @@ pub fn of_key<'a>(
     match found {
         Some(opening) => {
             if opening.key.as_slice() == key {
+                Ok(opening)
+            } else {
+                Err(ErrorCode::InvalidClient)
+            }
+        }
+        None => Err(unknown),
+    }
+}
+
+/// The grant that was found, where the key is the owner's; else the code with which an action on a token of that owner is refused (RFC 9635, section 6).
+pub fn of_owner<'a>(
+    found: Option<&'a OpeningNote>,
+    owner: &[u8],
+    key: &[u8],
+    unknown: ErrorCode,
+) -> Result<&'a OpeningNote, ErrorCode>
+    ensures ok { IfOk result (λ opening. (act : OpeningNote → Action) → on_found unknown (with_owner act owner.now key.now) (option_map (λ o. o.now) found.entry) ≡ act opening.now) }
+    ensures err { IfErr result (λ code. (act : OpeningNote → Action) → on_found unknown (with_owner act owner.now key.now) (option_map (λ o. o.now) found.entry) ≡ Refuse code) }
+{
+    match found {
+        Some(opening) => {
+            if owner == key {
                 Ok(opening)
             } else {
                 Err(ErrorCode::InvalidClient)

@@ -429,8 +429,8 @@ alive_next supply trail call (ModifyAsking o retired request modes) chain t d on
     refl (chain_named trail supply.now call o chain t d alive a.0)
 alive_next supply trail call (CancelGrant o) chain t d one alive a =
     cancel_step call o (is_among chain (presented_door call)) t (o.grant == t.grant) (ap (is_text t.manage) (no_manage call a.0.0 a.0.1)) a.1 refl (chain_named trail supply.now call o chain t d alive a.0)
-alive_next supply trail call (RotateToken o u) chain t d one alive a =
-    replace_step trail supply.now call (outcome_of supply (RotateToken o u)).reply (outcome_of supply (RotateToken o u)).notes (is_among chain (presented_door call)) t u chain d one alive a.1 (off_chain chain call a.0) refl refl
+alive_next supply trail call (RotateToken o u key) chain t d one alive a =
+    replace_step trail supply.now call (outcome_of supply (RotateToken o u key)).reply (outcome_of supply (RotateToken o u key)).notes (is_among chain (presented_door call)) t u chain d one alive a.1 (off_chain chain call a.0) refl refl
     ((refl, refl, refl), ((refl, refl, refl), tt)) (or-false (u.serial == t.serial))
 alive_next supply trail call (RevokeToken u was_retired) chain t d one alive a =
     let e : was_retired ≡ list_any (is_retirement u.serial) trail = a.2 in

@@ -115,7 +115,7 @@ action_small supply trail call (ModifyAsking o retired request modes) a f h = (
   pend_fits supply o (retire retired ++ Terms (terms_for o request) ∷ []) modes None (fit-retire retired (Terms (terms_for o request) ∷ []) (modify_few call request a.1 f, tt)),
 )
 action_small supply trail call (CancelGrant o) a f h = (omega arith, (tt, tt))
-action_small supply trail call (RotateToken o t) a f h = (omega arith, (tt, (tt, tt)))
+action_small supply trail call (RotateToken o t key) a f h = (omega arith, (tt, (tt, tt)))
 action_small supply trail call (RevokeToken t false) a f h = (omega arith, (tt, tt))
 action_small supply trail call _ a f h = (omega arith, tt)
 

@@ -362,11 +362,11 @@ live_not_over trail now u live over =
     at false true e k o = let j : is_approved (grant_state trail u.grant now) ≡ false = (rw e refl) in let i = sym approved ∙ j in cc i
 
 -- a rotated token's successor is alive on the chain of the old one
-successor_alive : (supply : Supply) (o : OpeningNote) (u : TokenNote) (trail : List Note) (chain : List Text) → IsAlive trail chain u → o.grant ≡ u.grant → u.serial < supply.first → ((s : ℕ) → supply.first ≤ s → list_any (is_retirement s) trail ≡ false)
-    → IsAlive (reverse (outcome_of supply (RotateToken o u)).notes ++ trail) chain (successor supply o u)
-successor_alive supply o u trail chain alive e low kept = record {
+successor_alive : (supply : Supply) (o : OpeningNote) (u : TokenNote) (key : Text) (trail : List Note) (chain : List Text) → IsAlive trail chain u → o.grant ≡ u.grant → u.serial < supply.first → ((s : ℕ) → supply.first ≤ s → list_any (is_retirement s) trail ≡ false)
+    → IsAlive (reverse (outcome_of supply (RotateToken o u key)).notes ++ trail) chain (successor supply o u key)
+successor_alive supply o u key trail chain alive e low kept = record {
   issued = inl refl;
-  known = (let k = sum_by-append (λ (n : Note). cond (is_opening n) 1 0) (reverse (outcome_of supply (RotateToken o u)).notes) trail in let h = alive.known in omega arith);
+  known = (let k = sum_by-append (λ (n : Note). cond (is_opening n) 1 0) (reverse (outcome_of supply (RotateToken o u key)).notes) trail in let h = alive.known in omega arith);
   kept = ap (λ b. b || list_any (is_retirement (supply.first + 0)) trail)
       (false_from_ne_true (u.serial == supply.first + 0) (λ k. let j : u.serial ≡ supply.first + 0 = (Decides-eqb u.serial (supply.first + 0)).0 k in omega arith)) ∙ kept (supply.first + 0) (omega arith);
   unended = ap (λ g. list_any (is_end_of g) trail) e ∙ alive.unended;
@@ -455,26 +455,26 @@ action_ended_or_alive e past supply (ModifyAsking o retired request modes) t sou
       | inr y ↦ not_tokens (door_note supply o 0 ∷ Pended (round_for supply o modes) ∷ []) (tt, (tt, tt)) t y
     ])
 action_ended_or_alive e past supply (CancelGrant o) t sound first reply notes a ih fresh h = absurd (not_tokens (outcome_of supply (CancelGrant o)).notes (tt, tt) t h)
-action_ended_or_alive e past supply (RotateToken o u) t sound first reply notes a ih fresh h =
+action_ended_or_alive e past supply (RotateToken o u key) t sound first reply notes a ih fresh h =
     let found = managed_issued (trail_of past) supply.now a.1.0 u a.1.2 in
     let at_p = noted_issued (past) u found.0 in
-    let is : t ≡ successor supply o u = successor_is h in
+    let is : t ≡ successor supply o u key = successor_is h in
     let v : a.1.0 ≡ u.manage = sym found.1 in
     let handed : list_any (has_manage (drawn_value supply 1)) (handed_tokens e.reply) ≡ true
     = ap (λ r. list_any (has_manage (drawn_value supply 1)) (handed_tokens r)) reply ∙ or_left (same_text (drawn_value supply 1) (drawn_value supply 1)) false ((bytes_eq-Decides (drawn_value supply 1) (drawn_value supply 1)).1 refl) in
     let q : origin_of (e ∷ past) (drawn_value supply 1) ≡ origin_of past u.manage
     = ap (λ b. if b then origin_in e.call (length past) (λ value. origin_of past value) else origin_of past (drawn_value supply 1)) handed
     ∙ a.4 (length past) (λ value. origin_of past value) a.1.0 a.1.1 ∙ ap (origin_of past) v in
-    let ended_or_alive : EndedOrAlive (e ∷ past) (length past) (successor supply o u)
-    = subst (EndedOrAliveFrom (e ∷ past) (length past) (successor supply o u)) (sym q) (of_old (ih at_p.0 u at_p.1)) in
+    let ended_or_alive : EndedOrAlive (e ∷ past) (length past) (successor supply o u key)
+    = subst (EndedOrAliveFrom (e ∷ past) (length past) (successor supply o u key)) (sym q) (of_old (ih at_p.0 u at_p.1)) in
     subst (EndedOrAlive (e ∷ past) (length past)) (sym is) ended_or_alive
   where
-    successor_is : HasNote (outcome_of supply (RotateToken o u)).notes (Issued t) → t ≡ successor supply o u
+    successor_is : HasNote (outcome_of supply (RotateToken o u key)).notes (Issued t) → t ≡ successor supply o u key
     successor_is (inl x) = cc x
     successor_is (inr (inl x)) = cc x
     successor_is (inr (inr x)) = absurd x
 
-    of_old : EndedOrAlive past (noted_issued past u (managed_issued (trail_of past) supply.now a.1.0 u a.1.2).0).0 u → EndedOrAliveFrom (e ∷ past) (length past) (successor supply o u) (origin_of past u.manage)
+    of_old : EndedOrAlive past (noted_issued past u (managed_issued (trail_of past) supply.now a.1.0 u a.1.2).0).0 u → EndedOrAliveFrom (e ∷ past) (length past) (successor supply o u key) (origin_of past u.manage)
     of_old (inl (ended, over)) = absurd (live_not_over (trail_of past) supply.now u a.2 over)
     of_old (inr (not_over, q_low, alive)) =
         let low : u.serial < first_serial (trail_of past) = (sound_note (next_grant (trail_of past)) (first_serial (trail_of past)) (trail_of past) (Issued u) sound alive.issued).0 in
@@ -482,14 +482,14 @@ action_ended_or_alive e past supply (RotateToken o u) t sound first reply notes 
         let chain : chain_doors (origin_of past u.manage) past ≡ chain_doors (origin_of past u.manage) (e ∷ past)
         = sym (ap (λ b. if b || is_among (chain_doors (origin_of past u.manage) past) (presented_door e.call) then option_to_list (handed_door e.reply) ++ chain_doors (origin_of past u.manage) past else chain_doors (origin_of past u.manage) past) other
         ∙ ap (λ d. if is_among (chain_doors (origin_of past u.manage) past) d then option_to_list (handed_door e.reply) ++ chain_doors (origin_of past u.manage) past else chain_doors (origin_of past u.manage) past) a.0) in
-        let made = successor_alive supply o u (trail_of past) (chain_doors (origin_of past u.manage) past) alive (opening_noted (trail_of past) u.grant o a.3).1 (omega arith) (λ s l. kept_in (trail_of past) s sound (omega arith)) in
-        let placed : IsAlive (trail_of (e ∷ past)) (chain_doors (origin_of past u.manage) past) (successor supply o u)
-        = subst (λ (ns : List Note). IsAlive (reverse ns ++ trail_of past) (chain_doors (origin_of past u.manage) past) (successor supply o u)) (sym notes) made in
+        let made = successor_alive supply o u key (trail_of past) (chain_doors (origin_of past u.manage) past) alive (opening_noted (trail_of past) u.grant o a.3).1 (omega arith) (λ s l. kept_in (trail_of past) s sound (omega arith)) in
+        let placed : IsAlive (trail_of (e ∷ past)) (chain_doors (origin_of past u.manage) past) (successor supply o u key)
+        = subst (λ (ns : List Note). IsAlive (reverse ns ++ trail_of past) (chain_doors (origin_of past u.manage) past) (successor supply o u key)) (sym notes) made in
         inr (
           ap (λ b. (b && ends (drawn_value supply 1) (origin_of past u.manage) past e) || is_ended (drawn_value supply 1) (origin_of past u.manage) (length past) past) (le-ltb (length past) (length past) (omega arith))
               ∙ ended_none (drawn_value supply 1) (origin_of past u.manage) (length past) past (omega arith),
           omega arith,
-          subst (λ (c : List Text). IsAlive (trail_of (e ∷ past)) c (successor supply o u)) chain placed,
+          subst (λ (c : List Text). IsAlive (trail_of (e ∷ past)) c (successor supply o u key)) chain placed,
         )
 action_ended_or_alive e past supply (RevokeToken u false) t sound first reply notes a ih fresh h = absurd (not_tokens (outcome_of supply (RevokeToken u false)).notes (tt, tt) t h)
 action_ended_or_alive e past supply _ t sound first reply notes a ih fresh h = absurd h

@@ -15,7 +15,7 @@ use Rattle.gnap_model.specs.Standing.{GrantState, grant_state, next_grant, named
 use Rattle.gnap_model.specs.Standing.GrantState.{IsPending, IsApproved, IsFinalized}
 use Rattle.gnap_model.specs.Judging.{Settled, settle, suits, serves_all}
 use Rattle.gnap_model.specs.Judging.Settled.{AtOnce, ByAsking, Never}
-use Rattle.gnap_model.specs.Actions.{Action, Supply, outcome_of, on_found, with_key}
+use Rattle.gnap_model.specs.Actions.{Action, Supply, outcome_of, on_found, with_key, with_owner}
 use Rattle.gnap_model.specs.Actions.Action.{Refuse, ShowToken, ShowInactive, OpenAtOnce, OpenAsking, ShowHandle, TakeDecision, RenewDoor, CollectDecision, WrongReference, LastWrongReference, RefuseAndFinalize, ModifyAtOnce, ModifyAsking, CancelGrant, RotateToken, RevokeToken}
 use Rattle.gnap_model.specs.Begin.{pass_limit, is_past, begin_by, ask_user, opening, show_token}
 use Rattle.gnap_model.specs.Continue.{with_grant, decided_asks, collect_by, collect_or_renew, is_wrong, is_early, continue_round, continue_at}
@@ -66,7 +66,7 @@ Cause trail now call (RefuseAndFinalize o code) = Names trail now call o × ((is
 Cause trail now call (ModifyAtOnce o consent retired request) = Names trail now call o × IsModify call request × (retired ≡ tokens_of trail now o)
 Cause trail now call (ModifyAsking o retired request modes) = Names trail now call o × IsModify call request × (retired ≡ tokens_of trail now o)
 Cause trail now call (CancelGrant o) = Names trail now call o × (is_cancel call ≡ true)
-Cause trail now call (RotateToken o t) = (presented_door call ≡ None) × Manages trail now call t × (is_live trail now t ≡ true) × (first_of (opening_in t.grant) trail ≡ Some o) × Rotates call
+Cause trail now call (RotateToken o t key) = (presented_door call ≡ None) × Manages trail now call t × (is_live trail now t ≡ true) × (first_of (opening_in t.grant) trail ≡ Some o) × Rotates call
 Cause trail now call (RevokeToken t was_retired) = (presented_door call ≡ None) × Manages trail now call t × (was_retired ≡ list_any (is_retirement t.serial) trail)
 Cause trail now call _ = presented_door call ≡ None
 
@@ -91,8 +91,8 @@ found_cause : {A : Type 0} (trail : List Note) (now : ℕ) (call : Call) (code :
 found_cause trail now call code act None c h = c
 found_cause trail now call code act (Some x) c h = h x refl
 
-key_cause : (trail : List Note) (now : ℕ) (call : Call) (act : OpeningNote → Action) (key : Text) (o : OpeningNote) → Cause trail now call (act o) → Cause trail now call (with_key act key o)
-key_cause trail now call act key o h = if_both (Cause trail now call) (same_text o.key key) (act o) (Refuse InvalidClient) h refl
+owner_cause : (trail : List Note) (now : ℕ) (call : Call) (act : OpeningNote → Action) (owner key : Text) (o : OpeningNote) → Cause trail now call (act o) → Cause trail now call (with_owner act owner key o)
+owner_cause trail now call act owner key o h = if_both (Cause trail now call) (same_text owner key) (act o) (Refuse InvalidClient) h refl
 
 collect_by_cause : (trail : List Note) (now : ℕ) (call : Call) (v : Verdict) (o : OpeningNote) (d : DecisionNote) (w : TermsNote) → Names trail now call o → IsInRound trail now o → terms_of trail o.grant ≡ Some w → is_modify call ≡ false → Cause trail now call (collect_by v trail now o d w)
 collect_by_cause trail now call Deny o d w h r e m = (h, inr (r, refl))
@@ -129,9 +129,9 @@ modify_cause ByAsking trail now call o request h is = asking_cause trail now cal
 with_cause : (trail : List Note) (now : ℕ) (call : Call) (act : OpeningNote → Action) (key : Text) (v : Text) (named : Option OpeningNote) → presented_door call ≡ Some v → named_grant trail now v ≡ named
     → ((o : OpeningNote) → Names trail now call o → Cause trail now call (act o)) → Cause trail now call (with_grant act key named)
 with_cause trail now call act key v named p e h =
-    found_cause trail now call InvalidContinuation (with_key act key) named refl (λ o is. key_cause trail now call act key o (h o (v, p, e ∙ is)))
+    found_cause trail now call InvalidContinuation (with_key act key) named refl (λ o is. owner_cause trail now call act o.key key o (h o (v, p, e ∙ is)))
 
-rotate_key_cause : (trail : List Note) (now : ℕ) (call : Call) (new_key : Option Text) (t : TokenNote) (o : OpeningNote) → Cause trail now call (RotateToken o t) → Cause trail now call (rotate_key new_key t o)
+rotate_key_cause : (trail : List Note) (now : ℕ) (call : Call) (new_key : Option Text) (t : TokenNote) (o : OpeningNote) → Cause trail now call (RotateToken o t t.key) → Cause trail now call (rotate_key new_key t o)
 rotate_key_cause trail now call (Some k) t o h = refl
 rotate_key_cause trail now call None t o h = h
 
@@ -160,11 +160,11 @@ cause_of rules supply trail (Cancel key value) =
 cause_of rules supply trail (Rotate key value new_key) = found_cause trail supply.now (Rotate key value new_key) InvalidRotation _ (managed_token trail supply.now value) refl
     (λ t e. if_known (Cause trail supply.now (Rotate key value new_key)) (is_live trail supply.now t) _ (Refuse InvalidRotation)
     (λ live. found_cause trail supply.now (Rotate key value new_key) InvalidRotation _ (first_of (opening_in t.grant) trail) refl
-    (λ o is. key_cause trail supply.now (Rotate key value new_key) (rotate_key new_key t) key o (rotate_key_cause trail supply.now (Rotate key value new_key) new_key t o
+    (λ o is. owner_cause trail supply.now (Rotate key value new_key) (rotate_key new_key t) t.key key o (rotate_key_cause trail supply.now (Rotate key value new_key) new_key t o
     (refl, (value, refl, e), live, is, (λ place from v same. let s : value ≡ v = cc same in ap from s))))) (λ dead. refl))
 cause_of rules supply trail (Revoke key value) = found_cause trail supply.now (Revoke key value) InvalidRequest _ (managed_token trail supply.now value) refl
     (λ t e. found_cause trail supply.now (Revoke key value) InvalidRequest _ (first_of (opening_in t.grant) trail) refl
-    (λ o is. key_cause trail supply.now (Revoke key value) (λ o. RevokeToken t (list_any (is_retirement t.serial) trail)) key o (refl, (value, refl, e), refl)))
+    (λ o is. owner_cause trail supply.now (Revoke key value) (λ o. RevokeToken t (list_any (is_retirement t.serial) trail)) t.key key o (refl, (value, refl, e), refl)))
 
 -- An entry of a legal history is answered by an action, for one of these causes. Laws on histories use this alone.
 pub record Chosen (past : List Event) (e : Event) : Type 0 where

@@ -95,7 +95,7 @@ action_free supply (WrongReference o) few = (tt, tt)
 action_free supply (LastWrongReference o) few = (tt, (tt, tt))
 action_free supply (RefuseAndFinalize o code) few = (tt, tt)
 action_free supply (CancelGrant o) few = (tt, tt)
-action_free supply (RotateToken o t) few = (tt, (tt, tt))
+action_free supply (RotateToken o t key) few = (tt, (tt, tt))
 action_free supply (RevokeToken t false) few = (tt, tt)
 action_free supply (OpenAtOnce o request) few =
     grant_free supply.taken supply o (Opened o ∷ Terms (terms_for o request) ∷ Approved o.grant [] ∷ []) request.asks request.single None (instance_of o) (tt, (tt, (tt, tt)))

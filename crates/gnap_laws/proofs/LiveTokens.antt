@@ -134,7 +134,7 @@ fate supply trail call action t sound pending cause issued = at action cause
     at (TakeDecision r rights request) a = other (TakeDecision r rights request) tt
     at (RenewDoor o) a = other (RenewDoor o) tt
     at (WrongReference o) a = other (WrongReference o) tt
-    at (RotateToken o u) a = other (RotateToken o u) tt
+    at (RotateToken o u key) a = other (RotateToken o u key) tt
     at (RevokeToken u was_retired) a = other (RevokeToken u was_retired) tt
 
 -- ---- so a token that is live after the entry was live before it
@@ -287,7 +287,7 @@ action_approved supply trail call (ModifyAsking o retired request modes) a =
     let rest : List Note = Terms (terms_for o request) ∷ [] in
     let whole : List Note = reverse (outcome_of supply (ModifyAsking o retired request modes)).notes ++ trail in
     pend_approved whole supply o (retire retired ++ rest) modes None (retire_approved whole retired rest (tt, tt))
-action_approved supply trail call (RotateToken o t) a =
+action_approved supply trail call (RotateToken o t key) a =
     let same : o.grant ≡ t.grant = (opening_noted trail t.grant o a.3).1 in
     let approved : is_approved (grant_state trail o.grant supply.now) ≡ true =
     subst (λ g. is_approved (grant_state trail g supply.now) ≡ true) (sym same) (live_parts trail supply.now t a.2).approved in
@@ -409,15 +409,15 @@ within supply trail call action sound pending cause room h = at action cause roo
         (not_from_false (t.grant == o.grant) (false_from_ne_true (t.grant == o.grant) (λ same.
         let retires = at_once_retires supply trail o consent retired request a.0.0 t issued a.0.2 a.2 (sym (eqb-true t.grant o.grant same)) in
         let no = sym (live_parts whole supply.now t e).kept ∙ retires in cc no))))) in omega arith
-    at (RotateToken o t) a r =
-        let whole : List Note = reverse (outcome_of supply (RotateToken o t)).notes ++ trail in
+    at (RotateToken o t key) a r =
+        let whole : List Note = reverse (outcome_of supply (RotateToken o t key)).notes ++ trail in
         let issued : HasNote trail (Issued t) = (managed_issued trail supply.now a.1.0 t a.1.2).0 in
         let retires : list_any (is_retirement t.serial) whole ≡ true = or_left (t.serial == t.serial) (list_any (is_retirement t.serial) trail) (eq-eqb t.serial t.serial refl) in
         let dead : is_live whole supply.now t ≡ false = false_from_ne_true (is_live whole supply.now t) (λ e. let no = sym (live_parts whole supply.now t e).kept ∙ retires in cc no) in
         let less = count_less (issues (is_live whole supply.now)) (issues (is_live trail supply.now)) trail (Issued t) issued
         (some_if_test (is_live whole supply.now t) t ∙ dead) (some_if_test (is_live trail supply.now t) t ∙ a.2)
         (issues_more (is_live whole supply.now) (is_live trail supply.now) trail
-        (λ u k e. live_was trail (reverse (outcome_of supply (RotateToken o t)).notes) supply.now u (fate supply trail call (RotateToken o t) u sound pending a k) e)) in
+        (λ u k e. live_was trail (reverse (outcome_of supply (RotateToken o t key)).notes) supply.now u (fate supply trail call (RotateToken o t key) u sound pending a k) e)) in
         let c = counted in omega arith
 
 pub tokens_within : (supply : Supply) (trail : List Note) (call : Call) (action : Action) → IsSound trail → PendingRetires trail → Cause trail supply.now call action → HasRoom trail supply.now action

@@ -76,7 +76,7 @@ action_uses supply trail call v (ModifyAtOnce o consent retired request) a p s =
 action_uses supply trail call v (ModifyAsking o retired request modes) a p s = from_names trail supply.now call o v (reverse (outcome_of supply (ModifyAsking o retired request modes)).notes) p a.0
     (pend_uses supply o (retire retired ++ Terms (terms_for o request) ∷ []) modes None)
 action_uses supply trail call v (CancelGrant o) a p s = from_names trail supply.now call o v (reverse (outcome_of supply (CancelGrant o)).notes) p a.0 (inr (ends_itself o.grant []))
-action_uses supply trail call v (RotateToken o t) a p s = no_door call v _ p a.0
+action_uses supply trail call v (RotateToken o t key) a p s = no_door call v _ p a.0
 action_uses supply trail call v (RevokeToken t b) a p s = no_door call v _ p a.0
 action_uses supply trail call v _ a p s = no_door call v _ p a
 

@@ -65,7 +65,7 @@ action_origin supply trail whole call (ModifyAsking o retired request modes) a o
     each-append (HasOrigin whole) (retire retired ++ Terms (terms_for o request) ∷ []) (door_note supply o 0 ∷ Pended (round_for supply o modes) ∷ [])
     (retire_origin whole retired (Terms (terms_for o request) ∷ []) (tt, tt)) (tt, (tt, tt))
 action_origin supply trail whole call (CancelGrant o) a old new = (tt, tt)
-action_origin supply trail whole call (RotateToken o t) a old new =
+action_origin supply trail whole call (RotateToken o t key) a old new =
     (tt, ((o, old (Opened o) (opening_noted trail t.grant o a.3).0, refl), tt))
 action_origin supply trail whole call (RevokeToken t false) a old new = (tt, tt)
 action_origin supply trail whole call _ a old new = tt

@@ -19,14 +19,14 @@ use Rattle.gnap_model.specs.Standing.{GrantState, grant_state, is_finalized, ear
 use Rattle.gnap_model.specs.Standing.GrantState.{IsPending, IsApproved, IsFinalized}
 use Rattle.gnap_model.specs.Judging.{Settled, settle, suits, serves_all}
 use Rattle.gnap_model.specs.Judging.Settled.{AtOnce, ByAsking, Never}
-use Rattle.gnap_model.specs.Actions.{Action, Supply, outcome_of, on_found, with_key}
+use Rattle.gnap_model.specs.Actions.{Action, Supply, outcome_of, on_found, with_owner}
 use Rattle.gnap_model.specs.Actions.Action.{Refuse, ShowToken, ShowInactive, OpenAtOnce, OpenAsking, TakeDecision, RenewDoor, CollectDecision, WrongReference, LastWrongReference, RefuseAndFinalize, ModifyAtOnce, ModifyAsking, CancelGrant, RevokeToken}
 use Rattle.gnap_model.specs.Begin.{pass_limit, is_past, begin_by, ask_user, opening, show_token}
 use Rattle.gnap_model.specs.Continue.{decided_asks, collect_by, collect_or_renew, is_wrong, is_early, is_before, continue_round, continue_at}
 use Rattle.gnap_model.specs.Change.{tokens_of, other_live_tokens, modify_by}
 use Rattle.gnap_model.specs.Manage.{rotate_key}
 use Rattle.gnap_model.specs.Front.{rights_or, may_decide}
-use Rattle.gnap_laws.specs.Refusals.{HasCause, NamesGrant, NamesRound, caller}
+use Rattle.gnap_laws.specs.Refusals.{HasCause, IsOwner, NamesRound, caller}
 use Rattle.gnap_model.specs.Answer.{action_of}
 use Rattle.gnap_laws.proofs.Causes.{if_known}
 use Rattle.gnap_model.proofs.LookUps.{some_if_some, option_or_cases}
@@ -52,8 +52,8 @@ none_is : {A : Type 0} (x : Option A) → not (is_some x) ≡ true → x ≡ Non
 none_is None e = refl
 none_is (Some x) e = cc e
 
-other_key : (o : OpeningNote) (key : Text) → same_text o.key key ≡ false → o.key ≢ key
-other_key o key e same = let yes = (bytes_eq-Decides o.key key).1 same in cc (sym yes ∙ e)
+other_key : (owner key : Text) → same_text owner key ≡ false → owner ≢ key
+other_key owner key e same = let yes = (bytes_eq-Decides owner key).1 same in cc (sym yes ∙ e)
 
 past_end : (now : ℕ) (not_after : Option ℕ) → is_past now not_after ≡ true → (end : ℕ) × (not_after ≡ Some end) × (end ≤ now)
 past_end now None e = cc e
@@ -151,11 +151,11 @@ found_why : {A : Type 0} (rules : Setup) (trail : List Note) (now : ℕ) (call :
 found_why rules trail now call code act None none some = none refl
 found_why rules trail now call code act (Some x) none some = some x refl
 
-key_why : (rules : Setup) (trail : List Note) (now : ℕ) (call : Call) (act : OpeningNote → Action) (o : OpeningNote) → NamesGrant trail now call o
-    → (o.key ≡ caller call → Explained rules trail now call (act o)) → Explained rules trail now call (with_key act (caller call) o)
-key_why rules trail now call act o names h =
-    if_known (Explained rules trail now call) (same_text o.key (caller call)) (act o) (Refuse InvalidClient)
-    (λ same. h ((bytes_eq-Decides o.key (caller call)).0 same)) (λ other. (o, names, other_key o (caller call) other))
+owner_why : (rules : Setup) (trail : List Note) (now : ℕ) (call : Call) (act : OpeningNote → Action) (owner : Text) (o : OpeningNote) → IsOwner trail now call owner
+    → (owner ≡ caller call → Explained rules trail now call (act o)) → Explained rules trail now call (with_owner act owner (caller call) o)
+owner_why rules trail now call act owner o owns h =
+    if_known (Explained rules trail now call) (same_text owner (caller call)) (act o) (Refuse InvalidClient)
+    (λ same. h ((bytes_eq-Decides owner (caller call)).0 same)) (λ other. (owner, owns, other_key owner (caller call) other))
 
 -- ---- continuations
 
@@ -217,10 +217,10 @@ continue_why rules trail now key value reference o IsFinalized origins limits na
 -- ---- management
 
 rotate_why : (rules : Setup) (trail : List Note) (now : ℕ) (key value : Text) (new_key : Option Text) (t : TokenNote) (o : OpeningNote)
-    → managed_token trail now value ≡ Some t → first_of (opening_in t.grant) trail ≡ Some o → is_live trail now t ≡ true → o.key ≡ key
+    → managed_token trail now value ≡ Some t → is_live trail now t ≡ true → t.key ≡ key
     → Explained rules trail now (Rotate key value new_key) (rotate_key new_key t o)
-rotate_why rules trail now key value (Some new_key) t o managed found live same = (o, t, (managed, found), live, same, refl)
-rotate_why rules trail now key value None t o managed found live same = tt
+rotate_why rules trail now key value (Some new_key) t o managed live same = (t, managed, live, same, refl)
+rotate_why rules trail now key value None t o managed live same = tt
 
 show_why : (rules : Setup) (trail : List Note) (now : ℕ) (call : Call) (names : List Text) (binding : Option Binding) (wanted : Option (List Right)) (t : Option TokenNote)
     → Explained rules trail now call (show_token names binding wanted t)
@@ -266,28 +266,28 @@ explained rules supply trail (Decide front request) origins limits =
     (λ may. tt) (λ more. let why = decides_more request.verdict (asked_rights w.asks) (rights_or (asked_rights w.asks) request.rights) more in (r, w, found, is, why.0, why.1))))
 explained rules supply trail (Continue key value reference) origins limits =
     found_why rules trail supply.now (Continue key value reference) InvalidContinuation _ (named_grant trail supply.now value) (λ none. none)
-    (λ o named. key_why rules trail supply.now (Continue key value reference) (λ o. continue_at (grant_state trail o.grant supply.now) trail supply.now o reference) o named
+    (λ o named. owner_why rules trail supply.now (Continue key value reference) (λ o. continue_at (grant_state trail o.grant supply.now) trail supply.now o reference) o.key o (o, named, refl)
     (λ same. continue_why rules trail supply.now key value reference o (grant_state trail o.grant supply.now) origins limits named refl))
 explained rules supply trail (Modify key value request) origins limits =
     found_why rules trail supply.now (Modify key value request) InvalidContinuation _ (named_grant trail supply.now value) (λ none. none)
-    (λ o named. key_why rules trail supply.now (Modify key value request) (λ o. modify_by (settle rules o.key (consent_of trail o.grant) request) trail supply.now o request) o named
+    (λ o named. owner_why rules trail supply.now (Modify key value request) (λ o. modify_by (settle rules o.key (consent_of trail o.grant) request) trail supply.now o request) o.key o (o, named, refl)
     (λ same. modify_why rules trail supply.now key value request o (settle rules o.key (consent_of trail o.grant) request) named refl))
 explained rules supply trail (Cancel key value) origins limits =
     found_why rules trail supply.now (Cancel key value) InvalidContinuation _ (named_grant trail supply.now value) (λ none. none)
-    (λ o named. key_why rules trail supply.now (Cancel key value) CancelGrant o named (λ same. tt))
+    (λ o named. owner_why rules trail supply.now (Cancel key value) CancelGrant o.key o (o, named, refl) (λ same. tt))
 explained rules supply trail (Rotate key value new_key) origins limits =
     found_why rules trail supply.now (Rotate key value new_key) InvalidRotation _ (managed_token trail supply.now value) (λ none. inl none)
     (λ t managed. let opens = issued_opened trail t origins (managed_issued trail supply.now value t managed).0 in
     if_known (Explained rules trail supply.now (Rotate key value new_key)) (is_live trail supply.now t) _ (Refuse InvalidRotation)
     (λ live. found_why rules trail supply.now (Rotate key value new_key) InvalidRotation _ (first_of (opening_in t.grant) trail) (there (first_of (opening_in t.grant) trail) opens.0 opens.1)
-    (λ o found. key_why rules trail supply.now (Rotate key value new_key) (rotate_key new_key t) o (t, (managed, found))
-    (λ same. rotate_why rules trail supply.now key value new_key t o managed found live same)))
+    (λ o found. owner_why rules trail supply.now (Rotate key value new_key) (rotate_key new_key t) t.key o (t, managed, refl)
+    (λ same. rotate_why rules trail supply.now key value new_key t o managed live same)))
     (λ dead. inr (t, managed, dead)))
 explained rules supply trail (Revoke key value) origins limits =
     found_why rules trail supply.now (Revoke key value) InvalidRequest _ (managed_token trail supply.now value) (λ none. none)
     (λ t managed. let opens = issued_opened trail t origins (managed_issued trail supply.now value t managed).0 in
     found_why rules trail supply.now (Revoke key value) InvalidRequest _ (first_of (opening_in t.grant) trail) (there (first_of (opening_in t.grant) trail) opens.0 opens.1)
-    (λ o found. key_why rules trail supply.now (Revoke key value) (λ o. RevokeToken t (list_any (is_retirement t.serial) trail)) o (t, (managed, found)) (λ same. tt)))
+    (λ o found. owner_why rules trail supply.now (Revoke key value) (λ o. RevokeToken t (list_any (is_retirement t.serial) trail)) t.key o (t, managed, refl) (λ same. tt)))
 
 -- ---- so an error reply has its cause
 

@@ -16,7 +16,7 @@ use Rattle.gnap_model.specs.Standing.{GrantState, grant_state, named_grant, live
 use Rattle.gnap_model.specs.Standing.GrantState.{IsPending, IsApproved, IsFinalized}
 use Rattle.gnap_model.specs.Judging.{Settled, settle, suits, serves_all}
 use Rattle.gnap_model.specs.Judging.Settled.{AtOnce, ByAsking, Never}
-use Rattle.gnap_model.specs.Actions.{Action, Supply, on_found, with_key}
+use Rattle.gnap_model.specs.Actions.{Action, Supply, on_found, with_owner}
 use Rattle.gnap_model.specs.Actions.Action.{Refuse, ShowToken, ShowInactive, OpenAtOnce, OpenAsking, ShowHandle, TakeDecision, RenewDoor, CollectDecision, WrongReference, LastWrongReference, RefuseAndFinalize, ModifyAtOnce, ModifyAsking, CancelGrant, RevokeToken}
 use Rattle.gnap_model.specs.Begin.{pass_limit, is_past, begin_by, ask_user, opening, show_token}
 use Rattle.gnap_model.specs.Continue.{decided_asks, collect_by, collect_or_renew, is_wrong, is_early, continue_round, continue_at}
@@ -40,8 +40,8 @@ found_room : {A : Type 0} (trail : List Note) (now : ℕ) (code : ErrorCode) (ac
 found_room trail now code act None room = tt
 found_room trail now code act (Some x) room = room x
 
-key_room : (trail : List Note) (now : ℕ) (act : OpeningNote → Action) (key : Text) (o : OpeningNote) → HasRoom trail now (act o) → HasRoom trail now (with_key act key o)
-key_room trail now act key o room = if_both (HasRoom trail now) (same_text o.key key) (act o) (Refuse InvalidClient) room tt
+owner_room : (trail : List Note) (now : ℕ) (act : OpeningNote → Action) (owner key : Text) (o : OpeningNote) → HasRoom trail now (act o) → HasRoom trail now (with_owner act owner key o)
+owner_room trail now act owner key o room = if_both (HasRoom trail now) (same_text owner key) (act o) (Refuse InvalidClient) room tt
 
 asking_room : (trail : List Note) (now : ℕ) (ask : Modes → Action) (modes : Option Modes) → ((m : Modes) → HasRoom trail now (ask m)) → HasRoom trail now (ask_user ask modes)
 asking_room trail now ask None room = tt
@@ -116,18 +116,18 @@ has_room rules supply trail (Decide front request) = found_room trail supply.now
     (λ r. found_room trail supply.now _ _ (terms_of trail r.grant)
     (λ w. if_both (HasRoom trail supply.now) (may_decide request.verdict (asked_rights w.asks) (rights_or (asked_rights w.asks) request.rights)) (TakeDecision r _ request) (Refuse _) tt tt))
 has_room rules supply trail (Continue key value reference) = found_room trail supply.now _ _ (named_grant trail supply.now value)
-    (λ o. key_room trail supply.now (λ o. continue_at (grant_state trail o.grant supply.now) trail supply.now o reference) key o
+    (λ o. owner_room trail supply.now (λ o. continue_at (grant_state trail o.grant supply.now) trail supply.now o reference) o.key key o
     (continue_room (grant_state trail o.grant supply.now) trail supply.now o reference))
 has_room rules supply trail (Modify key value request) = found_room trail supply.now _ _ (named_grant trail supply.now value)
-    (λ o. key_room trail supply.now (λ o. modify_by (settle rules o.key (consent_of trail o.grant) request) trail supply.now o request) key o
+    (λ o. owner_room trail supply.now (λ o. modify_by (settle rules o.key (consent_of trail o.grant) request) trail supply.now o request) o.key key o
     (modify_room (settle rules o.key (consent_of trail o.grant) request) trail supply.now o request))
-has_room rules supply trail (Cancel key value) = found_room trail supply.now _ _ (named_grant trail supply.now value) (λ o. key_room trail supply.now CancelGrant key o tt)
+has_room rules supply trail (Cancel key value) = found_room trail supply.now _ _ (named_grant trail supply.now value) (λ o. owner_room trail supply.now CancelGrant o.key key o tt)
 has_room rules supply trail (Rotate key value new_key) = found_room trail supply.now _ _ (managed_token trail supply.now value)
     (λ t. if_both (HasRoom trail supply.now) (is_live trail supply.now t) _ (Refuse _)
-    (found_room trail supply.now _ _ (first_of (opening_in t.grant) trail) (λ o. key_room trail supply.now (rotate_key new_key t) key o (rotate_room trail supply.now new_key t o))) tt)
+    (found_room trail supply.now _ _ (first_of (opening_in t.grant) trail) (λ o. owner_room trail supply.now (rotate_key new_key t) t.key key o (rotate_room trail supply.now new_key t o))) tt)
 has_room rules supply trail (Revoke key value) = found_room trail supply.now _ _ (managed_token trail supply.now value)
     (λ t. found_room trail supply.now _ _ (first_of (opening_in t.grant) trail)
-    (λ o. key_room trail supply.now (λ o. RevokeToken t (list_any (is_retirement t.serial) trail)) key o tt))
+    (λ o. owner_room trail supply.now (λ o. RevokeToken t (list_any (is_retirement t.serial) trail)) t.key key o tt))
 
 -- An entry of a legal history is answered by an action for its cause, and there is room for the action.
 pub record ChosenWithRoom (past : List Event) (e : Event) : Type 0 where

@@ -147,7 +147,7 @@ outcome_run supply (RenewDoor o) = (refl, tt)
 outcome_run supply (CollectDecision o w d asks) = grant_run supply o (Approved o.grant d.rights ∷ []) asks w.single (if w.subject then d.subject else None) None refl
 outcome_run supply (ModifyAtOnce o consent retired request) = grant_run supply o (retire retired ++ Terms (terms_for o request) ∷ Approved o.grant consent ∷ []) request.asks request.single None None (retired_none retired (Terms (terms_for o request) ∷ Approved o.grant consent ∷ []))
 outcome_run supply (ModifyAsking o retired request modes) = pend_run supply o (retire retired ++ Terms (terms_for o request) ∷ []) modes None (retired_none retired (Terms (terms_for o request) ∷ []))
-outcome_run supply (RotateToken o t) = (refl, (refl, tt))
+outcome_run supply (RotateToken o t key) = (refl, (refl, tt))
 outcome_run supply (RevokeToken t true) = tt
 outcome_run supply _ = tt
 

@@ -150,11 +150,11 @@ action_sound supply trail call (ModifyAsking o retired request modes) g s sound 
     pend_sound supply o (retire retired ++ Terms (terms_for o request) ∷ []) modes None g s
     (retire_sound g s retired (Terms (terms_for o request) ∷ []) (modified_below trail supply.now o retired s sound a.2 (omega arith)) (tt, tt))
 action_sound supply trail call (CancelGrant o) g s sound first a p q = (old_known (outcome_of supply (CancelGrant o)).notes trail o (names_known trail supply.now call o sound a.0) g p, tt)
-action_sound supply trail call (RotateToken o u) g s sound first a p q =
+action_sound supply trail call (RotateToken o u key) g s sound first a p q =
     let u_sound = sound_note (next_grant trail) (first_serial trail) trail (Issued u) sound (managed_issued trail supply.now a.1.0 u a.1.2).0 in
     let u_low : u.serial < first_serial trail = u_sound.0 in
     let g_low : o.grant < next_grant trail = (let e = (opening_noted trail u.grant o a.3).1 in let h = u_sound.1 in omega arith) in
-    (omega arith, ((omega arith, old_known (outcome_of supply (RotateToken o u)).notes trail o g_low g p, (slice_index supply.words 0, slice_index supply.words 1, refl)), tt))
+    (omega arith, ((omega arith, old_known (outcome_of supply (RotateToken o u key)).notes trail o g_low g p, (slice_index supply.words 0, slice_index supply.words 1, refl)), tt))
 action_sound supply trail call (RevokeToken u false) g s sound first a p q =
     let u_sound = sound_note (next_grant trail) (first_serial trail) trail (Issued u) sound (managed_issued trail supply.now a.1.0 u a.1.2).0 in
     let u_low : u.serial < first_serial trail = u_sound.0 in (omega arith, tt)

@@ -121,7 +121,7 @@ pub silent_others : (supply : Supply) (action : Action) (other : ℕ) → IsAnot
 silent_others supply (TakeDecision r rights request) other e = record { opening = refl; change = refl; unended = refl }
 silent_others supply (RenewDoor o) other e = record { opening = refl; change = refl; unended = refl }
 silent_others supply (WrongReference o) other e = record { opening = refl; change = refl; unended = refl }
-silent_others supply (RotateToken o t) other e = record { opening = refl; change = refl; unended = refl }
+silent_others supply (RotateToken o t key) other e = record { opening = refl; change = refl; unended = refl }
 silent_others supply (RevokeToken t false) other e = record { opening = refl; change = refl; unended = refl }
 silent_others supply (OpenAtOnce o request) other e = silent_on o.grant other (outcome_of supply (OpenAtOnce o request)).notes e
     (grant_on supply o (Opened o ∷ Terms (terms_for o request) ∷ Approved o.grant [] ∷ []) request.asks request.single None (instance_of o) (refl, (tt, (refl, tt))))
@@ -176,7 +176,7 @@ silent_or_goes_on supply trail call action grant cause low = at action cause
     at (TakeDecision r rights request) a = inl (silent_others supply (TakeDecision r rights request) grant tt)
     at (RenewDoor o) a = inl (silent_others supply (RenewDoor o) grant tt)
     at (WrongReference o) a = inl (silent_others supply (WrongReference o) grant tt)
-    at (RotateToken o t) a = inl (silent_others supply (RotateToken o t) grant tt)
+    at (RotateToken o t key) a = inl (silent_others supply (RotateToken o t key) grant tt)
     at (RevokeToken t was_retired) a = inl (silent_others supply (RevokeToken t was_retired) grant tt)
 
 -- ---- time

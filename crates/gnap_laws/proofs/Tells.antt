@@ -84,12 +84,12 @@ hands supply (ModifyAsking o retired request modes) f =
       | inr y ↦ not_tokens (door_note supply o 0 ∷ Pended (round_for supply o modes) ∷ []) (tt, (tt, tt)) t y
     ])
 hands supply (CancelGrant o) f = none_handed f (outcome_of supply (CancelGrant o)).notes supply.now (not_tokens (outcome_of supply (CancelGrant o)).notes (tt, tt))
-hands supply (RotateToken o u) f = (
-  (λ e. (successor supply o u, inr (inl refl), sym (or-false (f (token_out supply.now (successor supply o u)))) ∙ e)),
-  (λ h. or_left (f (token_out supply.now (successor supply o u))) false (subst (λ (x : TokenNote). f (token_out supply.now x) ≡ true) (is h.0 h.1) h.2)),
+hands supply (RotateToken o u key) f = (
+  (λ e. (successor supply o u key, inr (inl refl), sym (or-false (f (token_out supply.now (successor supply o u key)))) ∙ e)),
+  (λ h. or_left (f (token_out supply.now (successor supply o u key))) false (subst (λ (x : TokenNote). f (token_out supply.now x) ≡ true) (is h.0 h.1) h.2)),
 )
   where
-    is : (t : TokenNote) → HasNote (outcome_of supply (RotateToken o u)).notes (Issued t) → t ≡ successor supply o u
+    is : (t : TokenNote) → HasNote (outcome_of supply (RotateToken o u key)).notes (Issued t) → t ≡ successor supply o u key
     is t (inl x) = cc x
     is t (inr (inl x)) = cc x
     is t (inr (inr x)) = absurd x
@@ -162,7 +162,7 @@ opens supply trail call (ModifyAtOnce q consent retired request) o a h =
 opens supply trail call (ModifyAsking q retired request modes) o a h =
     absurd (not_openings (outcome_of supply (ModifyAsking q retired request modes)).notes o (openings-append (retire retired ++ Terms (terms_for q request) ∷ []) (door_note supply q 0 ∷ Pended (round_for supply q modes) ∷ []) (retire_no_opening retired (Terms (terms_for q request) ∷ []) (tt, tt)) (tt, (tt, tt))) h)
 opens supply trail call (CancelGrant q) o a h = absurd (not_openings (outcome_of supply (CancelGrant q)).notes o (tt, tt) h)
-opens supply trail call (RotateToken q u) o a h = absurd (not_openings (outcome_of supply (RotateToken q u)).notes o (tt, (tt, tt)) h)
+opens supply trail call (RotateToken q u key) o a h = absurd (not_openings (outcome_of supply (RotateToken q u key)).notes o (tt, (tt, tt)) h)
 opens supply trail call (RevokeToken u true) o a h = absurd h
 opens supply trail call (RevokeToken u false) o a h = absurd (not_openings (outcome_of supply (RevokeToken u false)).notes o (tt, tt) h)
 
@@ -199,13 +199,14 @@ issues supply trail call (ModifyAsking o retired request modes) t a h =
       | inr y ↦ not_tokens (door_note supply o 0 ∷ Pended (round_for supply o modes) ∷ []) (tt, (tt, tt)) t y
     ])
 issues supply trail call (CancelGrant o) t a h = absurd (not_tokens (outcome_of supply (CancelGrant o)).notes (tt, tt) t h)
-issues supply trail call (RotateToken o u) t a h =
-    let k = token_until supply o (record { label = u.label; rights = u.rights; bearer = u.bearer } ∷ []) 0 t (of h) in
-    (o, inr (opening_noted trail u.grant o a.3).0, k.0, k.1)
+issues supply trail call (RotateToken o u key) t a h =
+    let until : t.until ≡ min (supply.now + 3600) o.end = ap (λ (x : TokenNote). x.until) (is h) in
+    (o, inr (opening_noted trail u.grant o a.3).0, ap (λ (x : TokenNote). x.grant) (is h), omega arith)
   where
-    of : HasNote (outcome_of supply (RotateToken o u)).notes (Issued t) → HasNote (map Issued (tokens_for supply o (record { label = u.label; rights = u.rights; bearer = u.bearer } ∷ []) 0)) (Issued t)
-    of (inl x) = cc x
-    of (inr x) = x
+    is : HasNote (outcome_of supply (RotateToken o u key)).notes (Issued t) → t ≡ successor supply o u key
+    is (inl x) = cc x
+    is (inr (inl x)) = cc x
+    is (inr (inr x)) = absurd x
 issues supply trail call (RevokeToken u false) t a h = absurd (not_tokens (outcome_of supply (RevokeToken u false)).notes (tt, tt) t h)
 issues supply trail call _ t a h = absurd h
 

@@ -44,18 +44,22 @@ abbrev pub NamesDecision : List Note → ℕ → Text → OpeningNote → Decisi
 NamesDecision trail now value opening decision verdict = ((round : RoundNote) × NamesRound trail now value opening round)
     × (decision_of trail opening.grant ≡ Some decision) × (decision.verdict ≡ verdict)
 
--- the management value names the token, which is of the grant
-abbrev pub NamesTokenOf : List Note → ℕ → Text → TokenNote → OpeningNote → Type 0
-NamesTokenOf trail now value token opening = (managed_token trail now value ≡ Some token) × (first_of (opening_in token.grant) trail ≡ Some opening)
+-- the continuation value names a grant of this key
+abbrev pub NamesGrantOf : List Note → ℕ → Text → (owner : Text) → Type 0
+NamesGrantOf trail now value owner = (opening : OpeningNote) × (named_grant trail now value ≡ Some opening) × (opening.key ≡ owner)
 
--- the value that the call presents names the grant, or one of its tokens
-abbrev pub NamesGrant : List Note → ℕ → Call → OpeningNote → Type 0
-NamesGrant trail now (Continue key value reference) opening = named_grant trail now value ≡ Some opening
-NamesGrant trail now (Modify key value request) opening = named_grant trail now value ≡ Some opening
-NamesGrant trail now (Cancel key value) opening = named_grant trail now value ≡ Some opening
-NamesGrant trail now (Rotate key value new_key) opening = (token : TokenNote) × NamesTokenOf trail now value token opening
-NamesGrant trail now (Revoke key value) opening = (token : TokenNote) × NamesTokenOf trail now value token opening
-NamesGrant trail now _ opening = ⊥
+-- the management value names a token of this key
+abbrev pub NamesTokenOf : List Note → ℕ → Text → (owner : Text) → Type 0
+NamesTokenOf trail now value owner = (token : TokenNote) × (managed_token trail now value ≡ Some token) × (token.key ≡ owner)
+
+-- this key's is the grant, or the token, that is named by the value which the call presents
+abbrev pub IsOwner : List Note → ℕ → Call → (owner : Text) → Type 0
+IsOwner trail now (Continue key value reference) owner = NamesGrantOf trail now value owner
+IsOwner trail now (Modify key value request) owner = NamesGrantOf trail now value owner
+IsOwner trail now (Cancel key value) owner = NamesGrantOf trail now value owner
+IsOwner trail now (Rotate key value new_key) owner = NamesTokenOf trail now value owner
+IsOwner trail now (Revoke key value) owner = NamesTokenOf trail now value owner
+IsOwner trail now _ owner = ⊥
 
 -- so many tokens more would be more than may be live
 abbrev pub AreTooMany : List TokenNote → ℕ → Type 0
@@ -63,9 +67,9 @@ AreTooMany live more = live_limit < length live + more
 
 -- ---- the cause of each code
 
--- invalid_client: the call presents a value of a grant, and its key isn't that grant's
+-- invalid_client: the call presents a value of a grant or of a token, and its key isn't that grant's or that token's
 abbrev pub HasAnotherKey : List Note → ℕ → Call → Type 0
-HasAnotherKey trail now call = (opening : OpeningNote) × NamesGrant trail now call opening × (opening.key ≢ caller call)
+HasAnotherKey trail now call = (owner : Text) × IsOwner trail now call owner × (owner ≢ caller call)
 
 -- invalid_request: a poll in a round whose end is told by a reference; a revocation whose value names no token; a decision that grants more than was asked
 abbrev pub IsOutOfPlace : List Note → ℕ → Call → Type 0
@@ -149,10 +153,10 @@ RotatesNothing trail now (Rotate key value new_key) = (managed_token trail now v
     ⊎ ((token : TokenNote) × (managed_token trail now value ≡ Some token) × IsFalse (is_live trail now token))
 RotatesNothing trail now _ = ⊥
 
--- key_rotation_not_supported: the grant's own key asks that a live token be bound to a new key
+-- key_rotation_not_supported: the token's own key asks that a live token be bound to a new key
 abbrev pub RotatesKey : List Note → ℕ → Call → Type 0
-RotatesKey trail now (Rotate key value new_key) = (opening : OpeningNote) × (token : TokenNote)
-    × NamesTokenOf trail now value token opening × IsTrue (is_live trail now token) × (opening.key ≡ key) × IsTrue (is_some new_key)
+RotatesKey trail now (Rotate key value new_key) = (token : TokenNote)
+    × (managed_token trail now value ≡ Some token) × IsTrue (is_live trail now token) × (token.key ≡ key) × IsTrue (is_some new_key)
 RotatesKey trail now _ = ⊥
 
 -- the cause of a code; the machine gives no other

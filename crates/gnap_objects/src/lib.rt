@@ -23,9 +23,10 @@ pub use call_reading::{BodyForm, CallKind, CallOrRefusal, read_call, stranger};
 pub use continuations::{read_continue, read_rotate};
 pub use decisions::{read_decide, read_handle};
 pub use fault::ObjectFault;
+pub use gnap_model::key_rows::KeyRows;
 pub use gnap_model::objects::{
     Ask, Asks, Binding, ContinueRequest, DecideRequest, ErrorCode, Finish, GrantRequest,
-    IntrospectRequest, KeyRow, KeyRows, Modes, Role, Setup, Verdict,
+    IntrospectRequest, KeyRow, Modes, Role, Setup, Verdict,
 };
 pub use grants::read_grant;
 pub use introspections::read_introspect;

@@ -19,7 +19,8 @@ use crate::setup_members::{base_of, object_of, secret_of};
 use bytes_and_lists::bytes::Bytes;
 use bytes_and_lists::memory::Mem;
 use bytes_and_lists::seq::Seq;
-use gnap_model::objects::{KeyRow, KeyRows, Role, Setup};
+use gnap_model::key_rows::KeyRows;
+use gnap_model::objects::{KeyRow, Role, Setup};
 use gnap_model::rights::{Names, Rights};
 use json_objects::TextSet;
 use serde_json::Value;
@@ -62,7 +63,7 @@ fn key_id_of(
     alloc: Global,
     value: &Value,
     ids: &mut TextSet,
-    before: &KeyRows,
+    before: &Seq<KeyRow>,
 ) -> Result<Bytes, ObjectFault>
     requires ids { (id : List ℕ) → has_text ids.old id ≡ list_any (has_id id) before.now }
     ensures value { Gives faults.OutOfMemory (λ s. s) result (key_id_of before.now (view value.now)) }
@@ -163,7 +164,7 @@ fn key_row_of(
     alloc: Global,
     value: &Value,
     ids: &mut TextSet,
-    before: &KeyRows,
+    before: &Seq<KeyRow>,
 ) -> Result<KeyRow, ObjectFault>
     requires body { IsBody (view value.now) }
     requires ids { (id : List ℕ) → has_text ids.old id ≡ list_any (has_id id) before.now }
@@ -188,7 +189,7 @@ fn key_row_of(
     only_key_members(alloc, value, role, row)
 }
 
-fn keys_from(alloc: Global, items: &Vec<Value>) -> Result<KeyRows, SetupFault>
+fn keys_from(alloc: Global, items: &Vec<Value>) -> Result<Seq<KeyRow>, SetupFault>
     requires { AreBodies (items_view items.now.items) }
     ensures value { Gives OutOfMemory (λ k. k) result (keys_from [] (items_view items.now.items)) }
     ensures fits { IfOk result (AllByRecursion KeyFits) }
@@ -217,7 +218,7 @@ fn keys_of(alloc: Global, value: &Value) -> Result<KeyRows, SetupFault>
     if 4096 < keys.len() {
         return Err(ObjectFault::too_many(alloc, "keys").into());
     }
-    Ok(keys)
+    Ok(KeyRows::new(alloc, keys)?)
 }
 
 #[tactic(auto, unfolding(crate::specs::Setups::setup_of))]

@@ -23,7 +23,7 @@ use Rattle.gnap_model.specs.Begin.{end_of, is_past, ask_user, show_token}
 use Rattle.gnap_model.specs.Continue.{is_wrong, decided_asks}
 use Rattle.gnap_model.specs.Manage.{rotate_key}
 use Rattle.gnap_model.specs.Front.{decide_on}
-use Rattle.gnap_model.specs.Actions.{Action, Supply, on_found, with_key}
+use Rattle.gnap_model.specs.Actions.{Action, Supply, on_found, with_owner}
 use Rattle.gnap_model.specs.Actions.Action.{Refuse, LapseAction, OpenAtOnce, OpenAsking, ShowRound, ShowHandle, RenewDoor, CollectDecision, WrongReference, LastWrongReference, RefuseAndFinalize, ModifyAtOnce, ModifyAsking, CancelGrant, RevokeToken}
 use Rattle.gnap_model.specs.Standing.{code_in}
 use Rattle.gnap_tables.specs.Rows.{Round, GrantRow, TokenRow}
@@ -106,9 +106,9 @@ modify_rows ByAsking tables now row request =
 
 -- ---- management
 
--- an action on a token's grant, where the key is that grant's
+-- an action on a token's grant, where the key is the token's
 abbrev pub on_row : ErrorCode → List GrantRow → Text → TokenRow → (OpeningNote → Action) → Action
-on_row code grants key token act = on_found code (λ (row : GrantRow). with_key act key (opening_of row)) (row_by_number token.grant grants)
+on_row code grants key token act = on_found code (λ (row : GrantRow). with_owner act token.key key (opening_of row)) (row_by_number token.grant grants)
 
 -- ---- all calls
 

@@ -18,17 +18,17 @@ use Rattle.world_uses.specs.Uses.{UsesWorld}
 pub first_input : (purpose : Purpose) (place : ℕ) → input_of purpose ≡ Some place → place ≡ 0
 first_input purposes.Replay place is = cc
 first_input (purposes.Field kind) place is = cc
-first_input (purposes.Sign setup key created) place is = absurd cc
+first_input (purposes.Sign setup key created _) place is = absurd cc
 first_input (purposes.Verify setup now) place is = absurd cc
 
 -- where memory ran out before anything was opened
 pub starved_carries : (command : Command) (text : List ℕ → Option (List ℕ)) (world : WorldState) (out : Told) → CarriesOut command text world world out out Memory
 starved_carries (Replay file) text world out = inl (refl, (refl, inr refl))
 starved_carries (Field kind file) text world out = inl (refl, (refl, inr refl))
-starved_carries (Sign config key created file) text world out = inl (refl, (refl, inr refl))
+starved_carries (Sign config key created file _) text world out = inl (refl, (refl, inr refl))
 starved_carries (Verify config now file) text world out = inl (refl, (refl, inr refl))
 starved_carries (As config listen workers quota) text world out = inl (refl, (refl, inr refl))
-starved_carries (Rs config listen server quota) text world out = inl (refl, (refl, inr refl))
+starved_carries (Rs config listen server quota cache) text world out = inl (refl, (refl, inr refl))
 starved_carries (Client config address script) text world out = inl (refl, (refl, inr refl))
 starved_carries (Hash texts) text world out = (refl, (record { sent = []; told = writes_none out; ends = refl }, inr (inr refl)))
 starved_carries (Load grants start workers) text world out = (refl, (record { sent = []; told = writes_none out; ends = refl }, inr (inr refl)))

@@ -1,8 +1,10 @@
 -- What the words of a command line mean, and what each command opens.
-use Rattle.std.specs.Prelude.{◌≡◌, ◌≤◌, ℕ, List, [], ◌∷◌, Bool, true, false, not, ◌==◌, codes, Option, Some, None, is_some, option_map, option_and_then, slice_get, Result, MatchResult, if◌then◌else◌}
+use Rattle.std.specs.Prelude.{◌≡◌, ◌≤◌, ℕ, List, [], ◌∷◌, Bool, true, false, not, ◌==◌, ◌&&◌, IfSome, codes, Option, Some, None, is_some, option_map, option_and_then, slice_get, Result, MatchResult, if◌then◌else◌}
 use Rattle.std.specs.List.{list_all}
+use Rattle.std.specs.Option.{option_or}
 use Rattle.std.specs.Str.{bytes_eq}
 use Rattle.bytes_and_lists.specs.Moments.{last_moment}
+use Rattle.message_signature.specs.Marks.{is_nonce}
 use Rattle.gnap_io.specs.declared.world.Opening.{Opening}
 use Rattle.gnap_io.specs.declared.world.Opening.TheVariants.{File, Gears, Link}
 use Rattle.gnap_tool.specs.declared.command.Command.{Command}
@@ -31,6 +33,10 @@ kind_of word =
     else if bytes_eq word (codes "dictionary") then Some Dictionary
     else None
 
+-- a word that may be a nonce: 1 to 64 letters, digits, `.`, `_` or `-`, of which the first is no `-`
+abbrev pub is_nonce_word : List ℕ → Bool
+is_nonce_word word = is_argument word && is_nonce word
+
 -- the moment that a word is, in seconds since 1970
 abbrev pub moment_of : List ℕ → Option ℕ
 moment_of word = number_within 0 last_moment word
@@ -45,7 +51,7 @@ abbrev pub field_of : List (List ℕ) → Option Command
 field_of (kind ∷ file ∷ []) = if is_argument file then option_map (λ k. Field k file) (kind_of kind) else None
 field_of _ = None
 
--- three words, or four
+-- three words, four, or five
 abbrev pub with_three : (List ℕ → List ℕ → List ℕ → Option Command) → List (List ℕ) → Option Command
 with_three f (first ∷ second ∷ third ∷ []) = f first second third
 with_three f _ = None
@@ -54,9 +60,22 @@ abbrev pub with_four : (List ℕ → List ℕ → List ℕ → List ℕ → Opti
 with_four f (first ∷ second ∷ third ∷ fourth ∷ []) = f first second third fourth
 with_four f _ = None
 
+abbrev pub with_five : (List ℕ → List ℕ → List ℕ → List ℕ → List ℕ → Option Command) → List (List ℕ) → Option Command
+with_five f (first ∷ second ∷ third ∷ fourth ∷ fifth ∷ []) = f first second third fourth fifth
+with_five f _ = None
+
 abbrev pub sign_words : List ℕ → List ℕ → List ℕ → List ℕ → Option Command
 sign_words config key created file =
-    if are_arguments (config ∷ key ∷ file ∷ []) then option_map (λ moment. Sign config key moment file) (moment_of created) else None
+    if are_arguments (config ∷ key ∷ file ∷ []) then option_map (λ moment. Sign config key moment file None) (moment_of created) else None
+
+abbrev pub marked_sign_words : List ℕ → List ℕ → List ℕ → List ℕ → List ℕ → Option Command
+marked_sign_words config key created file nonce =
+    if are_arguments (config ∷ key ∷ file ∷ []) && is_nonce_word nonce
+    then option_map (λ moment. Sign config key moment file (Some nonce)) (moment_of created) else None
+
+-- four words, or five
+abbrev pub sign_of : List (List ℕ) → Option Command
+sign_of words = option_or (with_five marked_sign_words words) (with_four sign_words words)
 
 abbrev pub verify_words : List ℕ → List ℕ → List ℕ → Option Command
 verify_words config now file = if are_arguments (config ∷ file ∷ []) then option_map (λ moment. Verify config moment file) (moment_of now) else None
@@ -67,10 +86,19 @@ as_words config listen workers quota =
     if are_arguments (config ∷ listen ∷ [])
     then option_and_then (λ n. option_map (λ most. As config listen n most) (number_within 0 1000000 quota)) (number_within 1 64 workers) else None
 
--- at most 1,000,000 connections
+-- at most 1,000,000 connections, and with a cache 1 to 16,384 replies
 abbrev pub rs_words : List ℕ → List ℕ → List ℕ → List ℕ → Option Command
 rs_words config listen server quota =
-    if are_arguments (config ∷ listen ∷ server ∷ []) then option_map (λ most. Rs config listen server most) (number_within 0 1000000 quota) else None
+    if are_arguments (config ∷ listen ∷ server ∷ []) then option_map (λ most. Rs config listen server most None) (number_within 0 1000000 quota) else None
+
+abbrev pub cached_rs_words : List ℕ → List ℕ → List ℕ → List ℕ → List ℕ → Option Command
+cached_rs_words config listen server quota cache =
+    if are_arguments (config ∷ listen ∷ server ∷ [])
+    then option_and_then (λ most. option_map (λ n. Rs config listen server most (Some n)) (number_within 1 16384 cache)) (number_within 0 1000000 quota) else None
+
+-- four words, or five
+abbrev pub rs_of : List (List ℕ) → Option Command
+rs_of words = option_or (with_five cached_rs_words words) (with_four rs_words words)
 
 abbrev pub client_words : List ℕ → List ℕ → List ℕ → Option Command
 client_words config address script = if are_arguments (config ∷ address ∷ script ∷ []) then Some (Client config address script) else None
@@ -95,28 +123,28 @@ load_words grants start workers =
     option_and_then (λ n. option_and_then (λ first. option_map (λ w. Load n first w) (number_within 1 64 workers))
     (number_within 0 18446744073709551615 start)) (number_within 1 100000 grants)
 
--- how many words the command of a name takes
-abbrev pub count_of : List ℕ → Option ℕ
-count_of name =
-    if bytes_eq name (codes "replay") then Some 1
-    else if bytes_eq name (codes "field") then Some 2
-    else if bytes_eq name (codes "sign") then Some 4
-    else if bytes_eq name (codes "verify") then Some 3
-    else if bytes_eq name (codes "as") then Some 4
-    else if bytes_eq name (codes "rs") then Some 4
-    else if bytes_eq name (codes "client") then Some 3
-    else if bytes_eq name (codes "hash") then Some 5
-    else if bytes_eq name (codes "load") then Some 3
+-- how many words the command of a name takes, at least and at most
+abbrev pub counts_of : List ℕ → Option (ℕ × ℕ)
+counts_of name =
+    if bytes_eq name (codes "replay") then Some (1, 1)
+    else if bytes_eq name (codes "field") then Some (2, 2)
+    else if bytes_eq name (codes "sign") then Some (4, 5)
+    else if bytes_eq name (codes "verify") then Some (3, 3)
+    else if bytes_eq name (codes "as") then Some (4, 4)
+    else if bytes_eq name (codes "rs") then Some (4, 5)
+    else if bytes_eq name (codes "client") then Some (3, 3)
+    else if bytes_eq name (codes "hash") then Some (5, 5)
+    else if bytes_eq name (codes "load") then Some (3, 3)
     else None
 
 abbrev pub command_named : List ℕ → List (List ℕ) → Option Command
 command_named name arguments =
     if bytes_eq name (codes "replay") then replay_of arguments
     else if bytes_eq name (codes "field") then field_of arguments
-    else if bytes_eq name (codes "sign") then with_four sign_words arguments
+    else if bytes_eq name (codes "sign") then sign_of arguments
     else if bytes_eq name (codes "verify") then with_three verify_words arguments
     else if bytes_eq name (codes "as") then with_four as_words arguments
-    else if bytes_eq name (codes "rs") then with_four rs_words arguments
+    else if bytes_eq name (codes "rs") then rs_of arguments
     else if bytes_eq name (codes "client") then with_three client_words arguments
     else if bytes_eq name (codes "hash") then hash_of arguments
     else if bytes_eq name (codes "load") then with_three load_words arguments
@@ -128,15 +156,21 @@ command_of (name ∷ arguments) = command_named name arguments
 
 -- ---- how they are read
 
+-- which of its counts of words a command is asked for, where so many are given
+abbrev pub count_among : ℕ → ℕ → ℕ → ℕ
+count_among least most given = if given == most then most else least
+
 -- whether a word is of a form
 abbrev pub is_of : WordForm → List ℕ → Bool
 is_of forms.Argument word = is_argument word
 is_of forms.FieldKind word = is_some (kind_of word)
 is_of forms.HashMethod word = is_some (long_method word)
 is_of forms.Moment word = is_some (moment_of word)
+is_of forms.Nonce word = is_nonce_word word
 is_of forms.Workers word = is_some (number_within 1 64 word)
 is_of forms.Connections word = is_some (number_within 0 1000000 word)
 is_of forms.Grants word = is_some (number_within 1 100000 word)
+is_of forms.Replies word = is_some (number_within 1 16384 word)
 is_of forms.Start word = is_some (number_within 0 18446744073709551615 word)
 
 -- Memory ran out, or the words are no command, and where one of those after the name is at fault, it isn't of this form.
@@ -150,14 +184,14 @@ AreWrong (wrong.Word place form) words reading = (reading ≡ None) × (option_m
 abbrev pub AreRead : Result Command WrongWords → List (List ℕ) → Option Command → Type 0
 AreRead result words reading = MatchResult result (λ command. reading ≡ Some command) (λ fault. AreWrong fault words reading)
 
--- the numbers of a command are in their ranges: moments before the year 10000, and 1 to 64 workers
+-- the words of a command are in their ranges: moments before the year 10000, nonces that can be written, 1 to 64 workers, and 1 to 16,384 replies in a cache
 abbrev pub IsWithinRanges : Command → Type 0
 IsWithinRanges (Replay file) = Unit {0}
 IsWithinRanges (Field kind file) = Unit {0}
-IsWithinRanges (Sign config key created file) = created ≤ last_moment
+IsWithinRanges (Sign config key created file nonce) = (created ≤ last_moment) × IfSome nonce (λ n. is_nonce n ≡ true)
 IsWithinRanges (Verify config now file) = now ≤ last_moment
 IsWithinRanges (As config listen workers quota) = (1 ≤ workers) × (workers ≤ 64)
-IsWithinRanges (Rs config listen server quota) = Unit {0}
+IsWithinRanges (Rs config listen server quota cache) = IfSome cache (λ n. (1 ≤ n) × (n ≤ 16384))
 IsWithinRanges (Client config address script) = Unit {0}
 IsWithinRanges (Hash texts) = Unit {0}
 IsWithinRanges (Load grants start workers) = (1 ≤ workers) × (workers ≤ 64)
@@ -168,10 +202,10 @@ IsWithinRanges (Load grants start workers) = (1 ≤ workers) × (workers ≤ 64)
 abbrev pub openings_of : Command → List Opening
 openings_of (Replay file) = File file ∷ []
 openings_of (Field kind file) = File file ∷ []
-openings_of (Sign config key created file) = File config ∷ File file ∷ []
+openings_of (Sign config key created file _) = File config ∷ File file ∷ []
 openings_of (Verify config now file) = File config ∷ File file ∷ []
 openings_of (As config listen workers quota) = File config ∷ Gears listen workers quota ∷ []
-openings_of (Rs config listen server quota) = File config ∷ Link server ∷ Gears listen 1 quota ∷ []
+openings_of (Rs config listen server quota cache) = File config ∷ Link server ∷ Gears listen 1 quota ∷ []
 openings_of (Client config address script) = File config ∷ Link address ∷ File script ∷ []
 openings_of (Hash texts) = []
 openings_of (Load grants start workers) = []
@@ -180,10 +214,10 @@ openings_of (Load grants start workers) = []
 abbrev pub input_place : Command → Option ℕ
 input_place (Replay file) = Some 0
 input_place (Field kind file) = Some 0
-input_place (Sign config key created file) = None
+input_place (Sign config key created file _) = None
 input_place (Verify config now file) = None
 input_place (As config listen workers quota) = None
-input_place (Rs config listen server quota) = None
+input_place (Rs config listen server quota cache) = None
 input_place (Client config address script) = Some 1
 input_place (Hash texts) = None
 input_place (Load grants start workers) = None

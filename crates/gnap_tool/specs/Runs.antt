@@ -1,6 +1,8 @@
 -- How a run of a command ends, and what it did.
-use Rattle.std.specs.Prelude.{◌≡◌, ◌<◌, ◌^◌, ◌⊎◌, ℕ, List, [], ◌++◌, Option, Some, None, Result, Ok, Err}
+use Rattle.std.specs.Prelude.{◌≡◌, ◌<◌, ◌^◌, ◌⊎◌, ℕ, List, [], ◌++◌, true, Option, Some, None, IfSome, Result, Ok, Err}
 use Rattle.std.specs.Io.BufRead.{strip_last}
+use Rattle.std.specs.Option.{option_copied}
+use Rattle.message_signature.specs.Marks.{is_nonce}
 use Rattle.gnap_io.specs.Outside.{Told}
 use Rattle.gnap_io.specs.Worlds.{WorldState}
 use Rattle.gnap_io.specs.declared.world.WorldFault.{WorldFault}
@@ -21,6 +23,8 @@ use Rattle.printed_answers.specs.MessageAnswers.{PrintsFor}
 use Rattle.call_replay.specs.Replays.{ReplaysFile}
 use Rattle.command_inputs.specs.Configs.{setup_in}
 use Rattle.resource_server.specs.declared.setup.RsSetup.{RsSetup}
+use Rattle.introspection_cache.specs.Caching.{Caches, new_cache}
+use Rattle.rs_edge.specs.GuardedSteps.{GuardsKeeping, guards_asking}
 use Rattle.rs_edge.specs.RsServices.{IsRsService}
 use Rattle.signed_files.specs.SignedText.{SignsFile}
 use Rattle.signed_files.specs.Verdicts.{VerifiesFile}
@@ -32,21 +36,22 @@ use Rattle.world_uses.specs.Uses.{Over, Unopened, Linked, BySetup, ended_by_faul
 abbrev pub Answers : Purpose → List ℕ → List ℕ → Told → Told → Ended → Type 0
 Answers purposes.Replay taken rest out out_now ended = ReplaysFile taken rest out out_now ended
 Answers (purposes.Field kind) taken rest out out_now ended = PrintsField kind (strip_last 10 (taken ++ rest)) out out_now ended
-Answers (purposes.Sign setup key created) taken rest out out_now ended = PrintsFor (SignsFile setup.now key.now created (taken ++ rest)) out out_now ended
+Answers (purposes.Sign setup key created nonce) taken rest out out_now ended =
+    PrintsFor (SignsFile setup.now key.now created (option_copied nonce) (taken ++ rest)) out out_now ended
 Answers (purposes.Verify setup now) taken rest out out_now ended = PrintsFor (VerifiesFile setup.now now (taken ++ rest)) out out_now ended
 
--- The setup of a purpose is one that was read, and what is signed is created at a moment.
+-- The setup of a purpose is one that was read, and what is signed is created at a moment, with a nonce that can be written.
 abbrev pub IsValid : Purpose → Type 0
 IsValid purposes.Replay = Unit {0}
 IsValid (purposes.Field kind) = Unit {0}
-IsValid (purposes.Sign setup key created) = IsSetup setup.now × (created < 10 ^ 15)
+IsValid (purposes.Sign setup key created nonce) = IsSetup setup.now × (created < 10 ^ 15) × IfSome (option_copied nonce) (λ n. is_nonce n ≡ true)
 IsValid (purposes.Verify setup now) = Unit {0}
 
 -- where the file of a purpose stands among the inputs that may be too long
 abbrev pub input_of : Purpose → Option ℕ
 input_of purposes.Replay = Some 0
 input_of (purposes.Field kind) = Some 0
-input_of (purposes.Sign setup key created) = None
+input_of (purposes.Sign setup key created _) = None
 input_of (purposes.Verify setup now) = None
 
 -- ---- a server at an address
@@ -61,10 +66,16 @@ abbrev pub Serves : Setup → List ℕ → ℕ → ℕ → WorldState → WorldS
 Serves setup listen workers quota before after ended = ((after ≡ before) × ((ended ≡ Failed) ⊎ (ended ≡ Memory)))
     ⊎ ((answer : Result (Unit {0}) WorldFault) × (ended ≡ ended_service answer) × IsService setup listen workers quota before after answer)
 
--- the same of a resource server, with the authorization server at another address
-abbrev pub ServesRs : RsSetup → List ℕ → List ℕ → ℕ → WorldState → WorldState → Ended → Type 0
-ServesRs setup listen server quota before after ended = ((after ≡ before) × ((ended ≡ Failed) ⊎ (ended ≡ Memory)))
-    ⊎ ((answer : Result (Unit {0}) WorldFault) × (ended ≡ ended_service answer) × IsRsService setup listen server quota before after answer)
+-- the same of a resource server whose guard kept this first, with the authorization server at another address
+abbrev pub ServesGuarded : {K : Type 0} → GuardsKeeping K → K → RsSetup → List ℕ → List ℕ → ℕ → WorldState → WorldState → Ended → Type 0
+ServesGuarded {K} guards first setup listen server quota before after ended = ((after ≡ before) × ((ended ≡ Failed) ⊎ (ended ≡ Memory)))
+    ⊎ ((last : K) × (answer : Result (Unit {0}) WorldFault) × (ended ≡ ended_service answer)
+    × IsRsService guards setup listen server quota before after first last answer)
+
+-- Without a cache the token of each request is asked about. With one, which is empty first, a reply is kept for a while.
+abbrev pub ServesRs : RsSetup → List ℕ → List ℕ → ℕ → Option ℕ → WorldState → WorldState → Ended → Type 0
+ServesRs setup listen server quota None before after ended = ServesGuarded guards_asking tt setup listen server quota before after ended
+ServesRs setup listen server quota (Some capacity) before after ended = ServesGuarded Caches (new_cache capacity) setup listen server quota before after ended
 
 -- ---- the commands
 
@@ -74,18 +85,18 @@ CarriesOut (Replay file) text before after out out_now ended =
     Over (text file) before after (Unopened out out_now ended) (λ taken rest. ReplaysFile taken rest out out_now ended)
 CarriesOut (Field kind file) text before after out out_now ended =
     Over (text file) before after (Unopened out out_now ended) (λ taken rest. PrintsField kind (strip_last 10 (taken ++ rest)) out out_now ended)
-CarriesOut (Sign config key created file) text before after out out_now ended =
+CarriesOut (Sign config key created file nonce) text before after out out_now ended =
     BySetup setup_in (text config) before after out out_now ended (λ between setup.
-    Over (text file) between after (Unopened out out_now ended) (λ taken rest. PrintsFor (SignsFile setup key created (taken ++ rest)) out out_now ended))
+    Over (text file) between after (Unopened out out_now ended) (λ taken rest. PrintsFor (SignsFile setup key created nonce (taken ++ rest)) out out_now ended))
 CarriesOut (Verify config now file) text before after out out_now ended =
     BySetup setup_in (text config) before after out out_now ended (λ between setup.
     Over (text file) between after (Unopened out out_now ended) (λ taken rest. PrintsFor (VerifiesFile setup now (taken ++ rest)) out out_now ended))
 CarriesOut (As config listen workers quota) text before after out out_now ended =
     BySetup setup_in (text config) before after out out_now ended (λ between setup.
     (out_now ≡ out) × Serves setup listen workers quota between after ended)
-CarriesOut (Rs config listen server quota) text before after out out_now ended =
+CarriesOut (Rs config listen server quota cache) text before after out out_now ended =
     BySetup rs_setup_in (text config) before after out out_now ended (λ between setup.
-    (out_now ≡ out) × ServesRs setup listen server quota between after ended)
+    (out_now ≡ out) × ServesRs setup listen server quota cache between after ended)
 CarriesOut (Client config address script) text before after out out_now ended =
     BySetup client_config_in (text config) before after out out_now ended (λ between parts.
     Linked between after (Unopened out out_now ended) (λ link opened.

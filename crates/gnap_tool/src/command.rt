@@ -1,6 +1,7 @@
 //! The commands, and which of them words are.
 ghost use Rattle.std.specs.Prelude.{◌≡◌, ◌≤◌, ◌⊎◌, ℕ, List, Option, Some, None, false, true, drop, [], ◌∷◌, IfOk, IfErr, IfSome, IfNone, map, string_bytes};
-ghost use Rattle.gnap_tool.specs.Commands.{AreRead, IsWithinRanges, is_argument, kind_of, replay_of, field_of, with_three, with_four, sign_words, verify_words, as_words, rs_words, client_words, long_method, hash_of, load_words, count_of, command_named, command_of};
+ghost use Rattle.gnap_tool.specs.Commands.{AreRead, IsWithinRanges, is_argument, is_nonce_word, kind_of, replay_of, field_of, with_three, with_four, with_five, sign_words, marked_sign_words, sign_of, verify_words, as_words, rs_words, cached_rs_words, rs_of, client_words, long_method, hash_of, load_words, counts_of, count_among, command_named, command_of};
+ghost use Rattle.message_signature.specs.Marks.{is_nonce};
 ghost use Rattle.gnap_tool.specs.Numbers.{number_within};
 ghost use Rattle.gnap_tool.specs.declared.wrong_words.WrongWords.TheVariants.{Word, OutOfMemory};
 ghost use Rattle.gnap_tool.specs.declared.wrong_words.WordForm.TheVariants as forms;
@@ -10,6 +11,7 @@ use crate::wrong_words::{WordForm, WrongWords};
 use bytes_and_lists::bytes::Bytes;
 use bytes_and_lists::memory::Mem;
 use command_words::exactly;
+use message_signature::is_nonce;
 use printed_answers::{HashedTexts, Kind};
 use std::alloc::Global;
 
@@ -20,14 +22,15 @@ pub enum Command {
     Replay(Bytes),
     /// `field KIND FILE`: the text of the file is a structured field, whose canonical text is printed.
     Field(Kind, Bytes),
-    /// `sign CONFIG KEY CREATED FILE`: the message of the file is printed with a signature by a key of the setup.
-    Sign(Bytes, Bytes, u64, Bytes),
+    /// `sign CONFIG KEY CREATED FILE`, or that and `NONCE`: the message of the file is printed with a signature by a key of the setup.
+    Sign(Bytes, Bytes, u64, Bytes, Option<Bytes>),
     /// `verify CONFIG NOW FILE`: the key of the setup is printed that signed the message of the file.
     Verify(Bytes, u64, Bytes),
     /// `as CONFIG LISTEN WORKERS QUOTA`: the authorization server of a setup is served at an address, by so many workers, each for so many connections.
     As(Bytes, Bytes, usize, u32),
-    /// `rs CONFIG LISTEN SERVER QUOTA`: the resource server of a setup is served at an address, for so many connections, and introspects tokens at another.
-    Rs(Bytes, Bytes, Bytes, u32),
+    /// `rs CONFIG LISTEN SERVER QUOTA`, or that and `CACHE`: the resource server of a setup is served at an address, for so many connections, and introspects
+    /// tokens at another. With CACHE it keeps so many replies for a while.
+    Rs(Bytes, Bytes, Bytes, u32, Option<usize>),
     /// `client CONFIG ADDRESS SCRIPT`: a client of a configuration carries out the lines of a script, with the server at an address.
     Client(Bytes, Bytes, Bytes),
     /// `hash METHOD CLIENT SERVER REF URI`: the interaction hash of the texts is printed.
@@ -55,6 +58,20 @@ fn argument(alloc: Global, place: usize, word: &str) -> Result<Bytes, WrongWords
 {
     if !is_argument(word) {
         return Err(WrongWords::Word(place, WordForm::Argument));
+    }
+    match Bytes::from_slice(alloc, word.as_bytes()) {
+        Ok(bytes) => Ok(bytes),
+        Err(Mem) => Err(WrongWords::OutOfMemory),
+    }
+}
+
+// The word at this place as bytes, where it may be a nonce.
+fn nonce(alloc: Global, place: usize, word: &str) -> Result<Bytes, WrongWords>
+    ensures taken { IfOk result (λ bytes. (bytes ≡ word.now) × (is_nonce_word word.now ≡ true) × (is_nonce bytes ≡ true)) }
+    ensures wrong { IfErr result (λ fault. (fault ≡ OutOfMemory) ⊎ ((fault ≡ Word place forms.Nonce) × (is_nonce_word word.now ≡ false))) }
+{
+    if !(is_argument(word) && is_nonce(word.as_bytes())) {
+        return Err(WrongWords::Word(place, WordForm::Nonce));
     }
     match Bytes::from_slice(alloc, word.as_bytes()) {
         Ok(bytes) => Ok(bytes),
@@ -128,6 +145,23 @@ fn four(words: &[String]) -> Option<(&str, &str, &str, &str)>
     }
 }
 
+// The words, where they are five.
+fn five(words: &[String]) -> Option<(&str, &str, &str, &str, &str)>
+    ensures some { IfSome result (λ w. map string_bytes words.now ≡ w.0.now ∷ w.1.now ∷ w.2.now ∷ w.3.now ∷ w.4.now ∷ []) }
+    ensures none { IfNone result ((f : List ℕ → List ℕ → List ℕ → List ℕ → List ℕ → Option Command) → with_five f (map string_bytes words.now) ≡ None) }
+{
+    match words {
+        [first, second, third, fourth, fifth] => Some((
+            first.as_str(),
+            second.as_str(),
+            third.as_str(),
+            fourth.as_str(),
+            fifth.as_str(),
+        )),
+        _ => None,
+    }
+}
+
 fn replay_of(alloc: Global, words: &[String]) -> Result<Command, WrongWords>
     ensures read { AreRead result (map string_bytes words.now) (replay_of (map string_bytes words.now)) }
     ensures ranges { IfOk result IsWithinRanges }
@@ -151,7 +185,7 @@ fn field_of(alloc: Global, words: &[String]) -> Result<Command, WrongWords>
     Ok(Command::Field(kind, argument(alloc, 1, file.as_str())?))
 }
 
-fn sign_of(alloc: Global, words: &[String]) -> Result<Command, WrongWords>
+fn plain_sign_of(alloc: Global, words: &[String]) -> Result<Command, WrongWords>
     ensures read { AreRead result (map string_bytes words.now) (with_four sign_words (map string_bytes words.now)) }
     ensures ranges { IfOk result IsWithinRanges }
 {
@@ -162,7 +196,34 @@ fn sign_of(alloc: Global, words: &[String]) -> Result<Command, WrongWords>
     let key = argument(alloc, 1, key)?;
     let created = number(2, WordForm::Moment, created, 0, LAST_MOMENT)?;
     let file = argument(alloc, 3, file)?;
-    Ok(Command::Sign(config, key, created, file))
+    Ok(Command::Sign(config, key, created, file, None))
+}
+
+fn marked_sign_of(alloc: Global, words: &[String]) -> Result<Command, WrongWords>
+    ensures read { AreRead result (map string_bytes words.now) (with_five marked_sign_words (map string_bytes words.now)) }
+    ensures ranges { IfOk result IsWithinRanges }
+{
+    let Some((config, key, created, file, mark)) = five(words) else {
+        return Err(WrongWords::Count);
+    };
+    let config = argument(alloc, 0, config)?;
+    let key = argument(alloc, 1, key)?;
+    let created = number(2, WordForm::Moment, created, 0, LAST_MOMENT)?;
+    let file = argument(alloc, 3, file)?;
+    let nonce = nonce(alloc, 4, mark)?;
+    Ok(Command::Sign(config, key, created, file, Some(nonce)))
+}
+
+// Four words, or five with a nonce.
+#[tactic(auto, using(crate::proofs::CommandWords::of_five, crate::proofs::CommandWords::of_four))]
+fn sign_of(alloc: Global, words: &[String]) -> Result<Command, WrongWords>
+    ensures read { AreRead result (map string_bytes words.now) (sign_of (map string_bytes words.now)) }
+    ensures ranges { IfOk result IsWithinRanges }
+{
+    match five(words) {
+        Some(_) => marked_sign_of(alloc, words),
+        None => plain_sign_of(alloc, words),
+    }
 }
 
 fn verify_of(alloc: Global, words: &[String]) -> Result<Command, WrongWords>
@@ -194,7 +255,7 @@ fn as_of(alloc: Global, words: &[String]) -> Result<Command, WrongWords>
 }
 
 // At most 1,000,000 connections.
-fn rs_of(alloc: Global, words: &[String]) -> Result<Command, WrongWords>
+fn plain_rs_of(alloc: Global, words: &[String]) -> Result<Command, WrongWords>
     ensures read { AreRead result (map string_bytes words.now) (with_four rs_words (map string_bytes words.now)) }
     ensures ranges { IfOk result IsWithinRanges }
 {
@@ -205,7 +266,35 @@ fn rs_of(alloc: Global, words: &[String]) -> Result<Command, WrongWords>
     let listen = argument(alloc, 1, listen)?;
     let server = argument(alloc, 2, server)?;
     let quota = number(3, WordForm::Connections, quota, 0, 1_000_000)?;
-    Ok(Command::Rs(config, listen, server, quota as u32))
+    Ok(Command::Rs(config, listen, server, quota as u32, None))
+}
+
+// The same, with a cache of 1 to 16,384 replies.
+fn cached_rs_of(alloc: Global, words: &[String]) -> Result<Command, WrongWords>
+    ensures read { AreRead result (map string_bytes words.now) (with_five cached_rs_words (map string_bytes words.now)) }
+    ensures ranges { IfOk result IsWithinRanges }
+{
+    let Some((config, listen, server, quota, cache)) = five(words) else {
+        return Err(WrongWords::Count);
+    };
+    let config = argument(alloc, 0, config)?;
+    let listen = argument(alloc, 1, listen)?;
+    let server = argument(alloc, 2, server)?;
+    let quota = number(3, WordForm::Connections, quota, 0, 1_000_000)?;
+    let cache = number(4, WordForm::Replies, cache, 1, 16_384)?;
+    Ok(Command::Rs(config, listen, server, quota as u32, Some(cache as usize)))
+}
+
+// Four words, or five with a cache.
+#[tactic(auto, using(crate::proofs::CommandWords::rs_of_five, crate::proofs::CommandWords::rs_of_four))]
+fn rs_of(alloc: Global, words: &[String]) -> Result<Command, WrongWords>
+    ensures read { AreRead result (map string_bytes words.now) (rs_of (map string_bytes words.now)) }
+    ensures ranges { IfOk result IsWithinRanges }
+{
+    match five(words) {
+        Some(_) => cached_rs_of(alloc, words),
+        None => plain_rs_of(alloc, words),
+    }
 }
 
 fn client_of(alloc: Global, words: &[String]) -> Result<Command, WrongWords>
@@ -258,23 +347,33 @@ fn load_of(words: &[String]) -> Result<Command, WrongWords>
     Ok(Command::Load(grants as u32, start, workers as usize))
 }
 
-/// How many words the command of this name takes, where there is one.
-pub(crate) fn count_of(name: &str) -> Option<usize>
-    ensures count { result ≡ count_of name.now }
-    ensures within { IfSome result (λ count. (1 ≤ count) × (count ≤ 5)) }
+/// How many words the command of this name takes, at least and at most, where there is one.
+pub(crate) fn counts_of(name: &str) -> Option<(usize, usize)>
+    ensures counts { result ≡ counts_of name.now }
+    ensures within { IfSome result (λ counts. (1 ≤ counts.0) × (counts.0 ≤ 5) × (1 ≤ counts.1) × (counts.1 ≤ 5)) }
 {
     match name {
-        "replay" => Some(1),
-        "field" => Some(2),
-        "sign" => Some(4),
-        "verify" => Some(3),
-        "as" => Some(4),
-        "rs" => Some(4),
-        "client" => Some(3),
-        "hash" => Some(5),
-        "load" => Some(3),
+        "replay" => Some((1, 1)),
+        "field" => Some((2, 2)),
+        "sign" => Some((4, 5)),
+        "verify" => Some((3, 3)),
+        "as" => Some((4, 4)),
+        "rs" => Some((4, 5)),
+        "client" => Some((3, 3)),
+        "hash" => Some((5, 5)),
+        "load" => Some((3, 3)),
         _ => None,
     }
+}
+
+// Which of its counts of words a command is asked for, where so many are given.
+fn count_among(least: usize, most: usize, given: usize) -> usize
+    requires least { (1 ≤ least) × (least ≤ 5) }
+    requires most { (1 ≤ most) × (most ≤ 5) }
+    ensures count { result ≡ count_among least most given }
+    ensures within { (1 ≤ result) × (result ≤ 5) }
+{
+    if given == most { most } else { least }
 }
 
 // The command of this name with these words.
@@ -296,14 +395,15 @@ fn command_named(alloc: Global, name: &str, words: &[String]) -> Result<Command,
     }
 }
 
-// The command of this name with these words, which are read by `clap` as the arguments of a command that takes so many.
+// The command of this name with these words, which are read by `clap` as the arguments of a command that takes as many as it may.
 fn command_with(alloc: Global, name: &str, arguments: &[String]) -> Result<Command, WrongWords>
     ensures read { AreRead result (map string_bytes arguments.now) (command_named name.now (map string_bytes arguments.now)) }
     ensures ranges { IfOk result IsWithinRanges }
 {
-    let Some(count) = count_of(name) else {
+    let Some((least, most)) = counts_of(name) else {
         return Err(WrongWords::NoCommand);
     };
+    let count = count_among(least, most, arguments.len());
     match exactly(alloc, count, arguments) {
         Ok(Some(taken)) => command_named(alloc, name, taken.as_slice()),
         Ok(None) => Err(WrongWords::Count),

@@ -104,10 +104,10 @@ fn tell_no_setup<E: Sink>(err: &mut E, command: &Command) {
                 b" is no setup: ",
             ],
         ),
-        Command::Sign(config, _, _, _)
+        Command::Sign(config, _, _, _, _)
         | Command::Verify(config, _, _)
         | Command::As(config, _, _, _)
-        | Command::Rs(config, _, _, _) => {
+        | Command::Rs(config, _, _, _, _) => {
             tell(err, &[b"gnap: ", config.as_slice(), b" is no setup: "])
         }
         Command::Client(config, _, _) => tell(
@@ -171,13 +171,13 @@ fn tell_setup<E: Sink>(err: &mut E, command: &Command, why: &WrongSetup) {
 fn tell_files<E: Sink>(err: &mut E, command: &Command) {
     match command {
         Command::Replay(file) | Command::Field(_, file) => tell(err, &[file.as_slice()]),
-        Command::Sign(config, _, _, file) | Command::Verify(config, _, file) => {
+        Command::Sign(config, _, _, file, _) | Command::Verify(config, _, file) => {
             tell(err, &[config.as_slice(), b" or ", file.as_slice()])
         }
         Command::As(config, listen, _, _) => {
             tell(err, &[config.as_slice(), b" or ", listen.as_slice()])
         }
-        Command::Rs(config, listen, server, _) => tell(
+        Command::Rs(config, listen, server, _, _) => tell(
             err,
             &[
                 config.as_slice(),
@@ -210,7 +210,7 @@ fn tell_refusal<E: Sink>(err: &mut E, command: &Command) {
                 &[b"gnap: ", file.as_slice(), b" isn't a valid field\n"],
             )
         }
-        Command::Sign(_, _, _, file) | Command::Verify(_, _, file) => tell(
+        Command::Sign(_, _, _, file, _) | Command::Verify(_, _, file) => tell(
             err,
             &[
                 b"gnap: the message in ",
@@ -224,7 +224,7 @@ fn tell_refusal<E: Sink>(err: &mut E, command: &Command) {
         ),
         // Nothing that they read is refused.
         Command::As(_, _, _, _)
-        | Command::Rs(_, _, _, _)
+        | Command::Rs(_, _, _, _, _)
         | Command::Hash(_)
         | Command::Load(_, _, _) => {}
     }

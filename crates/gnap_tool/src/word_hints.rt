@@ -1,5 +1,5 @@
 //! What a person is told, on standard error, of words that are no command.
-use crate::command::count_of;
+use crate::command::counts_of;
 use crate::hints::{tell, tell_number, tell_shown};
 use crate::usage::USAGE;
 use crate::wrong_words::WordForm;
@@ -48,9 +48,14 @@ pub fn explain_name<E: Sink>(err: &mut E, words: &[String]) {
     tell_usage(err);
 }
 
-fn tell_words<E: Sink>(err: &mut E, count: usize) {
-    tell_number(err, count);
-    let words = if count == 1 { " word" } else { " words" };
+// Tells how many words there may be.
+fn tell_words<E: Sink>(err: &mut E, least: usize, most: usize) {
+    tell_number(err, least);
+    if least < most {
+        tell(err, &[b" or "]);
+        tell_number(err, most);
+    }
+    let words = if most == 1 { " word" } else { " words" };
     tell(err, &[words.as_bytes()]);
 }
 
@@ -59,9 +64,9 @@ pub fn explain_count<E: Sink>(err: &mut E, words: &[String]) {
     let Some((name, arguments)) = words.split_first() else {
         return;
     };
-    if let Some(count) = count_of(name.as_str()) {
+    if let Some((least, most)) = counts_of(name.as_str()) {
         tell(err, &[b"gnap: `", name.as_bytes(), b"` takes "]);
-        tell_words(err, count);
+        tell_words(err, least, most);
         tell(err, &[b" after it, and there are "]);
         tell_number(err, arguments.len());
         tell(err, &[b"\n"]);
@@ -76,8 +81,11 @@ fn form_text(form: WordForm) -> &'static str {
         WordForm::FieldKind => "kind of field (item, list or dictionary)",
         WordForm::HashMethod => "hash method (sha-256 or sha-512)",
         WordForm::Moment => "moment (0 to 253402300799, in seconds since 1970)",
+        WordForm::Nonce =>
+            "nonce (1 to 64 letters, digits, `.`, `_` or `-`, the first of them no `-`)",
         WordForm::Workers => "number of workers (1 to 64)",
         WordForm::Connections => "number of connections (0 to 1000000)",
+        WordForm::Replies => "number of replies to keep (1 to 16384)",
         WordForm::Grants => "number of grants (1 to 100000)",
         WordForm::Start => "start (0 to 18446744073709551615)",
     }

@@ -11,12 +11,16 @@ pub enum WordForm {
     HashMethod,
     /// A moment before the year 10000, in seconds since 1970.
     Moment,
+    /// 1 to 64 letters, digits, `.`, `_` or `-`, of which the first is no `-`.
+    Nonce,
     /// A number of workers, 1 to 64.
     Workers,
     /// A number of connections, 0 to 1,000,000.
     Connections,
     /// A number of grants, 1 to 100,000.
     Grants,
+    /// A number of replies that may be kept, 1 to 16,384.
+    Replies,
     /// A number of 64 bits.
     Start,
 }

@@ -105,7 +105,7 @@ ActionFits (RefuseAndFinalize o code) = Unit {0}
 ActionFits (ModifyAtOnce o consent retired request) = OpeningFits o × RightsFit consent × AllByRecursion AskFits request.asks
 ActionFits (ModifyAsking o retired request modes) = AllByRecursion AskFits request.asks × ModesFit modes
 ActionFits (CancelGrant o) = Unit {0}
-ActionFits (RotateToken o token) = OpeningFits o × TokenNoteFits token
+ActionFits (RotateToken o token key) = TokenNoteFits token × IsUtf8 key
 ActionFits (RevokeToken token was_retired) = Unit {0}
 
 abbrev pub OutcomeFits : Supply → Action → Type 0
@@ -160,6 +160,6 @@ outcome_fits supply (ModifyAtOnce o consent retired request) fit =
 outcome_fits supply (ModifyAsking o retired request modes) fit =
     let after = Terms (terms_for o request) ∷ [] in pending_fits supply o (retire retired ++ after) modes None (retired_fit retired after (fit.0, tt)) fit.1 tt
 outcome_fits supply (CancelGrant o) fit = (tt, (tt, tt))
-outcome_fits supply (RotateToken o token) fit =
-    ((value_fits _ _ _, value_fits _ _ _, fit.1.0, fit.1.1), (tt, ((fit.1.0, fit.1.1, fit.0.0, value_fits _ _ _, value_fits _ _ _), tt)))
+outcome_fits supply (RotateToken o token key) fit =
+    ((value_fits _ _ _, value_fits _ _ _, fit.0.0, fit.0.1), (tt, ((fit.0.0, fit.0.1, fit.1, value_fits _ _ _, value_fits _ _ _), tt)))
 outcome_fits supply (RevokeToken token was_retired) fit = (tt, if_both NotesFit was_retired [] (Retired token.serial ByRevocation ∷ []) tt (tt, tt))

@@ -1,6 +1,7 @@
 -- Where the calls of a history fit, so do its notes and its replies.
-use Rattle.std.proofs.Common.{◌≡◌, ℕ, ◌+◌, List, [], ◌∷◌, ◌++◌, length, reverse, refl, sym, subst, append_assoc, append-nil, Option, Some, None}
+use Rattle.std.proofs.Common.{◌≡◌, ℕ, ◌+◌, Bool, true, false, List, [], ◌∷◌, ◌++◌, length, reverse, refl, sym, subst, append_assoc, append-nil, Option, Some, None}
 use Rattle.std.specs.List.{AllByRecursion}
+use Rattle.std.proofs.lemmas.List.{reverse-reverse}
 use Rattle.std.specs.Option.{IfSome}
 use Rattle.std.specs.Prelude.{if◌then◌else◌, is_some, not, ◌&&◌, ◌||◌, nat_le}
 use Rattle.histories.specs.History.{Legal, now, notes_of, entry_of}
@@ -16,7 +17,7 @@ use Rattle.gnap_model.specs.Standing.{GrantState, opening_in, grant_state, named
 use Rattle.gnap_model.specs.Standing.GrantState.{IsPending, IsApproved, IsFinalized}
 use Rattle.gnap_model.specs.Judging.{Settled, settle, suits, serves_all}
 use Rattle.gnap_model.specs.Judging.Settled.{AtOnce, ByAsking, Never}
-use Rattle.gnap_model.specs.Actions.{Action, Supply, on_found, with_key}
+use Rattle.gnap_model.specs.Actions.{Action, Supply, on_found, with_key, with_owner}
 use Rattle.gnap_model.specs.Actions.Action.{Refuse, ShowToken, ShowInactive, ShowHandle, TakeDecision, OpenAtOnce, OpenAsking, RenewDoor, CollectDecision, WrongReference, LastWrongReference, RefuseAndFinalize, ModifyAtOnce, ModifyAsking}
 use Rattle.gnap_model.specs.Begin.{begin_by, is_past, opening, pass_limit, show_token, ask_user}
 use Rattle.gnap_model.specs.Continue.{with_grant, decided_asks, collect_by, collect_or_renew, is_wrong, is_early, wrong_reference, continue_round, continue_at}
@@ -45,7 +46,11 @@ use Rattle.gnap_model.specs.declared.objects.ErrorCode.TheVariants.{RequestDenie
 use Rattle.gnap_model.specs.declared.rights.Right.{Right}
 use Rattle.gnap_objects.specs.Fits.{AskFits}
 use Rattle.gnap_objects.specs.CallsFit.{RightsFit, RightsFitOr, ModesFit, ModesFitOr, DecisionFits, TextsFit, ReplyFits, NoteFits, NotesFit}
-use Rattle.grant_machine.specs.Gnap.{gnap, GnapEntry}
+use Rattle.signed_calls.specs.declared.signed.Signed.{Signed}
+use Rattle.signed_calls.specs.Marks.{plain_notes}
+use Rattle.signed_calls.specs.PlainPast.{is_refused_after, plain_past}
+use Rattle.signed_calls.proofs.PlainPasts.{IsAnswered, is_answered, plain_is}
+use Rattle.grant_machine.specs.Gnap.{GnapEntry, GnapFits, GrantEntry, SignedFits, gnap, grants}
 use Rattle.grant_machine.proofs.ActionsFit.{ActionFits, outcome_fits}
 use Rattle.grant_machine.proofs.FoundFits.{all-append, all-reverse, all-filter, if_both, OpeningFits, TermsFit, TokenNoteFits, RoundFits, DecidedFits, opening_fits, terms_fit, token_fits, named_fits, consent_fits, decision_of_fits, by_handle_fits, by_code_fits, asked_fit, decided_fit}
 
@@ -55,13 +60,13 @@ found_fits : {X : Type 0} (P : X → Type 0) (code : ErrorCode) (act : X → Act
 found_fits P code act None fit each = tt
 found_fits P code act (Some x) fit each = each x fit
 
-with_key_fits : (act : OpeningNote → Action) (key : Text) (o : OpeningNote) → ActionFits (act o) → ActionFits (with_key act key o)
-with_key_fits act key o fit = if_both ActionFits (same_text o.key key) (act o) (Refuse InvalidClient) fit tt
+with_owner_fits : (act : OpeningNote → Action) (owner key : Text) (o : OpeningNote) → ActionFits (act o) → ActionFits (with_owner act owner key o)
+with_owner_fits act owner key o fit = if_both ActionFits (same_text owner key) (act o) (Refuse InvalidClient) fit tt
 
 with_grant_fits : (trail : List Note) (now : ℕ) (key value : Text) (act : OpeningNote → Action) → NotesFit trail → ((o : OpeningNote) → OpeningFits o → ActionFits (act o))
     → ActionFits (with_grant act key (named_grant trail now value))
 with_grant_fits trail now key value act fit each =
-    found_fits OpeningFits InvalidContinuation (with_key act key) (named_grant trail now value) (named_fits trail now value trail fit) (λ o h. with_key_fits act key o (each o h))
+    found_fits OpeningFits InvalidContinuation (with_key act key) (named_grant trail now value) (named_fits trail now value trail fit) (λ o h. with_owner_fits act o.key key o (each o h))
 
 ask_user_fits : (ask : Modes → Action) (modes : Option Modes) → ModesFitOr modes → ((m : Modes) → ModesFit m → ActionFits (ask m)) → ActionFits (ask_user ask modes)
 ask_user_fits ask None fit each = tt
@@ -117,14 +122,14 @@ continue_at_fits (IsPending round) trail now o reference fit key =
     if_both ActionFits (not (is_some reference) && is_early trail now o) (Refuse TooFast) (continue_round trail now o reference (decision_of trail o.grant) round) tt
     (continue_round_fits trail now o reference (decision_of trail o.grant) round fit key (decision_of_fits trail o.grant fit))
 
-rotate_key_fits : (new_key : Option Text) (t : TokenNote) (o : OpeningNote) → TokenNoteFits t → OpeningFits o → ActionFits (rotate_key new_key t o)
-rotate_key_fits None t o token key = (key, token)
-rotate_key_fits (Some new_key) t o token key = tt
+rotate_key_fits : (new_key : Option Text) (t : TokenNote) (o : OpeningNote) → TokenNoteFits t → ActionFits (rotate_key new_key t o)
+rotate_key_fits None t o token = (token, token.2)
+rotate_key_fits (Some new_key) t o token = tt
 
 on_grant_fits : (code : ErrorCode) (trail : List Note) (key : Text) (t : TokenNote) (act : OpeningNote → Action) → NotesFit trail → ((o : OpeningNote) → OpeningFits o → ActionFits (act o))
     → ActionFits (on_grant code trail key t act)
-on_grant_fits code trail key t act fit each = found_fits OpeningFits code (with_key act key) (first_of (opening_in t.grant) trail) (opening_fits t.grant trail fit)
-    (λ o h. with_key_fits act key o (each o h))
+on_grant_fits code trail key t act fit each = found_fits OpeningFits code (with_owner act t.key key) (first_of (opening_in t.grant) trail) (opening_fits t.grant trail fit)
+    (λ o h. with_owner_fits act t.key key o (each o h))
 
 show_token_fits : (names : List Text) (binding : Option Binding) (wanted : Option (List Right)) (t : Option TokenNote) → IfSome t TokenNoteFits → ActionFits (show_token names binding wanted t)
 show_token_fits names binding wanted None fit = tt
@@ -159,7 +164,7 @@ action_fits rules supply trail (Cancel key value) fit fits = with_grant_fits tra
 action_fits rules supply trail (Rotate key value new_key) fit fits =
     found_fits TokenNoteFits InvalidRotation _ (managed_token trail supply.now value) (token_fits _ trail fit)
     (λ t h. if_both ActionFits (is_live trail supply.now t) (on_grant InvalidRotation trail key t (rotate_key new_key t)) (Refuse InvalidRotation)
-    (on_grant_fits InvalidRotation trail key t (rotate_key new_key t) fit (λ o k. rotate_key_fits new_key t o h k)) tt)
+    (on_grant_fits InvalidRotation trail key t (rotate_key new_key t) fit (λ o k. rotate_key_fits new_key t o h)) tt)
 action_fits rules supply trail (Revoke key value) fit fits =
     found_fits TokenNoteFits InvalidRequest _ (managed_token trail supply.now value) (token_fits _ trail fit)
     (λ t h. on_grant_fits InvalidRequest trail key t _ fit (λ o k. tt))
@@ -184,8 +189,8 @@ answer_fits rules notes at draw call fit fits =
     outcome_fits supply (action_of rules supply (reverse notes) call) (action_fits rules supply (reverse notes) call (all-reverse NoteFits notes fit) fits)
 
 -- From entries whose notes fit, the rest of a legal history leads to notes that fit.
-notes_fit_on : (rules : Setup) (before rest : List GnapEntry) → Legal gnap rules (before ++ rest) → NotesFit (notes_of before) → NotesFit (notes_of (before ++ rest))
-notes_fit_on rules before [] legal fit = subst (λ (h : List GnapEntry). NotesFit (notes_of h)) (sym (append-nil before)) fit
+notes_fit_on : (rules : Setup) (before rest : List GrantEntry) → Legal grants rules (before ++ rest) → NotesFit (notes_of before) → NotesFit (notes_of (before ++ rest))
+notes_fit_on rules before [] legal fit = subst (λ (h : List GrantEntry). NotesFit (notes_of h)) (sym (append-nil before)) fit
 notes_fit_on rules before (e ∷ rest) legal fit =
     let follows = legal before e rest refl in
     let here : NotesFit e.notes = subst NotesFit (sym follows.notes) (answer_fits rules (notes_of before) (now before e.moment) e.draw e.call fit follows.fits.1).1 in
@@ -193,24 +198,36 @@ notes_fit_on rules before (e ∷ rest) legal fit =
     let more : NotesFit (notes_of (before ++ e ∷ [])) = subst NotesFit (sym joined)
     (all-append NoteFits (notes_of before) (e.notes ++ []) fit (all-append NoteFits e.notes [] here tt)) in
     let same : (before ++ e ∷ []) ++ rest ≡ before ++ e ∷ rest = append_assoc before (e ∷ []) rest in
-    subst (λ (h : List GnapEntry). NotesFit (notes_of h)) same
-    (notes_fit_on rules (before ++ e ∷ []) rest (subst (λ (h : List GnapEntry). Legal gnap rules h) (sym same) legal) more)
+    subst (λ (h : List GrantEntry). NotesFit (notes_of h)) same
+    (notes_fit_on rules (before ++ e ∷ []) rest (subst (λ (h : List GrantEntry). Legal grants rules h) (sym same) legal) more)
 
--- The notes of a legal history fit.
-pub notes_fit : (rules : Setup) (h : List GnapEntry) → Legal gnap rules h → NotesFit (notes_of h)
-notes_fit rules h legal = notes_fit_on rules [] h legal tt
+-- The notes of a legal history fit, but for those of nonces.
+notes_fit : (rules : Setup) (h : List GnapEntry) → Legal gnap rules h → NotesFit (plain_notes (notes_of h))
+notes_fit rules h legal =
+    let back = reverse-reverse h in
+    let plain = plain_is GnapFits SignedFits rules (reverse h) (λ signed fits. fits.call) (tt, tt) (subst (λ (k : List GnapEntry). Legal gnap rules k) (sym back) legal) in
+    subst (λ (k : List GnapEntry). NotesFit (plain_notes (notes_of k))) back
+    (subst NotesFit plain.notes (notes_fit_on rules [] (reverse (plain_past (reverse h))) plain.legal tt))
+
+-- A refusal of the mark fits, and every other reply does where the notes do.
+reply_fits : (refused : Bool) (rules : Setup) (h : List GnapEntry) (e : GnapEntry) → NotesFit (plain_notes (notes_of h)) → TextsFit e.call.call
+    → IsAnswered refused rules h e → ReplyFits e.reply
+reply_fits true rules h e notes fits is = subst ReplyFits (sym is.reply) tt
+reply_fits false rules h e notes fits is =
+    subst ReplyFits (sym is.reply) (answer_fits rules (plain_notes (notes_of h)) (now h e.moment) e.draw e.call.call notes fits).0
 
 -- Each reply in a legal history fits.
 pub replies_fit : (rules : Setup) (h before : List GnapEntry) (e : GnapEntry) (after : List GnapEntry) → Legal gnap rules h → h ≡ before ++ e ∷ after → ReplyFits e.reply
 replies_fit rules h before e after legal is =
     let follows = legal before e after is in
     let front = legal-front gnap rules before (e ∷ after) (subst (λ (k : List GnapEntry). Legal gnap rules k) is legal) in
-    subst ReplyFits (sym follows.reply) (answer_fits rules (notes_of before) (now before e.moment) e.draw e.call (notes_fit rules before front) follows.fits.1).0
+    reply_fits (is_refused_after before e) rules before e (notes_fit rules before front) follows.fits.call.1
+    (is_answered SignedFits rules before e (is_refused_after before e) refl follows)
 
 -- A desk's reply to a call that fits, fits.
-pub entered_fits : (rules : Setup) (number : ℕ) (h : List GnapEntry) (moment : ℕ) (draw : List ℕ) (call : Call) (reply : Reply) (seen : List GnapEntry → Type 0)
-    → ((k : List GnapEntry) → seen k → Legal gnap rules k) → Enters gnap rules number h moment draw call reply seen → ReplyFits reply
-entered_fits rules number h moment draw call reply seen legal enters =
+pub entered_fits : (rules : Setup) (number : ℕ) (h : List GnapEntry) (moment : ℕ) (draw : List ℕ) (signed : Signed) (reply : Reply) (seen : List GnapEntry → Type 0)
+    → ((k : List GnapEntry) → seen k → Legal gnap rules k) → Enters gnap rules number h moment draw signed reply seen → ReplyFits reply
+entered_fits rules number h moment draw signed reply seen legal enters =
     let front = h ++ enters.others in
-    let e = entry_of gnap rules front number moment draw call in
+    let e = entry_of gnap rules front number moment draw signed in
     subst ReplyFits (sym enters.reply_is) (replies_fit rules (front ++ e ∷ []) front e [] (legal (front ++ e ∷ []) enters.seen_now) refl)

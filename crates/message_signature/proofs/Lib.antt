@@ -12,3 +12,4 @@ pub mod AcceptedTests
 pub mod AcceptedTag
 pub mod AcceptedParts
 pub mod Accepted
+pub mod MarkSizes

@@ -8,7 +8,7 @@ use Rattle.structured_fields.specs.Letters.{is_letter, is_digit}
 use Rattle.structured_fields.specs.Named.{value_at}
 use Rattle.structured_fields.specs.Reading.{◌>>=◌}
 use Rattle.message_signature.specs.declared.fault.SigFault.{SigFault}
-use Rattle.message_signature.specs.declared.marks.Mark.{Mark}
+use Rattle.message_signature.specs.declared.marks.SignatureMark.{SignatureMark}
 use Rattle.message_signature.specs.Verified.{string_in, integer_in, lone_list}
 
 -- ---- what a mark may hold
@@ -47,7 +47,7 @@ created_in param = do
   moment_in moment
 
 -- the mark that these parameters tell
-abbrev pub mark_in : InnerList → Option Mark
+abbrev pub mark_in : InnerList → Option SignatureMark
 mark_in list = do
   nonce ← nonce_in (value_at list.params (codes "nonce"))
   created ← created_in (value_at list.params (codes "created"))
@@ -56,17 +56,17 @@ mark_in list = do
 -- ---- the mark of a message
 
 -- the mark of a list that was found, and none where none was
-abbrev pub mark_in_found : Result InnerList SigFault → Option Mark
+abbrev pub mark_in_found : Result InnerList SigFault → Option SignatureMark
 mark_in_found (Ok list) = mark_in list
 mark_in_found (Err fault) = None
 
 -- the mark of the list, or why it wasn't found
-abbrev pub marked : Result InnerList SigFault → Result (Option Mark) SigFault
+abbrev pub marked : Result InnerList SigFault → Result (Option SignatureMark) SigFault
 marked (Ok list) = Ok (mark_in list)
 marked (Err fault) = Err fault
 
 -- The mark of the one inner list of `signature-input` with the tag. None where there isn't exactly one, and where it has no mark.
-unfoldable pub mark_of : Message → List ℕ → Option Mark
+unfoldable pub mark_of : Message → List ℕ → Option SignatureMark
 mark_of m tag = mark_in_found (lone_list m tag)
 
 -- ---- nonces that are written

@@ -18,7 +18,7 @@ mod verifying;
 pub use base::base_of;
 pub use components::{FieldValue, append_component, field_value};
 pub use fault::{BaseFault, SigFault, SignFault};
-pub use marks::{LATEST_CREATED, LONGEST_NONCE, Mark, is_nonce, mark_of};
+pub use marks::{LATEST_CREATED, LONGEST_NONCE, SignatureMark, is_nonce, mark_of};
 pub use signing::{covered_items, labelled, sign, sign_marked, signature_params};
 pub use tags::{SignatureFields, TaggedSignature, signature_fields, tagged};
 pub use verifying::{check_tagged, verify, verify_marked};

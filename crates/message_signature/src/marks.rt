@@ -22,7 +22,7 @@ pub const LATEST_CREATED: u64 = 253_402_301_099;
 
 /// What a signature tells of itself, by which a second use of it is known.
 #[derive(Drop)]
-pub struct Mark {
+pub struct SignatureMark {
     /// 1 to 64 bytes.
     pub nonce: Bytes,
     /// In seconds since 1970.
@@ -58,7 +58,7 @@ fn created_in(param: Option<&Bare>) -> Option<u64>
 }
 
 /// The mark that the parameters of a list tell. None exactly where `nonce` is no String of 1 to 64 bytes, or `created` no Integer from 0 to 253,402,301,099.
-pub(crate) fn mark_in(list: &InnerList) -> Result<Option<Mark>, Mem>
+pub(crate) fn mark_in(list: &InnerList) -> Result<Option<SignatureMark>, Mem>
     ensures { IfOk result (λ mark. mark ≡ mark_in list.now) }
 {
     let (Some(nonce), Some(created)) = (
@@ -67,7 +67,7 @@ pub(crate) fn mark_in(list: &InnerList) -> Result<Option<Mark>, Mem>
     ) else {
         return Ok(None);
     };
-    Ok(Some(Mark {
+    Ok(Some(SignatureMark {
         nonce: nonce.copy()?,
         created,
     }))
@@ -75,7 +75,11 @@ pub(crate) fn mark_in(list: &InnerList) -> Result<Option<Mark>, Mem>
 
 // ---- the mark of a message
 
-fn lone_mark(alloc: Global, message: &Message, tag: &[u8]) -> Result<Option<Mark>, SigFault>
+fn lone_mark(
+    alloc: Global,
+    message: &Message,
+    tag: &[u8],
+) -> Result<Option<SignatureMark>, SigFault>
     ensures { Gives (λ mark. mark) result (marked (lone_list message.now tag.now)) }
 {
     let input = value_of(alloc, message, b"signature-input")?;
@@ -87,7 +91,7 @@ fn lone_mark(alloc: Global, message: &Message, tag: &[u8]) -> Result<Option<Mark
 /// The mark of the one inner list of `signature-input` with this tag. None exactly where there isn't exactly one such list, or its `nonce` is no String of 1 to
 /// 64 bytes, or its `created` no Integer from 0 to 253,402,301,099. No signature is verified (`verify_marked` does both).
 #[tactic(auto, unfolding(crate::specs::Marks::mark_of))]
-pub fn mark_of(alloc: Global, message: &Message, tag: &Bytes) -> Result<Option<Mark>, Mem>
+pub fn mark_of(alloc: Global, message: &Message, tag: &Bytes) -> Result<Option<SignatureMark>, Mem>
     ensures { IfOk result (λ mark. mark ≡ mark_of message.now tag.now) }
 {
     match lone_mark(alloc, message, tag.as_slice()) {

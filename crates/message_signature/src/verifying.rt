@@ -15,7 +15,7 @@ ghost use Rattle.message_signature.specs.Verified.{absent_or, covers_enough, is_
 use crate::base::{base_of, is_named, is_string};
 use crate::components::{field_value, has_body, has_field};
 use crate::fault::{BaseFault, SigFault};
-use crate::marks::{Mark, mark_in};
+use crate::marks::{SignatureMark, mark_in};
 use crate::tags::{TaggedSignature, must, signature_fields, tagged};
 use bytes_and_lists::bytes::Bytes;
 use bytes_and_lists::memory::{Duplicate, Mem};
@@ -224,7 +224,7 @@ fn id_and_mark(
     ring: &Keyring,
     now: u64,
     tag: &Bytes,
-) -> Result<(Bytes, Option<Mark>), SigFault>
+) -> Result<(Bytes, Option<SignatureMark>), SigFault>
     ensures { Gives (λ x. x) result (id_and_mark message.now base.now ring.now now tag.now) }
 {
     let fields = signature_fields(alloc, message)?;
@@ -243,7 +243,7 @@ pub fn verify_marked(
     ring: &Keyring,
     now: u64,
     tag: &Bytes,
-) -> Result<(Bytes, Option<Mark>), SigFault>
+) -> Result<(Bytes, Option<SignatureMark>), SigFault>
     ensures { Gives (λ x. x) result (verified_marked message.now base.now ring.now now tag.now) }
 {
     id_and_mark(alloc, message, base, ring, now, tag)

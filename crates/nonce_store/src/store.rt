@@ -6,7 +6,7 @@ use crate::sweeping::sweep;
 use crate::trees::KeyedNonces;
 use bytes_and_lists::bytes::Bytes;
 use bytes_and_lists::memory::{Duplicate, Mem};
-use remembering_core::Nonces;
+use signed_calls::nonces::Nonces;
 use std::alloc::Global;
 use std::collections::BTreeMap;
 

@@ -1,6 +1,8 @@
 //! Messages that are signed or verified, printed.
-ghost use Rattle.std.specs.Prelude.{◌≡◌, ◌≢◌, ◌<◌, ◌^◌, [], ◌++◌, IfOk};
+ghost use Rattle.std.specs.Prelude.{◌≡◌, ◌≢◌, ◌<◌, ◌^◌, true, [], ◌++◌, IfOk, IfSome};
+ghost use Rattle.std.specs.Option.{option_copied};
 ghost use Rattle.gnap_io.specs.Outside.{IsAtEnd, IsRest, Leaves};
+ghost use Rattle.message_signature.specs.Marks.{is_nonce};
 ghost use Rattle.gnap_objects.specs.Setups.{IsSetup};
 ghost use Rattle.signed_files.specs.SignedText.{SignsFile};
 ghost use Rattle.signed_files.specs.Verdicts.{VerifiesFile};
@@ -41,27 +43,30 @@ fn print_fault<O: Sink>(alloc: Global, fault: FileFault, out: &mut O) -> Ended
     }
 }
 
-/// Prints the message that the source has with the signature of the setup's key with this id, or `refused`, the fault's name and LF.
+/// Prints the message that the source has with the signature of the setup's key with this id, or `refused`, the fault's name and LF. Where there is a nonce,
+/// of 1 to 64 letters, digits, `.`, `_` or `-`, the signature has it.
 pub fn print_signed<S: Source, O: Sink>(
     alloc: Global,
     setup: &Setup,
     key: &Bytes,
     created: u64,
+    nonce: Option<&Bytes>,
     source: &mut S,
     out: &mut O,
 ) -> Ended
     requires setup { IsSetup setup.now }
     requires created { created < 10 ^ 15 }
+    requires nonce { IfSome (option_copied nonce) (λ n. is_nonce n ≡ true) }
     requires fresh { (S.told source.old).taken ≡ [] }
     ensures prints { (rest : _) → IsRest (S.told source.new) rest
-        → PrintsFor (SignsFile setup.now key.now created ((S.told source.new).taken ++ rest)) (O.told out.old) (O.told out.new) result }
+        → PrintsFor (SignsFile setup.now key.now created (option_copied nonce.entry) ((S.told source.new).taken ++ rest)) (O.told out.old) (O.told out.new) result }
     ensures leaves { Leaves (S.told source.new).taken (S.told source.old).left (S.told source.new).left }
     ensures reads { CountsReads result (S.faults source.old) (S.faults source.new) }
     ensures writes { CountsWrites result (O.faults out.old) (O.faults out.new) }
     ensures limited { result ≢ Ended.TooLong }
     ensures end { result ≡ Ended.Done → IsAtEnd (S.told source.new) }
 {
-    match sign_file(alloc, setup, key, created, source) {
+    match sign_file(alloc, setup, key, created, nonce, source) {
         Ok(text) => print_text(&text, out),
         Err(fault) => print_fault(alloc, fault, out),
     }

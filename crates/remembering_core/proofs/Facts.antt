@@ -11,7 +11,7 @@ use Rattle.gnap_model.specs.declared.objects.Setup.{Setup}
 use Rattle.gnap_model.specs.declared.objects.ErrorCode.TheVariants.{InvalidClient}
 use Rattle.gnap_model.specs.declared.calls.Reply.{Reply}
 use Rattle.gnap_model.specs.declared.calls.Reply.TheVariants.{Error}
-use Rattle.grant_machine.specs.Gnap.{GnapFits, gnap}
+use Rattle.grant_machine.specs.Gnap.{GnapFits, SignedFits, gnap, grants}
 use Rattle.gnap_laws.specs.Refusals.{caller}
 use Rattle.gnap_model.specs.Notes.{Event}
 use Rattle.signed_calls.specs.declared.signed.Mark.{Mark}
@@ -25,7 +25,6 @@ use Rattle.signed_calls.specs.declared.signed.SignedNote.TheVariants.{Nonce}
 use Rattle.signed_calls.proofs.Remembered.{tells-more}
 use Rattle.signed_calls.proofs.PlainPasts.{plain-count}
 use Rattle.signed_calls.proofs.RememberingSteps.{signed-refused, signed-accepted, signed-lapses, asked}
-use Rattle.remembering_core.specs.SignedGnap.{SignedFits, signed_gnap}
 
 pub if_ok_map : {A E : Type 0} (r : Result A E) (P Q : A → Type 0) → ((x : A) → P x → Q x) → IfOk r P → IfOk r Q
 if_ok_map (Ok x) P Q more is = more x is
@@ -54,35 +53,35 @@ short_within stands rules core advanced until many latest same short =
 pub next_refused : {S : Type 0} (stands : S → List Event → Type 0) (rules : S → Setup) (core advanced final : S)
     (until next : List ℕ → List ℕ → Option ℕ) (many count : ℕ → ℕ) (latest next_latest : ℕ) (h : List SignedEvent) (moment : ℕ) (draw : List ℕ) (signed : Signed)
     → advanced ≡ core → rules final ≡ rules advanced → next_latest ≡ max latest moment
-    → ((p : List Event) (draw : List ℕ) → stands advanced p → Lapses gnap (rules advanced) p moment draw (stands final))
+    → ((p : List Event) (draw : List ℕ) → stands advanced p → Lapses grants (rules advanced) p moment draw (stands final))
     → SignedFits signed → moment ≤ last_moment
     → refuses (notes_of h) (now h moment) (caller signed.call) signed.mark ≡ true
     → TellsOf next count (notes_of h) (max latest moment)
     → SignedStands SignedFits (stands core) until many (rules core) latest h
-    → Answers signed_gnap (rules core) h moment draw signed (Error InvalidClient) (λ k. SignedStands SignedFits (stands final) next count (rules final) next_latest k)
+    → Answers gnap (rules core) h moment draw signed (Error InvalidClient) (λ k. SignedStands SignedFits (stands final) next count (rules final) next_latest k)
 next_refused stands rules core advanced final until next many count latest next_latest h moment draw signed same kept top lapses fit time is tells here =
     let r : rules final ≡ rules core = kept ∙ ap rules same in
-    let passed = subst (λ x. Lapses gnap (rules x) (plain_history h) moment draw (stands final)) same
+    let passed = subst (λ x. Lapses grants (rules x) (plain_history h) moment draw (stands final)) same
     (lapses (plain_history h) draw (subst (λ x. stands x (plain_history h)) (sym same) here.within)) in
-    subst (λ n. Answers signed_gnap (rules core) h moment draw signed (Error InvalidClient) (λ k. SignedStands SignedFits (stands final) next count (rules final) n k)) (sym top)
-    (subst (λ y. Answers signed_gnap (rules core) h moment draw signed (Error InvalidClient) (λ k. SignedStands SignedFits (stands final) next count y (max latest moment) k)) (sym r)
+    subst (λ n. Answers gnap (rules core) h moment draw signed (Error InvalidClient) (λ k. SignedStands SignedFits (stands final) next count (rules final) n k)) (sym top)
+    (subst (λ y. Answers gnap (rules core) h moment draw signed (Error InvalidClient) (λ k. SignedStands SignedFits (stands final) next count y (max latest moment) k)) (sym r)
     (signed-refused GnapFits SignedFits (stands core) (stands final) until next many count (rules core) latest h moment draw signed here fit time is passed tells))
 
 -- memory was wanting
 pub next_lapses : {S : Type 0} (stands : S → List Event → Type 0) (rules : S → Setup) (core advanced final : S)
     (until next : List ℕ → List ℕ → Option ℕ) (many count : ℕ → ℕ) (latest next_latest : ℕ) (h : List SignedEvent) (moment : ℕ) (draw : List ℕ)
     → advanced ≡ core → rules final ≡ rules advanced → next_latest ≡ max latest moment
-    → ((p : List Event) → stands advanced p → Lapses gnap (rules advanced) p moment draw (stands final))
+    → ((p : List Event) → stands advanced p → Lapses grants (rules advanced) p moment draw (stands final))
     → moment ≤ last_moment
     → TellsOf next count (notes_of h) (max latest moment)
     → SignedStands SignedFits (stands core) until many (rules core) latest h
-    → Lapses signed_gnap (rules core) h moment draw (λ k. SignedStands SignedFits (stands final) next count (rules final) next_latest k)
+    → Lapses gnap (rules core) h moment draw (λ k. SignedStands SignedFits (stands final) next count (rules final) next_latest k)
 next_lapses stands rules core advanced final until next many count latest next_latest h moment draw same kept top lapses time tells here =
     let r : rules final ≡ rules core = kept ∙ ap rules same in
-    let passed = subst (λ x. Lapses gnap (rules x) (plain_history h) moment draw (stands final)) same
+    let passed = subst (λ x. Lapses grants (rules x) (plain_history h) moment draw (stands final)) same
     (lapses (plain_history h) (subst (λ x. stands x (plain_history h)) (sym same) here.within)) in
-    subst (λ n. Lapses signed_gnap (rules core) h moment draw (λ k. SignedStands SignedFits (stands final) next count (rules final) n k)) (sym top)
-    (subst (λ y. Lapses signed_gnap (rules core) h moment draw (λ k. SignedStands SignedFits (stands final) next count y (max latest moment) k)) (sym r)
+    subst (λ n. Lapses gnap (rules core) h moment draw (λ k. SignedStands SignedFits (stands final) next count (rules final) n k)) (sym top)
+    (subst (λ y. Lapses gnap (rules core) h moment draw (λ k. SignedStands SignedFits (stands final) next count y (max latest moment) k)) (sym r)
     (signed-lapses GnapFits SignedFits (stands core) (stands final) until next many count (rules core) latest h moment draw here
     (record { call = (tt, tt); mark = tt; lapse = λ is. refl }) time passed tells))
 
@@ -90,18 +89,18 @@ next_lapses stands rules core advanced final until next many count latest next_l
 pub next_accepted : {S : Type 0} (stands : S → List Event → Type 0) (rules : S → Setup) (core advanced final : S)
     (until next : List ℕ → List ℕ → Option ℕ) (many count : ℕ → ℕ) (latest next_latest : ℕ) (h : List SignedEvent) (moment : ℕ) (draw : List ℕ) (signed : Signed) (reply : Reply)
     → advanced ≡ core → rules final ≡ rules advanced → next_latest ≡ max latest moment
-    → ((p : List Event) → stands advanced p → Answers gnap (rules advanced) p moment draw signed.call reply (stands final))
+    → ((p : List Event) → stands advanced p → Answers grants (rules advanced) p moment draw signed.call reply (stands final))
     → SignedFits signed → moment ≤ last_moment
     → refuses (notes_of h) (now h moment) (caller signed.call) signed.mark ≡ false
     → TellsOf next count (notes_of h ++ mark_notes signed) (max latest moment)
     → SignedStands SignedFits (stands core) until many (rules core) latest h
-    → Answers signed_gnap (rules core) h moment draw signed reply (λ k. SignedStands SignedFits (stands final) next count (rules final) next_latest k)
+    → Answers gnap (rules core) h moment draw signed reply (λ k. SignedStands SignedFits (stands final) next count (rules final) next_latest k)
 next_accepted stands rules core advanced final until next many count latest next_latest h moment draw signed reply same kept top answers fit time is tells here =
     let r : rules final ≡ rules core = kept ∙ ap rules same in
-    let passed = subst (λ x. Answers gnap (rules x) (plain_history h) moment draw signed.call reply (stands final)) same
+    let passed = subst (λ x. Answers grants (rules x) (plain_history h) moment draw signed.call reply (stands final)) same
     (answers (plain_history h) (subst (λ x. stands x (plain_history h)) (sym same) here.within)) in
-    subst (λ n. Answers signed_gnap (rules core) h moment draw signed reply (λ k. SignedStands SignedFits (stands final) next count (rules final) n k)) (sym top)
-    (subst (λ y. Answers signed_gnap (rules core) h moment draw signed reply (λ k. SignedStands SignedFits (stands final) next count y (max latest moment) k)) (sym r)
+    subst (λ n. Answers gnap (rules core) h moment draw signed reply (λ k. SignedStands SignedFits (stands final) next count (rules final) n k)) (sym top)
+    (subst (λ y. Answers gnap (rules core) h moment draw signed reply (λ k. SignedStands SignedFits (stands final) next count y (max latest moment) k)) (sym r)
     (signed-accepted GnapFits SignedFits (stands core) (stands final) until next many count (rules core) latest h moment draw signed reply here fit time is passed tells))
 
 -- ---- the test of the mark

@@ -1,20 +1,19 @@
 //! A core that remembers nonces, over a core that doesn't.
-ghost use Rattle.std.specs.Prelude.{◌≡◌, ℕ, max, List, [], false, count_by};
+ghost use Rattle.std.specs.Prelude.{◌≡◌, ℕ, max, List, [], false, count_by, None};
 ghost use Rattle.histories.specs.History.{now, notes_of};
 ghost use Rattle.signed_calls.specs.declared.signed.SignedNote.{SignedNote};
 ghost use Rattle.signed_calls.specs.Marks.{SignedEvent, is_remembered};
 ghost use Rattle.signed_calls.specs.Remembering.{TellsOf, SignedStands, is_kept};
 ghost use Rattle.signed_calls.proofs.RememberingSteps.{signed-renumbered};
-ghost use Rattle.remembering_core.specs.SignedGnap.{SignedFits};
+ghost use Rattle.grant_machine.specs.Gnap.{SignedFits};
 
 use crate::calls::{caller_of, leaves_nonce};
-use crate::machine::SignedGnap;
-use crate::parts::{Nonces, Passes};
 use bytes_and_lists::memory::Mem;
 use gnap_model::calls::Reply;
 use gnap_model::objects::ErrorCode;
-use grant_machine::Gnap;
+use grant_machine::{Gnap, Grants, Passes};
 use histories::machine::Core;
+use signed_calls::nonces::Nonces;
 use signed_calls::signed::Signed;
 
 // For so many seconds after its creation a signature is taken, `mark_time` of the definitions.
@@ -43,11 +42,12 @@ impl<C: Core, N: Nonces> Remembering<C, N> {
     }
 }
 
-impl<C: Core<M = Gnap> + Passes, N: Nonces> Remembering<C, N> {
+impl<C: Core<M = Grants> + Passes, N: Nonces> Remembering<C, N> {
     /// The machine with marks over a core of the machine without. Where that stands for the empty history and no nonce is remembered, so does this.
     pub fn new(core: C, nonces: N) -> Remembering<C, N>
         ensures rules { ⟦<Remembering<C, N> as Core>⟧.rules result ≡ C.rules core }
-        ensures empty { C.stands core [] → TellsOf (N.until nonces) (N.many nonces) [] 0 → ⟦<Remembering<C, N> as Core>⟧.stands result [] }
+        ensures empty { C.stands core [] → ((k n : List ℕ) → N.until nonces k n ≡ None) → ((m : ℕ) → N.many nonces m ≡ 0)
+            → ⟦<Remembering<C, N> as Core>⟧.stands result [] }
     {
         Remembering {
             core,
@@ -65,8 +65,8 @@ impl<C: Core<M = Gnap> + Passes, N: Nonces> Remembering<C, N> {
     }
 }
 
-impl<C: Core<M = Gnap> + Passes, N: Nonces> Core for Remembering<C, N> {
-    type M = SignedGnap;
+impl<C: Core<M = Grants> + Passes, N: Nonces> Core for Remembering<C, N> {
+    type M = Gnap;
 
     ghost rules = { λ r. C.rules r.core };
 

@@ -28,7 +28,7 @@ active_of d = do
   iss ← needed_text (codes "iss") d
   named ← optional_text (codes "key") d
   key ← key_of bearer instance named
-  Ok (Active access key)
+  Ok (Active access key exp)
 
 abbrev pub needed_flag : Data → Result Bool FormFault
 needed_flag d = needed (codes "active") d >>= λ m. there (as_bool m)

@@ -40,14 +40,14 @@ fn active_of(alloc: Global, value: &Value) -> Result<Judgement, FormFault>
     ensures { Gives OutOfMemory (λ j. j) result (active_of (view value.now)) }
 {
     let access = needed_rights(alloc, value, "access")?;
-    let _exp = needed_number(value, "exp")?;
+    let exp = needed_number(value, "exp")?;
     let bearer = bearer_of(value)?;
     let _iat = needed_number(value, "iat")?;
     let instance = needed_text(alloc, value, "instance_id")?;
     let _iss = needed_text(alloc, value, "iss")?;
     let named = optional_text(alloc, value, "key")?;
     let key = key_of(bearer, &instance, named)?;
-    Ok(Judgement::Active { access, key })
+    Ok(Judgement::Active { access, key, exp })
 }
 
 fn needed_flag(value: &Value) -> Result<bool, FormFault>

@@ -10,6 +10,8 @@ pub enum Judgement {
         access: Rights,
         /// The key to which it is bound; a bearer token has none.
         key: Option<Bytes>,
+        /// The second, since 1970, from which on it isn't live any more (`exp`).
+        exp: u64,
     },
     Inactive,
 }

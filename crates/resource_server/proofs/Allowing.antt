@@ -22,7 +22,7 @@ use Rattle.resource_server.specs.declared.guarded.Guarded.TheVariants as guarded
 use Rattle.resource_server.specs.declared.guarded.Why.TheVariants as why
 use Rattle.resource_server.specs.Routing.{◌>>=◌, placed, route_of, needed_token, token_of, question_of}
 use Rattle.resource_server.specs.Guarding.{SaysOfToken, SaysNothing, is_key, has_signed, answer_of, exchanges_of, Judged, said, said_nothing, failed, no_room, no_room_after, Guards, at_once, starved, asked, CountsExchanges, GuardsOver}
-use Rattle.resource_server.specs.Laws.{HasSigned, IsAllowed, AllowMeans, AllowComes, FaultMeans}
+use Rattle.resource_server.specs.Laws.{HasSigned, AllowedByReply, IsAllowed, AllowMeans, AllowComes, FaultMeans}
 use Rattle.resource_server.proofs.Sayings.{same_saying}
 
 -- the route at a place is shown
@@ -32,7 +32,7 @@ IsAllow i (guarded.Deny status reason) = ⊥
 IsAllow i guarded.LinkFault = ⊥
 IsAllow i guarded.Memory = ⊥
 
-abbrev IsRefusal : Guarded → Type 0
+abbrev pub IsRefusal : Guarded → Type 0
 IsRefusal (guarded.Allow j) = ⊥
 IsRefusal (guarded.Deny status reason) = Unit {0}
 IsRefusal guarded.LinkFault = ⊥
@@ -67,7 +67,7 @@ question_refused : (routes : List Route) (m : Message) → IsRefused (question_o
 unfolding question_of
 question_refused routes m = joined (route_of routes m) (token_of m) (placed_refused _ _) (token_refused _)
 
-refusal : (routes : List Route) (m : Message) (answer : Guarded) → question_of routes m ≡ Err answer → IsRefusal answer
+pub refusal : (routes : List Route) (m : Message) (answer : Guarded) → question_of routes m ≡ Err answer → IsRefusal answer
 refusal routes m answer e = subst (λ (q : Result (ℕ × (Scheme × List ℕ)) Guarded). IsRefused q) e (question_refused routes m)
 
 -- ---- what is said of a token
@@ -90,23 +90,24 @@ record IsSaid (setup : RsSetup) (m : Message) (now i j : ℕ) (wanted : List Rig
   same : j ≡ i
   access : List Right
   key : Option (List ℕ)
-  is : says ≡ Active access key
+  exp : ℕ
+  is : says ≡ Active access key exp
   covered : covers access wanted ≡ true
   signed : HasSigned setup m now key
 
-by_tests : (setup : RsSetup) (m : Message) (now i j : ℕ) (wanted access : List Right) (key : Option (List ℕ)) (a b : Bool)
+by_tests : (setup : RsSetup) (m : Message) (now i j : ℕ) (wanted access : List Right) (key : Option (List ℕ)) (exp : ℕ) (a b : Bool)
     → covers access wanted ≡ a → has_signed setup m now key ≡ b
     → IsAllow i (if not a then guarded.Deny 403 why.TooNarrow else (if b then guarded.Allow j else guarded.Deny 401 why.Signature))
-    → IsSaid setup m now i j wanted (Active access key)
-by_tests setup m now i j wanted access key true true c s h =
-    record { same = h; access = access; key = key; is = refl; covered = c; signed = signed_of setup m now key s }
-by_tests setup m now i j wanted access key true false c s h = absurd h
-by_tests setup m now i j wanted access key false b c s h = absurd h
+    → IsSaid setup m now i j wanted (Active access key exp)
+by_tests setup m now i j wanted access key exp true true c s h =
+    record { same = h; access = access; key = key; exp = exp; is = refl; covered = c; signed = signed_of setup m now key s }
+by_tests setup m now i j wanted access key exp true false c s h = absurd h
+by_tests setup m now i j wanted access key exp false b c s h = absurd h
 
 said_allow : (setup : RsSetup) (m : Message) (now i j : ℕ) (wanted : List Right) (says : Judgement) → IsAllow i (answer_of setup m now j wanted says)
     → IsSaid setup m now i j wanted says
 said_allow setup m now i j wanted Inactive h = absurd h
-said_allow setup m now i j wanted (Active access key) h = by_tests setup m now i j wanted access key _ _ refl refl h
+said_allow setup m now i j wanted (Active access key exp) h = by_tests setup m now i j wanted access key exp _ _ refl refl h
 
 -- ---- what it takes
 
@@ -133,19 +134,22 @@ means setup m now i _ _ starved h = absurd h
 means setup m now i _ _ (asked j token question route place request signed answered answer judged) h =
     let x : IsJudged setup m now i j (route.right ∷ []) answered = judged_allow setup m now i j (route.right ∷ []) answered answer judged h in
     record {
-      token = token;
-      question = question ∙ ap (λ (k : ℕ). Ok (k, token)) x.said_is.same;
-      route = route;
-      route_is = ap (slice_get setup.routes) (sym x.said_is.same) ∙ place;
-      request = request;
-      request_is = signed;
       reply = x.reply;
-      exchanged = ap (exchanges_of request) x.came;
-      access = x.said_is.access;
-      key = x.said_is.key;
-      active = subst (SaysOfToken x.reply) x.said_is.is x.active;
-      covered = x.said_is.covered;
-      signed = x.said_is.signed;
+      by_reply = record {
+        route = route;
+        token = token;
+        presents = record {
+          question = question ∙ ap (λ (k : ℕ). Ok (k, token)) x.said_is.same;
+          route_is = ap (slice_get setup.routes) (sym x.said_is.same) ∙ place;
+        };
+        access = x.said_is.access;
+        key = x.said_is.key;
+        exp = x.said_is.exp;
+        active = subst (SaysOfToken x.reply) x.said_is.is x.active;
+        covered = x.said_is.covered;
+        signed = x.said_is.signed;
+      };
+      introspected = record { request = request; request_is = signed; exchanged = ap (exchanges_of request) x.came };
     }
 
 pub allow_means_law : AllowMeans
@@ -154,18 +158,19 @@ allow_means_law setup m now i exchanges g = means setup m now i exchanges (guard
 -- ---- and that it comes
 
 judged_comes : (setup : RsSetup) (m : Message) (now i : ℕ) (wanted : List Right) (answered : Result (List ℕ) LinkFault) (reply : List ℕ) (answer : Guarded)
-    (access : List Right) (key : Option (List ℕ)) → answered ≡ Ok reply → Judged setup m now i wanted answered answer → SaysOfToken reply (Active access key)
+    (access : List Right) (key : Option (List ℕ)) (exp : ℕ) → answered ≡ Ok reply → Judged setup m now i wanted answered answer
+    → SaysOfToken reply (Active access key exp)
     → covers access wanted ≡ true → HasSigned setup m now key → (answer ≡ guarded.Allow i) ⊎ (answer ≡ guarded.Memory)
-judged_comes setup m now i wanted _ reply _ access key e (said other says s) active covered signed =
+judged_comes setup m now i wanted _ reply _ access key exp e (said other says s) active covered signed =
     let same : other ≡ reply = cc in
-    let is : says ≡ Active access key = same_saying reply says (Active access key) (subst (λ (r : List ℕ). SaysOfToken r says) same s) active in
+    let is : says ≡ Active access key exp = same_saying reply says (Active access key exp) (subst (λ (r : List ℕ). SaysOfToken r says) same s) active in
     inl (rw (is, covered, signed_true setup m now key signed) refl)
-judged_comes setup m now i wanted _ reply _ access key e (said_nothing other none) active covered signed =
+judged_comes setup m now i wanted _ reply _ access key exp e (said_nothing other none) active covered signed =
     let same : reply ≡ other = cc in
-    absurd (none (Active access key) (subst (λ (r : List ℕ). SaysOfToken r (Active access key)) same active))
-judged_comes setup m now i wanted _ reply _ access key e failed active covered signed = absurd (cc)
-judged_comes setup m now i wanted _ reply _ access key e no_room active covered signed = absurd (cc)
-judged_comes setup m now i wanted _ reply _ access key e (no_room_after other) active covered signed = inr refl
+    absurd (none (Active access key exp) (subst (λ (r : List ℕ). SaysOfToken r (Active access key exp)) same active))
+judged_comes setup m now i wanted _ reply _ access key exp e failed active covered signed = absurd (cc)
+judged_comes setup m now i wanted _ reply _ access key exp e no_room active covered signed = absurd (cc)
+judged_comes setup m now i wanted _ reply _ access key exp e (no_room_after other) active covered signed = inr refl
 
 one_reply : (request other reply : List ℕ) (answered : Result (List ℕ) LinkFault)
     → exchanges_of request answered ≡ (other, Some reply) ∷ [] → answered ≡ Ok reply
@@ -183,27 +188,28 @@ one_reply request other reply (Err link_faults.OutOfMemory) e = absurd (cc)
 comes : (setup : RsSetup) (m : Message) (now i : ℕ) (exchanges : List Exchange) (answer : Guarded)
     → Guards setup m now exchanges answer → IsAllowed setup m now i exchanges → (answer ≡ guarded.Allow i) ⊎ (answer ≡ guarded.Memory)
 comes setup m now i _ _ (at_once answer e) x =
-    let wrong : ◌≡◌ {A = Result (ℕ × (Scheme × List ℕ)) Guarded} (Ok (i, x.token)) (Err answer) = sym x.question ∙ e in
+    let wrong : ◌≡◌ {A = Result (ℕ × (Scheme × List ℕ)) Guarded} (Ok (i, x.by_reply.token)) (Err answer) = sym x.by_reply.presents.question ∙ e in
     absurd (cc)
 comes setup m now i _ _ starved x = inr refl
 comes setup m now i _ _ (asked j token question route place request signed answered answer judged) x =
-    let both : ◌≡◌ {A = Result (ℕ × (Scheme × List ℕ)) Guarded} (Ok (j, token)) (Ok (i, x.token)) = sym question ∙ x.question in
-    let pairs : ◌≡◌ {A = ℕ × (Scheme × List ℕ)} (j, token) (i, x.token) = cc in
+    let r : AllowedByReply setup m now i x.reply = x.by_reply in
+    let both : ◌≡◌ {A = Result (ℕ × (Scheme × List ℕ)) Guarded} (Ok (j, token)) (Ok (i, r.token)) = sym question ∙ r.presents.question in
+    let pairs : ◌≡◌ {A = ℕ × (Scheme × List ℕ)} (j, token) (i, r.token) = cc in
     let same : j ≡ i = ap (λ (p : ℕ × (Scheme × List ℕ)). p.0) pairs in
-    let routes : ◌≡◌ {A = Option Route} (Some route) (Some x.route) = sym place ∙ ap (slice_get setup.routes) same ∙ x.route_is in
-    let one : route ≡ x.route = cc in
-    let right : route.right ∷ [] ≡ x.route.right ∷ [] = ap (λ (r : Route). r.right ∷ []) one in
-    let came : answered ≡ Ok x.reply = one_reply request x.request x.reply answered x.exchanged in
+    let routes : ◌≡◌ {A = Option Route} (Some route) (Some r.route) = sym place ∙ ap (slice_get setup.routes) same ∙ r.presents.route_is in
+    let one : route ≡ r.route = cc in
+    let right : route.right ∷ [] ≡ r.route.right ∷ [] = ap (λ (r : Route). r.right ∷ []) one in
+    let came : answered ≡ Ok x.reply = one_reply request x.introspected.request x.reply answered x.introspected.exchanged in
     subst (λ (k : ℕ). (answer ≡ guarded.Allow k) ⊎ (answer ≡ guarded.Memory)) same
-    (judged_comes setup m now j (route.right ∷ []) answered x.reply answer x.access x.key came judged x.active
-    (ap (covers x.access) right ∙ x.covered) x.signed)
+    (judged_comes setup m now j (route.right ∷ []) answered x.reply answer r.access r.key r.exp came judged r.active
+    (ap (covers r.access) right ∙ r.covered) r.signed)
 
 pub allow_comes_law : AllowComes
 allow_comes_law setup m now i exchanges answer g x = comes setup m now i exchanges answer g x
 
 -- ---- the link's fault
 
-judged_fault : (setup : RsSetup) (m : Message) (now j : ℕ) (wanted : List Right) (answered : Result (List ℕ) LinkFault) (answer : Guarded)
+pub judged_fault : (setup : RsSetup) (m : Message) (now j : ℕ) (wanted : List Right) (answered : Result (List ℕ) LinkFault) (answer : Guarded)
     → Judged setup m now j wanted answered answer → answer ≡ guarded.LinkFault → answered ≡ Err link_faults.Failed
 judged_fault setup m now j wanted _ _ (said reply says s) e = absurd (never_fault setup m now j wanted says e)
   where
@@ -214,7 +220,7 @@ judged_fault setup m now j wanted _ _ (said reply says s) e = absurd (never_faul
 
     never_fault : (setup : RsSetup) (m : Message) (now j : ℕ) (wanted : List Right) (says : Judgement) → answer_of setup m now j wanted says ≡ guarded.LinkFault → ⊥
     never_fault setup m now j wanted Inactive e = absurd (cc)
-    never_fault setup m now j wanted (Active access key) e = by (covers access wanted) (has_signed setup m now key) j e
+    never_fault setup m now j wanted (Active access key exp) e = by (covers access wanted) (has_signed setup m now key) j e
 judged_fault setup m now j wanted _ _ (said_nothing reply s) e = absurd (cc)
 judged_fault setup m now j wanted _ _ failed e = refl
 judged_fault setup m now j wanted _ _ no_room e = absurd (cc)
@@ -249,9 +255,9 @@ fault_means_law setup m now _ _ (asked j token question route place request sign
 )
 
 -- and then the link's count rose
-pub fault_rose : (setup : RsSetup) (m : Message) (now : ℕ) (before after : LinkState) (answer : Guarded) → GuardsOver setup m now before after answer
+pub fault_rose : (setup : RsSetup) (m : Message) (now : ℕ) (before after : LinkState) (answer : Guarded) → GuardsOver (Guards setup m now) before after answer
     → answer ≡ guarded.LinkFault → Rose before.faults after.faults
 fault_rose setup m now before after answer over is =
-    let one : (request : List ℕ) × (over.exchanges ≡ (request, None) ∷ []) = (fault_means_law setup m now over.exchanges answer over.guards).0 is in
+    let one : (request : List ℕ) × (over.exchanges ≡ (request, None) ∷ []) = (fault_means_law setup m now over.exchanges answer over.guarded).0 is in
     let counts : CountsExchanges ((one.0, None) ∷ []) before.faults after.faults = subst (λ es. CountsExchanges es before.faults after.faults) one.1 over.over.counts in
     subst (λ n. Rose before.faults n) (sym counts.2) counts.1

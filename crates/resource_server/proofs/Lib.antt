@@ -1,7 +1,10 @@
+pub mod Ids
 pub mod Shown
+pub mod Asking
 pub mod Sayings
 pub mod Places
 pub mod Depths
 pub mod Counts
 pub mod Putting
 pub mod Allowing
+pub mod Denying

@@ -1,5 +1,5 @@
 -- What a request comes to, put together.
-use Rattle.std.proofs.Common.{◌≡◌, ◌∙◌, ℕ, List, [], ◌∷◌, refl, sym, ap, subst, append-nil}
+use Rattle.std.proofs.Common.{◌≡◌, ◌∙◌, ◌⊎◌, inl, inr, ℕ, List, [], ◌∷◌, refl, sym, ap, subst, append-nil}
 use Rattle.std.specs.Prelude.{Option, Some, None, Result, Ok, Err, slice_get}
 use Rattle.bytes_and_lists.specs.declared.message.Message.{Message}
 use Rattle.gnap_model.specs.declared.rights.Right.{Right}
@@ -14,21 +14,21 @@ use Rattle.resource_server.specs.declared.guarded.Guarded.{Guarded}
 use Rattle.resource_server.specs.declared.guarded.Guarded.TheVariants as guarded
 use Rattle.resource_server.specs.declared.guarded.Why.TheVariants as why
 use Rattle.resource_server.specs.Routing.{question_of}
-use Rattle.resource_server.specs.Introspecting.{introspection_bytes}
+use Rattle.resource_server.specs.Introspecting.{introspection_text, introspection_bytes, IsAsked}
 use Rattle.resource_server.specs.Guarding.{SaysOfToken, SaysNothing, answer_of, Judged, said, said_nothing, no_room_after, exchanges_of, AddsExchanges, Guards, at_once, starved, asked, GuardsOver}
 
 -- nothing was asked
-none_asked : (link : LinkState) → AddsExchanges [] link link
+pub none_asked : (link : LinkState) → AddsExchanges [] link link
 none_asked link = record { adds = sym (append-nil link.asked); counts = refl }
 
 pub refused_now : (setup : RsSetup) (m : Message) (now : ℕ) (link : LinkState) (answer : Guarded)
-    → question_of setup.routes m ≡ Err answer → GuardsOver setup m now link link answer
-refused_now setup m now link answer e = record { exchanges = []; guards = at_once answer e; over = none_asked link }
+    → question_of setup.routes m ≡ Err answer → GuardsOver (Guards setup m now) link link answer
+refused_now setup m now link answer e = record { exchanges = []; guarded = at_once answer e; over = none_asked link }
 
-pub starved_now : (setup : RsSetup) (m : Message) (now : ℕ) (link : LinkState) → GuardsOver setup m now link link guarded.Memory
-starved_now setup m now link = record { exchanges = []; guards = starved; over = none_asked link }
+pub starved_now : (setup : RsSetup) (m : Message) (now : ℕ) (link : LinkState) → GuardsOver (Guards setup m now) link link guarded.Memory
+starved_now setup m now link = record { exchanges = []; guarded = starved; over = none_asked link }
 
-exchanged : (request : List ℕ) (before after : LinkState) (reply : Result (List ℕ) LinkFault) → Exchanges request before after reply
+pub exchanged : (request : List ℕ) (before after : LinkState) (reply : Result (List ℕ) LinkFault) → Exchanges request before after reply
     → AddsExchanges (exchanges_of request reply) before after
 exchanged request before after (Ok reply) is = record {
   adds = ap (λ (l : LinkState). l.asked) is;
@@ -44,18 +44,18 @@ exchanged request before after (Err link_faults.OutOfMemory) is = record {
 }
 
 -- the token was introspected for the right of the route at a place
-pub asked_now : (setup : RsSetup) (m : Message) (now i : ℕ) (token : Scheme × List ℕ) (route : Route) (wanted : List Right) (request text : List ℕ)
+pub asked_now : (setup : RsSetup) (m : Message) (now i : ℕ) (token : Scheme × List ℕ) (route : Route) (wanted : List Right) (text : List ℕ)
     (before after : LinkState) (reply : Result (List ℕ) LinkFault) (answer : Guarded)
     → question_of setup.routes m ≡ Ok (i, token) → slice_get setup.routes i ≡ Some route → wanted ≡ route.right ∷ []
-    → introspection_bytes setup now wanted token ≡ Some request → text ≡ request
-    → Exchanges text before after reply → Judged setup m now i wanted reply answer
-    → GuardsOver setup m now before after answer
-asked_now setup m now i token route wanted request text before after reply answer question place want signed same done judged = record {
-  exchanges = exchanges_of request reply;
-  guards = asked i token question route place request
-      (subst (λ (w : List Right). introspection_bytes setup now w token ≡ Some request) want signed)
+    → text ≡ introspection_text setup.id wanted token → IsAsked setup now text before after reply → Judged setup m now i wanted reply answer
+    → GuardsOver (Guards setup m now) before after answer
+asked_now setup m now i token route wanted text before after reply answer question place want is done judged = record {
+  exchanges = exchanges_of done.request reply;
+  guarded = asked i token question route place done.request
+      (subst (λ (t : List ℕ). introspection_bytes setup now t ≡ Some done.request)
+      (is ∙ ap (λ (w : List Right). introspection_text setup.id w token) want) done.signed)
       reply answer (subst (λ (w : List Right). Judged setup m now i w reply answer) want judged);
-  over = exchanged request before after reply (subst (λ (t : List ℕ). Exchanges t before after reply) same done);
+  over = exchanged done.request before after reply done.exchanged;
 }
 
 -- ---- a reply
@@ -64,9 +64,10 @@ pub judged_by : (setup : RsSetup) (m : Message) (now i : ℕ) (wanted : List Rig
     → SaysOfToken reply says → answer ≡ answer_of setup m now i wanted says → Judged setup m now i wanted (Ok reply) answer
 judged_by setup m now i wanted reply says answer s e = rw e (said reply says s)
 
-pub judged_bad : (setup : RsSetup) (m : Message) (now i : ℕ) (wanted : List Right) (reply : List ℕ) → SaysNothing reply
-    → Judged setup m now i wanted (Ok reply) (guarded.Deny 502 (why.BadReply reply))
-judged_bad setup m now i wanted reply s = said_nothing reply s
+pub judged_bad : (setup : RsSetup) (m : Message) (now i : ℕ) (wanted : List Right) (reply : List ℕ) (answer : Guarded) → SaysNothing reply
+    → (answer ≡ guarded.Deny 502 (why.BadReply reply)) ⊎ (answer ≡ guarded.Memory) → Judged setup m now i wanted (Ok reply) answer
+judged_bad setup m now i wanted reply answer s (inl e) = rw e (said_nothing reply s)
+judged_bad setup m now i wanted reply answer s (inr e) = rw e (no_room_after reply)
 
 pub judged_starved : (setup : RsSetup) (m : Message) (now i : ℕ) (wanted : List Right) (reply : List ℕ) → Judged setup m now i wanted (Ok reply) guarded.Memory
 judged_starved setup m now i wanted reply = no_room_after reply

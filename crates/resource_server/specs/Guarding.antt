@@ -22,7 +22,7 @@ use Rattle.resource_server.specs.declared.guarded.Guarded.TheVariants as guarded
 use Rattle.resource_server.specs.declared.guarded.Why.{Why}
 use Rattle.resource_server.specs.declared.guarded.Why.TheVariants as why
 use Rattle.resource_server.specs.Routing.{question_of}
-use Rattle.resource_server.specs.Introspecting.{introspection_bytes}
+use Rattle.resource_server.specs.Introspecting.{question_text, introspection_bytes}
 
 -- ---- the authorization server's reply
 
@@ -56,7 +56,7 @@ has_signed setup m now (Some key) = is_key key (verified m setup.base setup.ring
 -- the answer where this is said of the token, for the route at a place that needs these rights
 abbrev pub answer_of : RsSetup → Message → ℕ → ℕ → List Right → Judgement → Guarded
 answer_of setup m now i wanted Inactive = guarded.Deny 401 why.Inactive
-answer_of setup m now i wanted (Active access key) =
+answer_of setup m now i wanted (Active access key exp) =
     if not (covers access wanted) then guarded.Deny 403 why.TooNarrow
     else (if has_signed setup m now key then guarded.Allow i else guarded.Deny 401 why.Signature)
 
@@ -102,14 +102,14 @@ pub data Guards (setup : RsSetup) (m : Message) (now : ℕ) : List Exchange → 
   -- the token was introspected for the route's right
   asked : (i : ℕ) → (token : Scheme × List ℕ) → question_of setup.routes m ≡ Ok (i, token)
       → (route : Route) → slice_get setup.routes i ≡ Some route
-      → (request : List ℕ) → introspection_bytes setup now (route.right ∷ []) token ≡ Some request
+      → (request : List ℕ) → introspection_bytes setup now (question_text setup route token) ≡ Some request
       → (reply : Result (List ℕ) LinkFault)
       → (answer : Guarded) → Judged setup m now i (route.right ∷ []) reply answer → Guards setup m now (exchanges_of request reply) answer
 
--- a request was guarded over a link that counted and told this before, and that after
-pub record GuardsOver (setup : RsSetup) (m : Message) (now : ℕ) (before after : LinkState) (answer : Guarded) : Type 0 where
+-- A request came to an answer over a link that counted and told this before, and that after: by the exchanges that the link then has more.
+pub record GuardsOver (guards : List Exchange → Guarded → Type 0) (before after : LinkState) (answer : Guarded) : Type 0 where
   pub exchanges : List Exchange
-  pub guards : Guards setup m now exchanges answer
+  pub guarded : guards exchanges answer
   pub over : AddsExchanges exchanges before after
 
 -- ---- which answers there are

@@ -10,6 +10,7 @@ use Rattle.access_rights.specs.Reading.{rights_of}
 use Rattle.gnap_objects.specs.declared.fault.ObjectFault.{ObjectFault}
 use Rattle.gnap_objects.specs.declared.fault.ObjectFault.TheVariants as faults
 use Rattle.gnap_objects.specs.declared.setups.SetupFault.{SetupFault}
+use Rattle.gnap_objects.specs.declared.setups.SetupFault.TheVariants.{InSetup}
 use Rattle.gnap_objects.specs.Reading.{required, required_text, required_items, checked, id_of, without_others, under}
 use Rattle.gnap_objects.specs.Setups.{base_of, secret_of, object_in, in_setup, in_key}
 use Rattle.signed_requests.specs.Forms.{is_method, begins_with_slash}
@@ -41,8 +42,12 @@ abbrev pub ring_from : List (List ℕ × List ℕ) → Items → Result (List (L
 ring_from ring no_items = Ok ring
 ring_from ring (item d ds) = in_key (length ring) (with_key ring d) >>= λ more. ring_from more ds
 
+abbrev pub few_keys : List (List ℕ × List ℕ) → Result (List (List ℕ × List ℕ)) SetupFault
+few_keys ring = if nat_lt 4096 (length ring) then Err (InSetup (faults.TooMany (codes "keys"))) else Ok ring
+
+-- `keys`: at most 4,096
 unfoldable pub ring_of : Data → Result (List (List ℕ × List ℕ)) SetupFault
-ring_of d = in_setup (required_items (codes "keys") d) >>= ring_from []
+ring_of d = in_setup (required_items (codes "keys") d) >>= ring_from [] >>= few_keys
 
 -- ---- routes
 

@@ -2,13 +2,13 @@
 ghost use Rattle.std.specs.Prelude.{◌≡◌, ◌<◌, ◌^◌, Ok, length, IsUtf8};
 ghost use Rattle.gnap_io.specs.Outside.{Rose};
 ghost use Rattle.resource_server.specs.Fits.{RsSetupFits};
-ghost use Rattle.resource_server.specs.Guarding.{GuardsOver, IsAnswer};
+ghost use Rattle.resource_server.specs.Guarding.{Guards, GuardsOver, IsAnswer};
 ghost use Rattle.resource_server.specs.Routing.{question_of};
 
-use crate::guarded::{Guarded, Why};
-use crate::introspecting::{introspection_bytes, wanted_of};
+use crate::guarded::Guarded;
+use crate::introspecting::{ask, introspection_text, wanted_of};
 use crate::judging::judged;
-use crate::routing::{route_of, token_of};
+use crate::routing::question;
 use crate::setup::RsSetup;
 use bytes_and_lists::message::Message;
 use gnap_io::link::{Link, LinkFault};
@@ -32,24 +32,24 @@ fn guard_by<L: Link>(
     requires place { question_of setup.now.routes message.now ≡ Ok (i, (scheme, value.now)) }
     requires within { i < length setup.now.routes }
     requires value { IsUtf8 value.now }
-    ensures guards { GuardsOver setup.now message.now now (L.link link.old) (L.link link.new) result }
+    ensures guards { GuardsOver (Guards setup.now message.now now) (L.link link.old) (L.link link.new) result }
     ensures answer { IsAnswer setup.now result }
 {
     let Ok(wanted) = wanted_of(alloc, setup.routes.at(i)) else {
         return Guarded::Memory;
     };
-    let Ok(request) = introspection_bytes(alloc, setup, &wanted, scheme, value, now) else {
+    let Ok(text) = introspection_text(alloc, setup, &wanted, scheme, value) else {
         return Guarded::Memory;
     };
-    match link.exchange(request.as_slice()) {
-        Ok(reply) => judged(alloc, setup, message, now, i, &wanted, reply),
+    match ask(alloc, setup, link, now, text) {
+        Ok(reply) => judged(alloc, setup, message, now, i, &wanted, reply.as_slice()),
         Err(LinkFault::Failed) => Guarded::LinkFault,
         Err(LinkFault::OutOfMemory) => Guarded::Memory,
     }
 }
 
 // The first answer that applies.
-#[tactic(auto, using(crate::proofs::Places::value_is_text, crate::proofs::Putting::refused_now), unfolding(crate::specs::Routing::question_of))]
+#[tactic(auto, using(crate::proofs::Putting::refused_now))]
 fn first_answer<L: Link>(
     alloc: Global,
     message: &Message,
@@ -59,18 +59,13 @@ fn first_answer<L: Link>(
 ) -> Guarded
     requires now { now < 10 ^ 15 }
     requires setup { RsSetupFits setup.now }
-    ensures guards { GuardsOver setup.now message.now now (L.link link.old) (L.link link.new) result }
+    ensures guards { GuardsOver (Guards setup.now message.now now) (L.link link.old) (L.link link.new) result }
     ensures answer { IsAnswer setup.now result }
 {
-    let i = match route_of(&setup.routes, message) {
-        Ok(i) => i,
-        Err(refusal) => return refusal,
-    };
-    let (scheme, value) = match token_of(message) {
-        Some(token) => token,
-        None => return Guarded::Deny(401, Why::NoToken),
-    };
-    guard_by(alloc, message, setup, link, now, i, scheme, value)
+    match question(setup, message) {
+        Ok((i, scheme, value)) => guard_by(alloc, message, setup, link, now, i, scheme, value),
+        Err(refusal) => refusal,
+    }
 }
 
 /// What the request comes to at this moment, in seconds since 1970: the first of these that applies.
@@ -93,7 +88,7 @@ pub fn guard<L: Link>(
 ) -> Guarded
     requires now { now < 10 ^ 15 }
     requires setup { RsSetupFits setup.now }
-    ensures guards { GuardsOver setup.now message.now now (L.link link.old) (L.link link.new) result }
+    ensures guards { GuardsOver (Guards setup.now message.now now) (L.link link.old) (L.link link.new) result }
     ensures answer { IsAnswer setup.now result }
     ensures cause { result ≡ Guarded.LinkFault → Rose (L.link link.old).faults (L.link link.new).faults }
 {

@@ -1,5 +1,7 @@
 //! What a reply of the authorization server comes to.
-ghost use Rattle.std.specs.Prelude.{◌≡◌, ◌<◌, length, Ok, IfOk};
+ghost use Rattle.std.specs.Prelude.{◌≡◌, ◌⊎◌, ◌<◌, length, Ok, IfOk};
+ghost use Rattle.resource_server.specs.declared.guarded.Why.TheVariants as why;
+ghost use Rattle.resource_server.specs.declared.setup.RsSetup.{RsSetup};
 ghost use Rattle.resource_server.specs.Guarding.{has_signed, answer_of, Judged, SaysToken, IsAnswer};
 
 use crate::guarded::{Guarded, Why};
@@ -14,9 +16,10 @@ use message_signature::{SigFault, verify};
 use reply_readers::{Judgement, read_judgement};
 use std::alloc::Global;
 
-// What the bytes say of a token.
+/// What the bytes of a reply say of a token: what `reply_readers::read_judgement` gives for its status and its body. `None` where they say nothing of the
+/// kind, or are no reply.
 #[tactic(auto, using(crate::proofs::Sayings::says_none, crate::proofs::Sayings::says_by))]
-fn says(alloc: Global, bytes: &[u8]) -> Result<Option<Judgement>, Mem>
+pub fn says(alloc: Global, bytes: &[u8]) -> Result<Option<Judgement>, Mem>
     ensures { IfOk result (SaysToken bytes.now) }
 {
     match read_reply(alloc, bytes) {
@@ -47,7 +50,8 @@ fn has_signed(
     }
 }
 
-fn answer_of(
+/// What a request comes to at this moment, for the route at this place, which needs these rights, where this is said of its token.
+pub fn answer_of(
     alloc: Global,
     setup: &RsSetup,
     message: &Message,
@@ -62,7 +66,7 @@ fn answer_of(
 {
     let (access, key) = match says {
         Judgement::Inactive => return Ok(Guarded::Deny(401, Why::Inactive)),
-        Judgement::Active { access, key } => (access, key),
+        Judgement::Active { access, key, .. } => (access, key),
     };
     if !covers(access, wanted) {
         return Ok(Guarded::Deny(403, Why::TooNarrow));
@@ -74,27 +78,38 @@ fn answer_of(
     }
 }
 
-/// What the reply comes to, for the route at this place, which needs these rights.
+// A reply that says nothing of a token.
+fn bad_reply(alloc: Global, reply: &[u8]) -> Guarded
+    ensures value { (result ≡ Guarded.Deny 502 (why.BadReply reply.now)) ⊎ (result ≡ Guarded.Memory) }
+    ensures answer { (setup : RsSetup) → IsAnswer setup result }
+{
+    match Bytes::from_slice(alloc, reply) {
+        Ok(reply) => Guarded::Deny(502, Why::BadReply(reply)),
+        Err(Mem) => Guarded::Memory,
+    }
+}
+
+/// What the reply comes to at this moment, for the route at this place, which needs these rights.
 #[tactic(auto, using(crate::proofs::Putting::judged_by, crate::proofs::Putting::judged_bad, crate::proofs::Putting::judged_starved))]
-pub(crate) fn judged(
+pub fn judged(
     alloc: Global,
     setup: &RsSetup,
     message: &Message,
     now: u64,
     i: usize,
     wanted: &Rights,
-    reply: Bytes,
+    reply: &[u8],
 ) -> Guarded
     requires within { i < length setup.now.routes }
-    ensures judged { Judged setup.now message.now now i wanted.now (Ok reply) result }
+    ensures judged { Judged setup.now message.now now i wanted.now (Ok reply.now) result }
     ensures answer { IsAnswer setup.now result }
 {
-    match says(alloc, reply.as_slice()) {
+    match says(alloc, reply) {
         Ok(Some(says)) => match answer_of(alloc, setup, message, now, i, wanted, &says) {
             Ok(answer) => answer,
             Err(Mem) => Guarded::Memory,
         },
-        Ok(None) => Guarded::Deny(502, Why::BadReply(reply)),
+        Ok(None) => bad_reply(alloc, reply),
         Err(Mem) => Guarded::Memory,
     }
 }

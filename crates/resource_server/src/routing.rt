@@ -1,12 +1,12 @@
 //! The route and the token of a request.
-ghost use Rattle.std.specs.Prelude.{◌≡◌, ◌<◌, IfOk, IfErr, IfSome, length, filter, position, option_map, codes};
+ghost use Rattle.std.specs.Prelude.{◌≡◌, ◌<◌, Ok, Err, IfOk, IfErr, IfSome, IsUtf8, length, filter, position, option_map, codes};
 ghost use Rattle.std.specs.List.{list_any};
 ghost use Rattle.resource_server.specs.declared.setup.RsSetup.{RsSetup};
 ghost use Rattle.resource_server.specs.Guarding.{IsAnswer};
-ghost use Rattle.resource_server.specs.Routing.{has_path, is_route, route_of, is_authorization, only_value, with_scheme, behind_word, presented_by, presented_in, presented_at};
+ghost use Rattle.resource_server.specs.Routing.{has_path, is_route, route_of, is_authorization, only_value, with_scheme, behind_word, presented_by, presented_in, presented_at, question_of};
 
 use crate::guarded::{Guarded, Why};
-use crate::setup::{Route, Routes};
+use crate::setup::{Route, Routes, RsSetup};
 use as_requests::routes::path_of;
 use bytes_and_lists::message::{Field, Fields, Message};
 use reply_readers::values::is_value;
@@ -125,4 +125,23 @@ pub(crate) fn token_of(message: &Message) -> Option<(Scheme, &[u8])>
     ensures { option_map (λ p. (p.0, p.1.now)) result ≡ presented_at (only_value (filter is_authorization message.now.fields)) }
 {
     presented_in(only_value(&message.fields)?)
+}
+
+/// The place of the message's route, and its token, with the scheme that presents it; or the refusal: `NoRoute`, `NoMethod` or `NoToken`.
+#[tactic(auto, using(crate::proofs::Places::value_is_text), unfolding(crate::specs::Routing::question_of))]
+pub fn question<'m>(
+    setup: &RsSetup,
+    message: &'m Message,
+) -> Result<(usize, Scheme, &'m [u8]), Guarded>
+    ensures found { IfOk result (λ q. question_of setup.now.routes message.now ≡ Ok (q.0, (q.1, q.2.now))) }
+    ensures within { IfOk result (λ q. q.0 < length setup.now.routes) }
+    ensures text { IfOk result (λ q. IsUtf8 q.2.now) }
+    ensures refused { IfErr result (λ refusal. question_of setup.now.routes message.now ≡ Err refusal) }
+    ensures answer { IfErr result (IsAnswer setup.now) }
+{
+    let i = route_of(&setup.routes, message)?;
+    match token_of(message) {
+        Some((scheme, value)) => Ok((i, scheme, value)),
+        None => Err(Guarded::Deny(401, Why::NoToken)),
+    }
 }

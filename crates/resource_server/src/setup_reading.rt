@@ -50,7 +50,7 @@ fn too_many(alloc: Global, name: &str) -> ObjectFault
 }
 
 // An id, which can stand in a signature.
-#[tactic(auto, using(gnap_client::proofs::Ids::read_string), unfolding(crate::specs::RsSetups::named_id_of))]
+#[tactic(auto, using(crate::proofs::Ids::read_string), unfolding(crate::specs::RsSetups::named_id_of))]
 fn named_id_of(alloc: Global, value: &Value) -> Result<Bytes, ObjectFault>
     ensures value { Gives faults.OutOfMemory (λ s. s) result (named_id_of (view value.now)) }
     ensures utf8 { IfOk result IsUtf8 }
@@ -99,7 +99,11 @@ fn ring_of(alloc: Global, value: &Value) -> Result<Keyring, SetupFault>
     ensures { Gives OutOfMemory (λ k. k) result (ring_of (view value.now)) }
 {
     let items = required_items(alloc, value, "keys")?;
-    ring_from(alloc, items)
+    let ring = ring_from(alloc, items)?;
+    if 4096 < ring.len() {
+        return Err(too_many(alloc, "keys").into());
+    }
+    Ok(ring)
 }
 
 // ---- routes
@@ -260,7 +264,7 @@ fn only_setup_members(alloc: Global, value: &Value, setup: RsSetup) -> Result<Rs
 ///
 /// It is a JSON object with exactly the members `base` and `server`, addresses of servers (`gnap_objects::forms::is_base`); `id`
 /// (`gnap_objects::forms::is_id`) and `secret`, 16 to 64 bytes in base64 with padding (RFC 4648, section 4), its key at the authorization server; `keys`,
-/// an array of objects with exactly `id`, which no other key has, and `secret`; and `routes`, an array of 1 to 1,024 objects with exactly `method`, 1 to 15
+/// an array of at most 4,096 objects with exactly `id`, which no other key has, and `secret`; and `routes`, an array of 1 to 1,024 objects with exactly `method`, 1 to 15
 /// upper-case letters, `path`, which begins with `/`, `right`, a right, and `text`, a string. No two routes have one method and one path. The members are
 /// read in this order, and the first fault is named; a member with another name comes after all others of its object.
 #[tactic(auto, unfolding(crate::specs::RsSetups::rs_setup_of))]

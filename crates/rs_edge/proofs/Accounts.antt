@@ -1,4 +1,4 @@
--- The account of a gear and a link after one more connection.
+-- The account of a gear, a link and a guard after one more connection.
 use Rattle.std.proofs.Common.{◌≡◌, ◌∙◌, ◌+◌, ◌-◌, ◌<◌, List, [], ◌∷◌, ◌++◌, length, refl, ap, sym, subst, arith, append_assoc, length-append}
 use Rattle.std.proofs.lemmas.List.{append-nil}
 use Rattle.gnap_io.specs.Gears.{GearState, IsUnused, with_served, empty_log}
@@ -11,23 +11,30 @@ use Rattle.http_edge.specs.declared.fault.EdgeFault.{EdgeFault}
 use Rattle.serving.specs.Workers.{HasServedOne}
 use Rattle.serving.specs.declared.ends.ConnectionEnd.{ConnectionEnd}
 use Rattle.resource_server.specs.declared.setup.RsSetup.{RsSetup}
+use Rattle.rs_edge.specs.GuardedSteps.{GuardsKeeping, Chained, exchanges_in}
+use Rattle.rs_edge.specs.Exchanges.{exchanges-append, chained-append}
 use Rattle.rs_edge.specs.RsTurns.{RsTurn}
 use Rattle.rs_edge.specs.RsSessions.{ServesResources, IsRsSession, RsSessions, IsRsAccount}
 
-joined-next : (tss : List (List RsTurn)) (ts : List RsTurn) → joined (tss ++ ts ∷ []) ≡ joined tss ++ ts
+joined-next : {K : Type 0} (tss : List (List (RsTurn K))) (ts : List (RsTurn K)) → joined (tss ++ ts ∷ []) ≡ joined tss ++ ts
 joined-next [] ts = append-nil ts
 joined-next (us ∷ tss) ts = ap (λ x. us ++ x) (joined-next tss ts) ∙ sym (append_assoc us (joined tss) ts)
 
-sessions-next : (setup : RsSetup) (conns : List Served) (tss : List (List RsTurn)) (conn : Served) (ts : List RsTurn)
-    → RsSessions setup conns tss → IsRsSession setup conn ts → RsSessions setup (conns ++ conn ∷ []) (tss ++ ts ∷ [])
-sessions-next setup [] [] conn ts are is = (is, tt)
-sessions-next setup [] (us ∷ tss) conn ts are is = absurd are
-sessions-next setup (c ∷ conns) [] conn ts are is = absurd are
-sessions-next setup (c ∷ conns) (us ∷ tss) conn ts are is = (are.0, sessions-next setup conns tss conn ts are.1 is)
+-- the steps of one more connection come after those before
+steps-next : {K : Type 0} (tss : List (List (RsTurn K))) (ts : List (RsTurn K)) → entries_in (joined (tss ++ ts ∷ [])) ≡ entries_in (joined tss) ++ entries_in ts
+steps-next tss ts = ap entries_in (joined-next tss ts) ∙ entries_in-append (joined tss) ts
+
+sessions-next : {K : Type 0} (guards : GuardsKeeping K) (setup : RsSetup) (conns : List Served) (tss : List (List (RsTurn K))) (conn : Served) (ts : List (RsTurn K))
+    → RsSessions guards setup conns tss → IsRsSession guards setup conn ts → RsSessions guards setup (conns ++ conn ∷ []) (tss ++ ts ∷ [])
+sessions-next guards setup [] [] conn ts are is = (is, tt)
+sessions-next guards setup [] (us ∷ tss) conn ts are is = absurd are
+sessions-next guards setup (c ∷ conns) [] conn ts are is = absurd are
+sessions-next guards setup (c ∷ conns) (us ∷ tss) conn ts are is = (are.0, sessions-next guards setup conns tss conn ts are.1 is)
 
 -- nothing was done yet
-pub account_start : (setup : RsSetup) (gear : GearState) (asked : List Exchange) → IsUnused gear → asked ≡ [] → IsRsAccount setup gear.log asked
-account_start setup gear asked unused none =
+pub account_start : {K : Type 0} (guards : GuardsKeeping K) (setup : RsSetup) (first : K) (gear : GearState) (asked : List Exchange) → IsUnused gear → asked ≡ []
+    → IsRsAccount guards setup first gear.log asked first
+account_start guards setup first gear asked unused none =
     let log : gear.log ≡ empty_log = ap (λ (g : GearState). g.log) unused in
     rw (log, none) record {
       turns = [];
@@ -35,11 +42,12 @@ account_start setup gear asked unused none =
       moments = refl;
       draws = refl;
       asked_is = refl;
+      chained = refl;
     }
 
-module _ (setup : RsSetup) (gear gear1 gear2 gear3 : GearState) (link link1 : LinkState) (conn : Served) (ended : ConnectionEnd EdgeFault)
-    (account : IsRsAccount setup gear.log link.asked) (gave : gear1 ≡ record gear { out = gear.out + 1; left = gear.left - 1 }) (some : 0 < gear.left)
-    (serves : ServesResources setup link link1 gear1 gear2 conn ended) where
+module _ {K : Type 0} (guards : GuardsKeeping K) (setup : RsSetup) (gear gear1 gear2 gear3 : GearState) (link link1 : LinkState) (kept kept1 : K) (conn : Served)
+    (ended : ConnectionEnd EdgeFault) (gave : gear1 ≡ record gear { out = gear.out + 1; left = gear.left - 1 }) (some : 0 < gear.left)
+    (serves : ServesResources guards setup link link1 kept kept1 gear1 gear2 conn ended) where
   pub one_out : 0 < gear2.out
   one_out =
       let used = ap (λ (g : GearState). g.out) serves.used in
@@ -59,16 +67,18 @@ module _ (setup : RsSetup) (gear gear1 gear2 gear3 : GearState) (link link1 : Li
     draws_now = ap (λ (g : GearState). g.log.draws) back ∙ ap (λ (g : GearState). g.log.draws) serves.used
         ∙ ap (λ (g : GearState). g.log.draws ++ []) gave
 
-    pub account_next : IsRsAccount setup gear3.log link1.asked
-    account_next = record {
+    pub account_next : (first : K) → IsRsAccount guards setup first gear.log link.asked kept → IsRsAccount guards setup first gear3.log link1.asked kept1
+    account_next first account = record {
       turns = account.turns ++ serves.turns ∷ [];
-      sessions = subst (λ conns. RsSessions setup conns (account.turns ++ serves.turns ∷ [])) (sym served_now)
-          (sessions-next setup gear.log.served account.turns conn serves.turns account.sessions (ended, serves.session));
+      sessions = subst (λ conns. RsSessions guards setup conns (account.turns ++ serves.turns ∷ [])) (sym served_now)
+          (sessions-next guards setup gear.log.served account.turns conn serves.turns account.sessions (ended, serves.session));
       moments = moments_now ∙ ap (λ ms. ms ++ moments_in serves.turns) account.moments
           ∙ sym (moments_in-append (joined account.turns) serves.turns) ∙ ap moments_in (sym (joined-next account.turns serves.turns));
       draws = draws_now ∙ append-nil gear.log.draws ∙ account.draws;
-      asked_is = serves.over.adds ∙ ap (λ es. es ++ entries_in serves.turns) account.asked_is
-          ∙ sym (entries_in-append (joined account.turns) serves.turns) ∙ ap entries_in (sym (joined-next account.turns serves.turns));
+      asked_is = serves.over.adds ∙ ap (λ es. es ++ exchanges_in (entries_in serves.turns)) account.asked_is
+          ∙ sym (exchanges-append (entries_in (joined account.turns)) (entries_in serves.turns)) ∙ ap exchanges_in (sym (steps-next account.turns serves.turns));
+      chained = subst (λ steps. Chained first steps kept1) (sym (steps-next account.turns serves.turns))
+          (chained-append (entries_in (joined account.turns)) (entries_in serves.turns) first kept kept1 account.chained serves.chained);
     }
 
     pub served_one : HasServedOne gear gear3

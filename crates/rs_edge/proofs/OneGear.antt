@@ -12,6 +12,7 @@ use Rattle.serving.specs.Workers.{HasServedAll}
 use Rattle.serving.specs.ServiceEnds.{has_failed, IsUsedUp}
 use Rattle.serving.proofs.UsedUp.{used_up}
 use Rattle.resource_server.specs.declared.setup.RsSetup.{RsSetup}
+use Rattle.rs_edge.specs.GuardedSteps.{GuardsKeeping}
 use Rattle.rs_edge.specs.RsSessions.{IsRsAccount}
 use Rattle.rs_edge.specs.RsServices.{ServesOneGear, IsRsService, not_started, served}
 
@@ -19,33 +20,37 @@ served_whole : (before after : GearState) → IsUnused before → HasServedAll b
 served_whole before after unused all none =
     used_up (before ∷ []) (after ∷ []) (All-push IsUnused [] before (All-nil IsUnused) unused) (all, tt) (rw none refl) 0 after (omega arith)
 
-pub one_gear : (setup : RsSetup) (link : LinkState) (before after : GearState) (gears : List GearState) (failed : Bool) → gears ≡ after ∷ [] → IsUnused before
-    → IsRsAccount setup after.log link.asked → after.out ≡ 0 → HasServedAll before after → failed ≡ has_failed after → ServesOneGear setup link gears failed
-one_gear setup link before after gears failed one unused account out all is = record {
-  gear = after;
-  one = one;
-  over = record { account = account; out = out };
-  failed_is = is;
-  used_up = λ none. served_whole before after unused all (sym is ∙ none);
-}
+module _ {K : Type 0} (guards : GuardsKeeping K) (setup : RsSetup) (kept kept_now : K) (link : LinkState) where
+  pub one_gear : (before after : GearState) (gears : List GearState) (failed : Bool) → gears ≡ after ∷ [] → IsUnused before
+      → IsRsAccount guards setup kept after.log link.asked kept_now → after.out ≡ 0 → HasServedAll before after → failed ≡ has_failed after
+      → ServesOneGear guards setup kept link gears failed kept_now
+  one_gear before after gears failed one unused account out all is = record {
+    gear = after;
+    one = one;
+    over = record { account = account; out = out };
+    failed_is = is;
+    used_up = λ none. served_whole before after unused all (sym is ∙ none);
+  }
 
--- the same of the first gear of a list that has no other
-pub gear_served : {G : Type 0} (state : G → GearState) (setup : RsSetup) (link : LinkState) (gears : List G) (first after : G) (failed : Bool) → length gears ≡ 1
-    → first ≡ slice_index_or gears 0 first → All (λ gear. IsUnused (state gear)) gears → IsRsAccount setup (state after).log link.asked → (state after).out ≡ 0
-    → HasServedAll (state first) (state after) → failed ≡ has_failed (state after) → ServesOneGear setup link (map state (slice_set gears 0 after)) failed
-gear_served state setup link [] first after failed one is unused account out all failed_is = absurd (omega (arith, one))
-gear_served state setup link (g ∷ []) first after failed one is unused account out all failed_is =
-    one_gear setup link (state first) (state after) (state after ∷ []) failed refl (subst (λ x. IsUnused (state x)) (sym is) (unused 0 g (omega arith)))
-    account out all failed_is
-gear_served state setup link (g ∷ h ∷ gears) first after failed one is unused account out all failed_is = absurd (omega (arith, one))
+  -- the same of the first gear of a list that has no other
+  pub gear_served : {G : Type 0} (state : G → GearState) (gears : List G) (first after : G) (failed : Bool) → length gears ≡ 1
+      → first ≡ slice_index_or gears 0 first → All (λ gear. IsUnused (state gear)) gears → IsRsAccount guards setup kept (state after).log link.asked kept_now
+      → (state after).out ≡ 0 → HasServedAll (state first) (state after) → failed ≡ has_failed (state after)
+      → ServesOneGear guards setup kept link (map state (slice_set gears 0 after)) failed kept_now
+  gear_served state [] first after failed one is unused account out all failed_is = absurd (omega (arith, one))
+  gear_served state (g ∷ []) first after failed one is unused account out all failed_is =
+      one_gear (state first) (state after) (state after ∷ []) failed refl (subst (λ x. IsUnused (state x)) (sym is) (unused 0 g (omega arith)))
+      account out all failed_is
+  gear_served state (g ∷ h ∷ gears) first after failed one is unused account out all failed_is = absurd (omega (arith, one))
 
-pub as_told : (setup : RsSetup) (link : LinkState) (gears : List GearState) (failed told : Bool) → failed ≡ told → ServesOneGear setup link gears failed
-    → ServesOneGear setup link gears told
-as_told setup link gears failed told is serves = subst (ServesOneGear setup link gears) is serves
+  pub as_told : (gears : List GearState) (failed told : Bool) → failed ≡ told → ServesOneGear guards setup kept link gears failed kept_now
+      → ServesOneGear guards setup kept link gears told kept_now
+  as_told gears failed told is serves = subst (λ f. ServesOneGear guards setup kept link gears f kept_now) is serves
 
 -- ---- in a world
 
-module _ (setup : RsSetup) (listen server : List ℕ) (quota : ℕ) (before opened started stopped after : WorldState) (link : LinkState) (gears : List GearState)
+module _ {K : Type 0} (guards : GuardsKeeping K) (setup : RsSetup) (kept kept_now : K) (listen server : List ℕ) (quota : ℕ) (before opened started stopped after : WorldState)
+    (link : LinkState) (gears : List GearState)
     (link_is : opened ≡ with_opening (opening.Link server) before) (gears_are : started ≡ with_opening (opening.Gears listen 1 quota) opened)
     (gears_back : stopped ≡ with_gears gears started) (link_back : after ≡ with_link link stopped) where
   state_is : (gear : GearState) → gears ≡ gear ∷ []
@@ -53,18 +58,21 @@ module _ (setup : RsSetup) (listen server : List ℕ) (quota : ℕ) (before open
   state_is gear one = link_back ∙ ap (with_link link) (gears_back ∙ ap (λ gs. with_gears gs started) one
       ∙ ap (with_gears (gear ∷ [])) (gears_are ∙ ap (with_opening (opening.Gears listen 1 quota)) link_is))
 
-  pub served_failed : {D : Type 0} → ServesOneGear setup link gears true → (let r : Result D WorldFault = Err faults.Failed in IsRsService setup listen server quota before after r)
-  served_failed one = served (Err faults.Failed) link one.gear (state_is one.gear one.one) one.over (rw (sym one.failed_is) refl)
+  pub served_failed : {D : Type 0} → ServesOneGear guards setup kept link gears true kept_now
+      → (let r : Result D WorldFault = Err faults.Failed in IsRsService guards setup listen server quota before after kept kept_now r)
+  served_failed one = served (Err faults.Failed) link one.gear kept_now (state_is one.gear one.one) one.over (rw (sym one.failed_is) refl)
 
-  pub served_well : {D : Type 0} (done : D) → ServesOneGear setup link gears false → (let r : Result D WorldFault = Ok done in IsRsService setup listen server quota before after r)
-  served_well done one = served (Ok done) link one.gear (state_is one.gear one.one) one.over
+  pub served_well : {D : Type 0} (done : D) → ServesOneGear guards setup kept link gears false kept_now
+      → (let r : Result D WorldFault = Ok done in IsRsService guards setup listen server quota before after kept kept_now r)
+  served_well done one = served (Ok done) link one.gear kept_now (state_is one.gear one.one) one.over
       (All-push IsUsedUp [] one.gear (All-nil IsUsedUp) (one.used_up refl))
 
-pub unstarted : {D : Type 0} (setup : RsSetup) (listen server : List ℕ) (quota : ℕ) (before opened unopened after : WorldState) (link : LinkState) (fault : WorldFault)
+pub unstarted : {K : Type 0} (guards : GuardsKeeping K) {D : Type 0} (setup : RsSetup) (kept : K) (listen server : List ℕ) (quota : ℕ) (before opened unopened after : WorldState)
+    (link : LinkState) (fault : WorldFault)
     → opened ≡ with_opening (opening.Link server) before → unopened ≡ record opened { faults = unopened.faults } → HasWorldCause opened.faults unopened.faults fault
     → link ≡ new_link → after ≡ with_link link unopened
-    → (let r : Result D WorldFault = Err fault in IsRsService setup listen server quota before after r)
-unstarted {D} setup listen server quota before opened unopened after link fault link_is same cause new back =
+    → (let r : Result D WorldFault = Err fault in IsRsService guards setup listen server quota before after kept kept r)
+unstarted guards setup kept listen server quota before opened unopened after link fault link_is same cause new back =
     let faults_are : after.faults ≡ unopened.faults = ap (λ (s : WorldState). s.faults) back in
     let faults_were : opened.faults ≡ before.faults = ap (λ (s : WorldState). s.faults) link_is in
     not_started fault

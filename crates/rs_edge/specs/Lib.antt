@@ -1,5 +1,8 @@
 pub mod RsReplies
+pub mod GuardedSteps
 pub mod RsTurns
+pub mod Exchanges
+pub mod GuardedLinks
 pub mod RsSessions
 pub mod RsWholes
 pub mod RsServices

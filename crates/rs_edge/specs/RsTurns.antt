@@ -1,40 +1,23 @@
 -- The turn of one message at a resource server.
-use Rattle.std.specs.Prelude.{◌≡◌, ◌≢◌, ℕ, Bool, true, false, List}
-use Rattle.gnap_io.specs.Gears.{GearState, with_moment}
-use Rattle.gnap_io.specs.Links.{Exchange, LinkState}
-use Rattle.gnap_io.specs.Outside.{Told}
+use Rattle.std.specs.Prelude.{◌≢◌, ℕ, Bool, true, false, [], ◌∷◌}
 use Rattle.bytes_and_lists.specs.declared.message.Message.{Message}
 use Rattle.histories.specs.Turns.{Turn}
 use Rattle.http_edge.specs.Replies.{reply_bytes, busy_reply}
 use Rattle.resource_server.specs.declared.setup.RsSetup.{RsSetup}
-use Rattle.resource_server.specs.declared.guarded.Guarded.{Guarded}
 use Rattle.resource_server.specs.declared.guarded.Guarded.TheVariants as guarded
-use Rattle.resource_server.specs.Guarding.{Guards, AddsExchanges}
 use Rattle.rs_edge.specs.RsReplies.{rs_reply}
-use Rattle.serving.specs.MessageTurns.{LetsFollow, HasWrittenText}
-use Rattle.serving.specs.declared.ends.AfterTurn.{AfterTurn}
+use Rattle.rs_edge.specs.GuardedSteps.{GuardsKeeping, GuardedStep}
 
--- The exchanges of a message stand where an authorization server's turn has its entries.
-abbrev pub RsTurn : Type 0
-RsTurn = Turn Message Exchange
+-- What guarding a message did stands where an authorization server's turn has its entries.
+abbrev pub RsTurn : Type 0 → Type 0
+RsTurn K = Turn Message (GuardedStep K)
 
 -- A message's turn is one of these. The Bool tells whether the connection closes behind its reply.
-pub data IsRsTurn (setup : RsSetup) (last : Bool) : RsTurn → Type 0 where
+pub data IsRsTurn {K : Type 0} (guards : GuardsKeeping K) (setup : RsSetup) (last : Bool) : RsTurn K → Type 0 where
   -- it was guarded, and the reply to the answer was written
-  answered : (m : Message) → (moment : ℕ) → (exchanges : List Exchange) → (answer : Guarded) → Guards setup m moment exchanges answer
-      → answer ≢ guarded.Memory
-      → IsRsTurn setup last (record { message = m; moment = moment; entries = exchanges; bytes = reply_bytes (rs_reply setup m last answer); on = true })
+  answered : (m : Message) → (moment : ℕ) → (step : GuardedStep K) → guards setup m moment step.before step.exchanges step.answer step.after
+      → step.answer ≢ guarded.Memory
+      → IsRsTurn guards setup last (record { message = m; moment = moment; entries = step ∷ []; bytes = reply_bytes (rs_reply setup m last step.answer); on = true })
   -- memory ran out: while it was guarded, or when its reply was made
-  starved : (m : Message) → (moment : ℕ) → (exchanges : List Exchange) → (answer : Guarded) → Guards setup m moment exchanges answer
-      → IsRsTurn setup last (record { message = m; moment = moment; entries = exchanges; bytes = reply_bytes busy_reply; on = false })
-
--- a message had its turn
-pub record TakesRsTurn (setup : RsSetup) (last : Bool) (m : Message) (link link_now : LinkState) (gear gear_now : GearState) (conn conn_now : Told)
-    (faults faults_now : ℕ) (after : AfterTurn) : Type 0 where
-  pub turn : RsTurn
-  pub is_turn : IsRsTurn setup last turn
-  pub message : turn.message ≡ m
-  pub follows : LetsFollow after turn.on
-  pub over : AddsExchanges turn.entries link link_now
-  pub used : gear_now ≡ with_moment turn.moment gear
-  pub written : HasWrittenText turn.bytes conn conn_now faults faults_now after
+  starved : (m : Message) → (moment : ℕ) → (step : GuardedStep K) → guards setup m moment step.before step.exchanges step.answer step.after
+      → IsRsTurn guards setup last (record { message = m; moment = moment; entries = step ∷ []; bytes = reply_bytes busy_reply; on = false })

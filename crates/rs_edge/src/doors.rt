@@ -8,14 +8,20 @@ ghost use Rattle.rs_edge.specs.RsSessions.{IsRsAccount};
 use crate::connections::serve_resources;
 use gnap_io::gear::{Door, Gear};
 use gnap_io::link::Link;
-use resource_server::RsSetup;
+use resource_server::{RequestGuard, RsSetup};
 use std::alloc::Global;
 
 // Serves one connection. It is false where the door gave none: it may give no more, or it failed.
-fn serve_one<L: Link, G: Gear>(alloc: Global, setup: &RsSetup, link: &mut L, gear: &mut G) -> bool
+fn serve_one<K: RequestGuard, L: Link, G: Gear>(
+    alloc: Global,
+    guard: &mut K,
+    setup: &RsSetup,
+    link: &mut L,
+    gear: &mut G,
+) -> bool
     requires setup { RsSetupFits setup.now }
-    requires account { IsRsAccount setup.now (G.state gear.old).log (L.link link.old).asked }
-    ensures account { IsRsAccount setup.now (G.state gear.new).log (L.link link.new).asked }
+    ensures account { (first : _) → IsRsAccount K.guards setup.now first (G.state gear.old).log (L.link link.old).asked (K.kept guard.old)
+        → IsRsAccount K.guards setup.now first (G.state gear.new).log (L.link link.new).asked (K.kept guard.new) }
     ensures out { (G.state gear.new).out ≡ (G.state gear.old).out }
     ensures more { result ≡ true → HasServedOne (G.state gear.old) (G.state gear.new) }
     ensures done { result ≡ false → HasServedAll (G.state gear.old) (G.state gear.new) }
@@ -24,19 +30,25 @@ fn serve_one<L: Link, G: Gear>(alloc: Global, setup: &RsSetup, link: &mut L, gea
         return false;
     };
     let mut conn = conn;
-    serve_resources(alloc, setup, link, &mut conn, gear);
+    serve_resources(alloc, guard, setup, link, &mut conn, gear);
     gear.leave(conn);
     true
 }
 
-/// Serves all connections that the door of a gear gives, in order, over one link. The gear and the link have done nothing before.
-pub fn serve_door<L: Link, G: Gear>(alloc: Global, setup: &RsSetup, link: &mut L, gear: &mut G)
+/// Serves all connections that the door of a gear gives, in order, over one link and with one guard. The gear and the link have done nothing before.
+pub fn serve_door<K: RequestGuard, L: Link, G: Gear>(
+    alloc: Global,
+    guard: &mut K,
+    setup: &RsSetup,
+    link: &mut L,
+    gear: &mut G,
+)
     requires setup { RsSetupFits setup.now }
     requires gear { IsUnused (G.state gear.old) }
     requires link { (L.link link.old).asked ≡ [] }
-    ensures account { IsRsAccount setup.now (G.state gear.new).log (L.link link.new).asked }
+    ensures account { IsRsAccount K.guards setup.now (K.kept guard.old) (G.state gear.new).log (L.link link.new).asked (K.kept guard.new) }
     ensures out { (G.state gear.new).out ≡ 0 }
     ensures done { HasServedAll (G.state gear.old) (G.state gear.new) }
 {
-    while serve_one(alloc, setup, link, gear) {}
+    while serve_one(alloc, guard, setup, link, gear) {}
 }

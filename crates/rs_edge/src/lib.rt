@@ -1,12 +1,15 @@
 //! A resource server over HTTP (RFC 9635, section 7): what is written on its connections.
 //!
-//! `serve_resources` serves one connection: for each of its requests in order, the reply to what `resource_server::guard` answers. `serve_door` does so
-//! with all connections of a gear, over one link, and `serve_resources_at` opens both in a world. So the exchanges of that link are those of these requests,
-//! and no others. A connection ends as at the authorization server (`serving`), and what is no request is refused in the same way.
+//! `serve_resources` serves one connection: for each of its requests in order, the reply to what a `RequestGuard` answers. `serve_door` does so with all
+//! connections of a gear, over one link and with one guard, and `serve_resources_at` opens link and gear in a world. So the exchanges of that link are those
+//! of these requests, and no others, and what the guard keeps goes from request to request, over all connections. A connection ends as at the authorization
+//! server (`serving`), and what is no request is refused in the same way.
 #![tactic(auto)]
 
 pub mod connections;
 pub mod doors;
+mod guarded_link;
+mod guarded_server;
 pub mod laws;
 mod replies;
 mod service;

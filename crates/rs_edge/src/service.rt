@@ -10,12 +10,13 @@ use bytes_and_lists::bytes::Bytes;
 use gnap_io::gear::{Door, Gear};
 use gnap_io::link::Link;
 use gnap_io::world::{World, WorldFault};
-use resource_server::RsSetup;
+use resource_server::{RequestGuard, RsSetup};
 use std::alloc::Global;
 
 // Serves all that the door of the one gear gives, and answers whether it failed.
-fn serve_gear<L: Link, G: Gear>(
+fn serve_gear<K: RequestGuard, L: Link, G: Gear>(
     alloc: Global,
+    guard: &mut K,
     setup: &RsSetup,
     link: &mut L,
     gears: Vec<G>,
@@ -24,22 +25,23 @@ fn serve_gear<L: Link, G: Gear>(
     requires one { length gears.items ≡ 1 }
     requires unused { All (λ gear. IsUnused (G.state gear)) gears.items }
     requires link { L.link link.old ≡ new_link }
-    ensures { ServesOneGear setup.now (L.link link.new) (map G.state result.0.items) result.1 }
+    ensures { ServesOneGear K.guards setup.now (K.kept guard.old) (L.link link.new) (map G.state result.0.items) result.1 (K.kept guard.new) }
 {
     let mut gears = gears;
     let gear = &mut gears[0];
-    serve_door(alloc, setup, link, gear);
+    serve_door(alloc, guard, setup, link, gear);
     let failed = gear.has_failed();
     (gears, failed)
 }
 
-/// Serves a resource server at the address `listen` of the world, for at most `quota` connections, and introspects tokens at the address `server`. The link
-/// to that is opened first, then one gear is started; both are given back.
+/// Serves a resource server at the address `listen` of the world, for at most `quota` connections. The guard introspects tokens at the address `server`, and
+/// what it keeps stays from one connection to the next. The link to that address is opened first, then one gear is started; both are given back.
 ///
 /// `Ok` where all these connections came and were served. `Failed` where one of the addresses couldn't be opened, or later no connection be accepted any
 /// more; `OutOfMemory` where memory ran out before the first connection. Later want of memory ends the connection that it meets, not the service.
-pub fn serve_resources_at<W: World>(
+pub fn serve_resources_at<K: RequestGuard, W: World>(
     alloc: Global,
+    guard: &mut K,
     world: &mut W,
     setup: &RsSetup,
     listen: &Bytes,
@@ -48,7 +50,7 @@ pub fn serve_resources_at<W: World>(
 ) -> Result<(), WorldFault>
     requires { RsSetupFits setup.now }
     ensures text { W.text world.new ≡ W.text world.old }
-    ensures served { IsRsService setup.now listen.now server.now quota (W.state world.old) (W.state world.new) result }
+    ensures served { IsRsService K.guards setup.now listen.now server.now quota (W.state world.old) (W.state world.new) (K.kept guard.old) (K.kept guard.new) result }
 {
     let mut link = match world.open_link(server) {
         Ok(link) => link,
@@ -60,7 +62,7 @@ pub fn serve_resources_at<W: World>(
             Err(fault)
         }
         Ok(gears) => {
-            let (gears, failed) = serve_gear(alloc, setup, &mut link, gears);
+            let (gears, failed) = serve_gear(alloc, guard, setup, &mut link, gears);
             world.stop_gears(gears);
             world.close_link(link);
             if failed {

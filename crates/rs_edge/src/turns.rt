@@ -3,10 +3,12 @@ ghost use Rattle.std.specs.Prelude.{◌≡◌, ◌≢◌, IfOk};
 ghost use Rattle.http_edge.specs.Replies.{reply_bytes, busy_reply, MayWrite};
 ghost use Rattle.resource_server.specs.Fits.{RsSetupFits};
 ghost use Rattle.resource_server.specs.Guarding.{IsAnswer};
-ghost use Rattle.serving.specs.MessageTurns.{HasWrittenText};
+ghost use Rattle.serving.specs.MessageTurns.{HasWrittenText, TakesTurn};
+ghost use Rattle.rs_edge.specs.GuardedLinks.{guarded_link};
 ghost use Rattle.rs_edge.specs.RsReplies.{rs_reply};
-ghost use Rattle.rs_edge.specs.RsTurns.{TakesRsTurn};
+ghost use Rattle.rs_edge.specs.RsTurns.{IsRsTurn};
 
+use crate::guarded_link::GuardedLink;
 use crate::replies::answer_reply;
 use bytes_and_lists::memory::Mem;
 use bytes_and_lists::message::Message;
@@ -14,7 +16,7 @@ use gnap_io::device::{Sink, Source};
 use gnap_io::gear::Clock;
 use gnap_io::link::Link;
 use http_edge::{HttpReply, WriteFault, write_reply};
-use resource_server::{Guarded, RsSetup, guard};
+use resource_server::{Guarded, RequestGuard, RsSetup};
 use serving::ends::AfterTurn;
 use std::alloc::Global;
 
@@ -62,21 +64,24 @@ fn reply_of(
 }
 
 /// One message's turn: it is guarded, and the reply to the answer is written.
-pub(crate) fn turn<L: Link, S: Source + Sink, G: Clock>(
+pub(crate) fn guarded_turn<K: RequestGuard, L: Link, S: Source + Sink, G: Clock>(
     alloc: Global,
     setup: &RsSetup,
-    link: &mut L,
+    backend: &mut GuardedLink<'_, L, K>,
     conn: &mut S,
     gear: &mut G,
     message: &Message,
     last: bool,
 ) -> AfterTurn
     requires { RsSetupFits setup.now }
-    ensures { TakesRsTurn setup.now last message.now (L.link link.old) (L.link link.new) (G.state gear.old) (G.state gear.new) (S.told conn.old) (S.told conn.new)
-        (S.faults conn.old) (S.faults conn.new) result }
+    ensures { (past : _) → (past.0 ≡ L.link backend.old.link.now) × (past.1 ≡ K.kept backend.old.guard.now)
+        → TakesTurn (guarded_link L.link K.kept setup.now) (IsRsTurn K.guards setup.now) last message.now backend.old past backend.new
+        (G.state gear.old) (G.state gear.new) (S.told conn.old) (S.told conn.new) (S.faults conn.old) (S.faults conn.new) result }
 {
     let moment = gear.now();
-    let answer = guard(alloc, message, setup, link, moment);
+    let answer = backend
+        .guard
+        .guard(alloc, message, setup, backend.link, moment);
     match reply_of(alloc, setup, message, &answer, last) {
         Ok(reply) => say(&reply, conn),
         Err(Mem) => say_busy(conn),

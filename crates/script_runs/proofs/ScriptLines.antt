@@ -1,5 +1,5 @@
 -- A script that goes on, and how it ends.
-use Rattle.std.proofs.Common.{◌≡◌, ◌∙◌, ℕ, ◌<◌, ◌≤◌, List, [], ◌∷◌, ◌++◌, length, Bool, true, false, refl, ap, sym, subst, arith, append_assoc, inl, inr}
+use Rattle.std.proofs.Common.{◌≡◌, ◌∙◌, ℕ, ◌+◌, ◌<◌, ◌≤◌, List, [], ◌∷◌, ◌++◌, length, Bool, true, false, refl, ap, sym, subst, arith, append_assoc, inl, inr}
 use Rattle.std.specs.Prelude.{◌≢◌, ◌&&◌, Some, None}
 use Rattle.std.proofs.lemmas.List.{append-nil, take_all}
 use Rattle.std.proofs.lemmas.List.Concat.{flat_map-append}
@@ -8,7 +8,7 @@ use Rattle.bytes_and_lists.specs.Prefixes.{IsPrefix}
 use Rattle.gnap_io.specs.Outside.{Told, IsAtEnd, IsRest, Writes}
 use Rattle.gnap_io.specs.Links.{Exchange}
 use Rattle.histories.specs.Turns.{AllOn, messages_in, entries_in, bytes_in}
-use Rattle.histories.proofs.TurnLemmas.{messages_in-append, entries_in-next, each-next}
+use Rattle.histories.proofs.TurnLemmas.{messages_in-append, entries_in-next, length-next}
 use Rattle.gnap_client.specs.declared.client.Client.{Client}
 use Rattle.client_scripts.specs.Turns.{ScriptEntry, ScriptTurn, IsScriptTurn, Chained, entry_exchanges, exchanges_in, turn_of, bytes_said, fine_said, was_said}
 use Rattle.command_inputs.specs.declared.printed_text.After.{After}
@@ -21,7 +21,7 @@ use Rattle.command_inputs.specs.Reading.{Came, ReadsLine}
 use Rattle.command_inputs.specs.LineRuns.{EndsAs, RunsLines, stopped}
 use Rattle.script_runs.specs.Scripts.{SaysLine, all_fine, is_fine_entry, ScriptHad, ScriptGoes, AllHad, EndsInText, EndsScript, RunsScript, ended_script}
 use Rattle.command_inputs.specs.Ends.{CountsReads, CountsWrites, EndsAt, Took}
-use Rattle.command_inputs.proofs.LineRuns.{goes-start, goes-next, runs-weaker, turned, turned-starved, turned-cut, stops-behind, out_on, on-next, after_last, none_left}
+use Rattle.command_inputs.proofs.LineRuns.{each_from-next, goes-start, goes-next, runs-weaker, turned, turned-starved, turned-cut, stops-behind, out_on, on-next, after_last, none_left}
 use Rattle.command_inputs.proofs.LineStops.{line_size, not_starved}
 
 -- ---- one line
@@ -35,11 +35,12 @@ none-had : (first : Client) (asked : List Exchange) → ScriptHad first asked fi
 none-had first asked = record { each = tt; chained = refl; adds = sym (append-nil asked) }
 
 pub script-start : (first : Client) (asked : List Exchange) (held : List ℕ) (taken : ℕ) (source out : Told) → length held ≤ taken
-    → ScriptGoes first asked first asked true held held taken taken source source out out
+    → ScriptGoes first asked first asked true 0 held held taken taken source source out out
 unfolding goes-start
 script-start first asked held taken source out few = record {
   goes = goes-start (ScriptHad first asked first asked) held taken source out (none-had first asked) few;
   fine_is = refl;
+  number_is = refl;
 }
 
 -- the endings that a script has as all lines have them
@@ -73,11 +74,11 @@ and_true : (b : Bool) → (b && true) ≡ b
 and_true true = refl
 and_true false = refl
 
-module _ (first : Client) (asked : List Exchange) (last : Client) (asked1 : List Exchange) (fine : Bool) (held held1 : List ℕ) (taken taken1 : ℕ) (s s1 o o1 : Told)
-    (goes : ScriptGoes first asked last asked1 fine held held1 taken taken1 s s1 o o1) where
-  -- a line had its turn
-  module _ (full bytes : List ℕ) (new : Client) (asked2 : List Exchange) (o2 : Told) (result : After) (fine2 : Bool)
-      (says : SaysLine full last new asked1 asked2 o1 o2 result fine fine2) where
+module _ (first : Client) (asked : List Exchange) (last : Client) (asked1 : List Exchange) (fine : Bool) (number : ℕ)
+    (held held1 : List ℕ) (taken taken1 : ℕ) (s s1 o o1 : Told) (goes : ScriptGoes first asked last asked1 fine number held held1 taken taken1 s s1 o o1) where
+  -- the next line had its turn
+  module _ (full bytes : List ℕ) (new : Client) (asked2 : List Exchange) (o2 : Told) (result : After) (fine2 : Bool) (next : ℕ)
+      (is_next : next ≡ number + 1) (says : SaysLine next full last new asked1 asked2 o1 o2 result fine fine2) where
     abbrev entry : ScriptEntry
     entry = record { before = last; after = new; exchanges = says.turn.exchanges; fine = fine_said says.said }
 
@@ -91,9 +92,12 @@ module _ (first : Client) (asked : List Exchange) (last : Client) (asked1 : List
     exchanges_now = ap exchanges_in entries_now ∙ flat_map-append entry_exchanges (entries_in goes.goes.turns) (entry ∷ [])
         ∙ ap (λ (x : List Exchange). exchanges_in (entries_in goes.goes.turns) ++ x) (append-nil says.turn.exchanges)
 
+    place : next ≡ 1 + length goes.goes.turns
+    place = let count = goes.number_is in omega (arith, is_next, count)
+
     pub script-had : ScriptHad first asked new asked2 (goes.goes.turns ++ line_turn ∷ [])
     script-had = record {
-      each = each-next IsScriptTurn goes.goes.turns line_turn goes.goes.had.each says.turn.turn;
+      each = each_from-next IsScriptTurn 1 goes.goes.turns line_turn goes.goes.had.each (subst (λ (n : ℕ). IsScriptTurn n line_turn) place says.turn.turn);
       chained = subst (λ (es : List ScriptEntry). Chained first es new) (sym entries_now) (chained_next first (entries_in goes.goes.turns) entry last goes.goes.had.chained refl);
       adds = says.turn.adds ∙ ap (λ (x : List Exchange). x ++ says.turn.exchanges) goes.goes.had.adds
           ∙ append_assoc asked (exchanges_in (entries_in goes.goes.turns)) says.turn.exchanges
@@ -105,15 +109,19 @@ module _ (first : Client) (asked : List Exchange) (last : Client) (asked1 : List
         ∙ ap (λ (b : Bool). all_fine (entries_in goes.goes.turns) && b) (sym (and_true (fine_said says.said)))
         ∙ sym (ap all_fine entries_now ∙ list_all-append is_fine_entry (entries_in goes.goes.turns) (entry ∷ []))
 
+    number_now : next ≡ length (goes.goes.turns ++ line_turn ∷ [])
+    number_now = let count = length-next goes.goes.turns line_turn in omega (arith, place, count)
+
     -- more lines may follow
     pub script-next : (held2 : List ℕ) (taken2 : ℕ) (s2 : Told) → Came bytes taken1 taken2 s1 s2 → IsLine full → held1 ++ bytes ≡ full ++ 10 ∷ held2
         → was_said says.said ≡ true → Writes (bytes_said says.said) o1 o2
-        → ScriptGoes first asked new asked2 fine2 held held2 taken taken2 s s2 o o2
+        → ScriptGoes first asked new asked2 fine2 next held held2 taken taken2 s s2 o o2
     unfolding goes-next
     script-next held2 taken2 s2 came is_line whole on prints = record {
       goes = goes-next (ScriptHad first asked last asked1) held held1 taken taken1 s s1 o o1 goes.goes full bytes taken2 s2 came is_line o2
           (ScriptHad first asked new asked2) line_turn script-had refl held2 whole on prints;
       fine_is = fine_now;
+      number_is = number_now;
     }
 
     -- it ended with this line
@@ -132,8 +140,8 @@ module _ (first : Client) (asked : List Exchange) (last : Client) (asked1 : List
 
 -- ---- a line that was read
 
-module _ (first : Client) (asked : List Exchange) (last : Client) (asked1 : List Exchange) (fine : Bool) (held held1 : List ℕ) (taken taken1 : ℕ) (s s1 o o1 : Told)
-    (goes : ScriptGoes first asked last asked1 fine held held1 taken taken1 s s1 o o1) (line held2 : List ℕ) (taken2 : ℕ) (s2 : Told) (end : LineEnd)
+module _ (first : Client) (asked : List Exchange) (last : Client) (asked1 : List Exchange) (fine : Bool) (number : ℕ)
+    (held held1 : List ℕ) (taken taken1 : ℕ) (s s1 o o1 : Told) (goes : ScriptGoes first asked last asked1 fine number held held1 taken taken1 s s1 o o1) (line held2 : List ℕ) (taken2 : ℕ) (s2 : Told) (end : LineEnd)
     (none : stopped end ≡ None) (short : end ≢ line_ends.Long) (read : ReadsLine 1073741824 line held1 held2 taken1 taken2 s1 s2 end) (most : taken2 ≤ 1073741824) where
   -- all of it is kept
   pub kept_line : line ≡ read.full
@@ -144,9 +152,9 @@ module _ (first : Client) (asked : List Exchange) (last : Client) (asked1 : List
       read.kept (not_starved end none) ∙ take_all 1073741825 read.full (omega (arith, size, most))
 
   -- so it had its turn
-  pub says_full : (new : Client) (asked2 : List Exchange) (o2 : Told) (result : After) (fine2 : Bool) → SaysLine line last new asked1 asked2 o1 o2 result fine fine2
-      → SaysLine read.full last new asked1 asked2 o1 o2 result fine fine2
-  says_full new asked2 o2 result fine2 says = subst (λ (l : List ℕ). SaysLine l last new asked1 asked2 o1 o2 result fine fine2) kept_line says
+  pub says_full : (next : ℕ) (new : Client) (asked2 : List Exchange) (o2 : Told) (result : After) (fine2 : Bool)
+      → SaysLine next line last new asked1 asked2 o1 o2 result fine fine2 → SaysLine next read.full last new asked1 asked2 o1 o2 result fine fine2
+  says_full next new asked2 o2 result fine2 says = subst (λ (l : List ℕ). SaysLine next l last new asked1 asked2 o1 o2 result fine fine2) kept_line says
 
 -- ---- how a script ends
 
@@ -173,8 +181,8 @@ ends_in_text : (lines : List (List ℕ)) (full : List ℕ) → length full ≢ 0
 ends_in_text lines [] some = absurd (some refl)
 ends_in_text lines (byte ∷ text) some = (lines, byte, text, refl)
 
-module _ (first : Client) (asked : List Exchange) (last : Client) (asked1 : List Exchange) (fine : Bool) (held held1 : List ℕ) (taken taken1 : ℕ) (s s1 o o1 : Told)
-    (goes : ScriptGoes first asked last asked1 fine held held1 taken taken1 s s1 o o1) where
+module _ (first : Client) (asked : List Exchange) (last : Client) (asked1 : List Exchange) (fine : Bool) (number : ℕ)
+    (held held1 : List ℕ) (taken taken1 : ℕ) (s s1 o o1 : Told) (goes : ScriptGoes first asked last asked1 fine number held held1 taken taken1 s s1 o o1) where
   -- nothing stands behind the last LF
   pub script-behind : (bytes : List ℕ) (taken2 : ℕ) (s2 : Told) → Came bytes taken1 taken2 s1 s2 → held1 ++ bytes ≡ [] → IsAtEnd s2
       → RunsLines (ScriptHad first asked last asked1) EndsScript held taken taken2 s s2 o o1 (ended_script fine)
@@ -183,14 +191,14 @@ module _ (first : Client) (asked : List Exchange) (last : Client) (asked1 : List
       (script_ends fine goes.goes.turns _ ([] ∷ []) (bytes_in goes.goes.turns) goes.goes.on (inl refl) refl goes.fine_is)
 
   -- the last line had its turn
-  module _ (full bytes : List ℕ) (new : Client) (asked2 : List Exchange) (o2 : Told) (result : After) (fine2 : Bool)
-      (says : SaysLine full last new asked1 asked2 o1 o2 result fine fine2) (taken2 : ℕ) (s2 : Told) (came : Came bytes taken1 taken2 s1 s2) (is_line : IsLine full)
+  module _ (full bytes : List ℕ) (new : Client) (asked2 : List Exchange) (o2 : Told) (result : After) (fine2 : Bool) (next : ℕ)
+      (is_next : next ≡ number + 1) (says : SaysLine next full last new asked1 asked2 o1 o2 result fine fine2) (taken2 : ℕ) (s2 : Told) (came : Came bytes taken1 taken2 s1 s2) (is_line : IsLine full)
       (whole : held1 ++ bytes ≡ full) (end : IsAtEnd s2) where
     abbrev turn : ScriptTurn
-    turn = line_turn first asked last asked1 fine held held1 taken taken1 s s1 o o1 goes full bytes new asked2 o2 result fine2 says
+    turn = line_turn first asked last asked1 fine number held held1 taken taken1 s s1 o o1 goes full bytes new asked2 o2 result fine2 next is_next says
 
     had : ScriptHad first asked new asked2 (goes.goes.turns ++ turn ∷ [])
-    had = script-had first asked last asked1 fine held held1 taken taken1 s s1 o o1 goes full bytes new asked2 o2 result fine2 says
+    had = script-had first asked last asked1 fine number held held1 taken taken1 s s1 o o1 goes full bytes new asked2 o2 result fine2 next is_next says
 
     pub script-last : length full ≢ 0 → was_said says.said ≡ true → Writes (bytes_said says.said) o1 o2
         → RunsLines (ScriptHad first asked new asked2) EndsScript held taken taken2 s s2 o o2 (ended_script fine2)
@@ -207,7 +215,7 @@ module _ (first : Client) (asked : List Exchange) (last : Client) (asked1 : List
               (on-next goes.goes.turns turn goes.goes.on on)
               (inr (refl, subst EndsInText (sym (messages_in-append goes.goes.turns (turn ∷ []))) (ends_in_text (messages_in goes.goes.turns) full some)))
               refl
-              (fine_now first asked last asked1 fine held held1 taken taken1 s s1 o o1 goes full bytes new asked2 o2 result fine2 says),
+              (fine_now first asked last asked1 fine number held held1 taken taken1 s s1 o o1 goes full bytes new asked2 o2 result fine2 next is_next says),
         ))
 
 -- what that is of the whole script, of which nothing was read before

@@ -1,9 +1,9 @@
 -- The account of a script.
-use Rattle.std.specs.Prelude.{◌≡◌, ◌⊎◌, ◌&&◌, ℕ, Bool, true, false, List, [], ◌∷◌, ◌++◌, Option, None, if◌then◌else◌}
+use Rattle.std.specs.Prelude.{◌≡◌, ◌⊎◌, ◌&&◌, ℕ, Bool, true, false, List, [], ◌∷◌, ◌++◌, length, Option, None, if◌then◌else◌}
 use Rattle.std.specs.List.{list_all}
 use Rattle.gnap_io.specs.Outside.{Told, Writes}
 use Rattle.gnap_io.specs.Links.{Exchange}
-use Rattle.histories.specs.Turns.{Each, AllOn, messages_in, entries_in, bytes_in}
+use Rattle.histories.specs.Turns.{AllOn, messages_in, entries_in, bytes_in}
 use Rattle.gnap_client.specs.declared.client.Client.{Client}
 use Rattle.gnap_client.specs.Configs.{Parts, parts_of}
 use Rattle.gnap_client.specs.Received.{nothing_received}
@@ -12,15 +12,16 @@ use Rattle.client_scripts.specs.Turns.{ScriptEntry, ScriptTurn, IsScriptTurn, Ha
 use Rattle.command_inputs.specs.declared.printed_text.After.{After}
 use Rattle.command_inputs.specs.declared.ended.Ended.{Ended}
 use Rattle.command_inputs.specs.declared.ended.Ended.TheVariants.{Done, NoSetup, Failed, WriteFault, Memory, Refused, TooLong}
-use Rattle.command_inputs.specs.LineRuns.{GoesBy, Prints, EndsAs, GoesOn}
+use Rattle.command_inputs.specs.LineRuns.{GoesBy, Prints, EachFrom, EndsAs, GoesOn}
 use Rattle.command_inputs.specs.Lines.{lines_of, whole_lines}
 
 -- ---- one line
 
--- A line had its turn over a link, and what was said was printed. A line that isn't ok ends that all were.
-pub record SaysLine (line : List ℕ) (old new : Client) (asked asked_now : List Exchange) (before after : Told) (result : After) (fine fine_now : Bool) : Type 0 where
+-- The line of this number had its turn over a link, and what was said was printed. A line that isn't ok ends that all were.
+pub record SaysLine (number : ℕ) (line : List ℕ) (old new : Client) (asked asked_now : List Exchange) (before after : Told) (result : After)
+    (fine fine_now : Bool) : Type 0 where
   pub said : Option LineSaid
-  pub turn : HasScriptTurn line old new asked asked_now said
+  pub turn : HasScriptTurn number line old new asked asked_now said
   pub goes : GoesBy result (was_said said)
   pub prints : Prints result (bytes_said said) before after
   pub fine_is : fine_now ≡ (fine && fine_said said)
@@ -34,9 +35,9 @@ is_fine_entry entry = entry.fine
 abbrev pub all_fine : List ScriptEntry → Bool
 all_fine entries = list_all is_fine_entry entries
 
--- The turns that were had, on one client and over one link.
+-- The turns that were had, on one client and over one link. The first line is number 1.
 pub record ScriptHad (first : Client) (asked : List Exchange) (last : Client) (asked_now : List Exchange) (turns : List ScriptTurn) : Type 0 where
-  pub each : Each IsScriptTurn turns
+  pub each : EachFrom 1 IsScriptTurn turns
   pub chained : Chained first (entries_in turns) last
   pub adds : asked_now ≡ asked ++ exchanges_in (entries_in turns)
 
@@ -62,17 +63,18 @@ EndsScript TooLong turns whole later sent = EndsAs TooLong turns whole later sen
 abbrev pub ended_script : Bool → Ended
 ended_script fine = if fine then Done else Refused
 
--- all lines so far were ended by an LF, and had their turns; `fine` tells whether each was ok
-pub record ScriptGoes (first : Client) (asked : List Exchange) (last : Client) (asked_now : List Exchange) (fine : Bool) (held held_now : List ℕ) (taken taken_now : ℕ)
-    (source source_now out out_now : Told) : Type 0 where
+-- all lines so far were ended by an LF, and had their turns; `fine` tells whether each was ok, and `number` how many they are
+pub record ScriptGoes (first : Client) (asked : List Exchange) (last : Client) (asked_now : List Exchange) (fine : Bool) (number : ℕ)
+    (held held_now : List ℕ) (taken taken_now : ℕ) (source source_now out out_now : Told) : Type 0 where
   pub goes : GoesOn (ScriptHad first asked last asked_now) held held_now taken taken_now source source_now out out_now
   pub fine_is : fine ≡ all_fine (entries_in goes.turns)
+  pub number_is : number ≡ length goes.turns
 
 -- The account of a script of which these bytes were taken, and which has this rest: its first lines had their turns, in order, on one client; these
 -- exchanges were made over the link, and no others; and this was printed.
 pub record RunsScript (first : Client) (taken rest : List ℕ) (exchanges : List Exchange) (before after : Told) (ended : Ended) : Type 0 where
   pub turns : List ScriptTurn
-  pub each : Each IsScriptTurn turns
+  pub each : EachFrom 1 IsScriptTurn turns
   pub last : Client
   pub chained : Chained first (entries_in turns) last
   pub exchanges_are : exchanges ≡ exchanges_in (entries_in turns)

@@ -9,6 +9,7 @@ use std::alloc::{AllocError, Global};
 fn form_of(member: LineMember) -> &'static str {
     match member {
         LineMember::At => "a moment (0 to 253402300799, in seconds since 1970)",
+        LineMember::Nonce => "1 to 64 letters, digits, `.`, `_` or `-`",
         LineMember::Do => "begin, poll, finish, patch, cancel, rotate, revoke or use",
         LineMember::Body => "an object with whole numbers",
         LineMember::Hash | LineMember::Reference => "a string",
@@ -52,7 +53,7 @@ fn line_fault(alloc: Global, why: &BadLine) -> Result<String, AllocError> {
 
 /// Tells why the line of this number, counted from 1, is none of a script, where it is none: in one line, with names of members and no value.
 pub(crate) fn explain_line<E: Sink>(alloc: Global, err: &mut E, number: u64, line: &[u8]) {
-    let Err(LineFault::BadLine(why)) = read_line(alloc, line) else {
+    let Err(LineFault::BadLine(why)) = read_line(alloc, number, line) else {
         return;
     };
     let Ok(is) = line_fault(alloc, &why) else {

@@ -29,10 +29,10 @@ fn say_line<L: Link, O: Sink, E: Sink>(
     line: &Bytes,
     fine: &mut bool,
 ) -> After
-    ensures says { SaysLine line.now client.old client.new (L.link link.old).asked (L.link link.new).asked (O.told out.old) (O.told out.new) result fine.old fine.new }
+    ensures says { SaysLine number line.now client.old client.new (L.link link.old).asked (L.link link.new).asked (O.told out.old) (O.told out.new) result fine.old fine.new }
     ensures counts { CountsPrint result (O.faults out.old) (O.faults out.new) }
 {
-    match script_line(alloc, client, link, line.as_slice()) {
+    match script_line(alloc, client, link, number, line.as_slice()) {
         None => {
             *fine = false;
             After::Starved
@@ -96,7 +96,7 @@ fn run_lines<L: Link, S: Source, O: Sink, E: Sink>(
         if is_behind_last(end, &line) {
             return ended_script(fine);
         }
-        number = number.saturating_add(1);
+        number += 1;
         match say_line(alloc, client, link, out, err, number, &line, &mut fine) {
             After::On => {
                 if end.is_last() {

@@ -29,14 +29,14 @@ module _ {X : Type 0} where
   index_at (y ∷ l) zero d lt = refl
   index_at (y ∷ l) (suc k) d lt = index_at l k d (let lt' : suc k < length (y ∷ l) = lt in omega (arith, lt'))
 
-module _ {Rules E : Type 0} where
+module _ {Front Rules E : Type 0} where
   -- place by place
-  abbrev pub EachDrained : List (WorkerState Rules E) → List (WorkerState Rules E) → Type 0
-  EachDrained before after = (i : ℕ) (d : WorkerState Rules E) → i < length before → Drained (slice_index_or before i d) (slice_index_or after i d)
+  abbrev pub EachDrained : List (WorkerState Front Rules E) → List (WorkerState Front Rules E) → Type 0
+  EachDrained before after = (i : ℕ) (d : WorkerState Front Rules E) → i < length before → Drained (slice_index_or before i d) (slice_index_or after i d)
 
-  pub same_workers : (core : Sharing Rules) (before after : List (WorkerState Rules E)) → EachDrained before after → length after ≡ length before
-      → AreWorkers core before → AreWorkers core after
-  same_workers core before after each long are = record {
+  pub same_workers : (core : Sharing Rules) (front : Front) (before after : List (WorkerState Front Rules E)) → EachDrained before after → length after ≡ length before
+      → AreWorkers core front before → AreWorkers core front after
+  same_workers core front before after each long are = record {
     count = long ∙ are.count;
     each = λ k w e.
         let at = at_index after k w e in
@@ -44,10 +44,11 @@ module _ {Rules E : Type 0} where
         let was = are.each k (slice_index_or before k w) (index_at before k w (subst (λ n. k < n) long at.0)) in (
           ap (λ v. v.station.home) (sym at.1) ∙ drained.same.home ∙ was.0,
           ap (λ v. v.station.number) (sym at.1) ∙ drained.same.number ∙ was.1,
+          ap (λ v. v.front) (sym at.1) ∙ drained.same.front ∙ was.2,
         );
   }
 
-  pub all_done : (before after : List (WorkerState Rules E)) → EachDrained before after → length after ≡ length before
+  pub all_done : (before after : List (WorkerState Front Rules E)) → EachDrained before after → length after ≡ length before
       → HaveServedAll (map (λ w. w.gear) before) (map (λ w. w.gear) after)
   all_done [] [] each long = tt
   all_done [] (v ∷ after) each long = absurd (omega (arith, long))
@@ -76,13 +77,12 @@ module _ {Message Rules Call Reply Note : Type 0} (law : Law Rules Call Reply No
 
 -- all that workers have seen is of one history, in which each account holds
 pub one_of_all : {Message Rules Call Reply Note : Type 0} (law : Law Rules Call Reply Note)
-    (session : Rules → Served → List (Turn Message (Entry Call Reply Note)) → Type 0) (rules rules_shared : Rules)
+    (session : Served → List (Turn Message (Entry Call Reply Note)) → Type 0) (rules rules_shared : Rules)
     (gears : List GearState) (seen : List (List (Entry Call Reply Note))) (h : List (Entry Call Reply Note))
-    → rules_shared ≡ rules → AllKeep 0 (accounts_of (session rules_shared) gears) seen → Joined seen h → Legal law rules_shared h
-    → OneHistory law rules (accounts_of (session rules) gears)
+    → rules_shared ≡ rules → AllKeep 0 (accounts_of session gears) seen → Joined seen h → Legal law rules_shared h
+    → OneHistory law rules (accounts_of session gears)
 one_of_all law session rules rules_shared gears seen h same keeps joins legal =
-    one_history law (accounts_of (session rules) gears) rules seen h
-    (subst (λ r. AllKeep 0 (accounts_of (session r) gears) seen) same keeps) joins (subst (λ r. Legal law r h) same legal)
+    one_history law (accounts_of session gears) rules seen h keeps joins (subst (λ r. Legal law r h) same legal)
 
 -- what was written through a slice is what the vector has
 pub written_back : {X : Type 0} (n : ℕ) (old new : List X) → length new ≡ length old → length old ≡ n → take n (new ++ drop (length new) old) ≡ new

@@ -37,9 +37,9 @@ connections_of [] = 0
 connections_of (gear ∷ gears) = length gear.log.served + connections_of gears
 
 module _ {Message Call Reply Note : Type 0} (session : Served → List (Turn Message (Entry Call Reply Note)) → Type 0)
-    (few : (conn : Served) (turns : List (Turn Message (Entry Call Reply Note))) → session conn turns → length (entries_in turns) ≤ 1000) where
+    (few : (conn : Served) (turns : List (Turn Message (Entry Call Reply Note))) → session conn turns → length (entries_in turns) ≤ 2000) where
   entries_by_gears : (k : ℕ) (gears : List GearState) (h : List (Entry Call Reply Note)) → AllMeet k (accounts_of session gears) h
-      → entries_from k (length gears) h ≤ 1000 * connections_of gears
+      → entries_from k (length gears) h ≤ 2000 * connections_of gears
   entries_by_gears k [] h meet = omega arith
   entries_by_gears k (gear ∷ gears) h meet =
       let first = account_few session gear.log _ few meet.0 in
@@ -50,9 +50,9 @@ module _ {Message Call Reply Note : Type 0} (session : Served → List (Turn Mes
   as_many [] = refl
   as_many (gear ∷ gears) = ap suc (as_many gears)
 
-  -- where a connection makes at most 1,000 entries, the history has at most 1,000 for each that the gears served
+  -- where a connection makes at most 2,000 entries, the history has at most 2,000 for each that the gears served
   pub history_few : {Rules : Type 0} (law : Law Rules Call Reply Note) (rules : Rules) (gears : List GearState)
-      (one : OneHistory law rules (accounts_of session gears)) → length one.history ≤ 1000 * connections_of gears
+      (one : OneHistory law rules (accounts_of session gears)) → length one.history ≤ 2000 * connections_of gears
   history_few law rules gears one =
       let all = all_counted (length gears) one.history (subst (λ n. Below n one.history) (as_many gears) one.numbers) in
       let most = entries_by_gears 0 gears one.history one.each in

@@ -6,3 +6,5 @@ mod Starting
 mod Ending
 pub mod EntryCounts
 pub mod UsedUp
+pub mod ServiceLemmas
+pub mod WholeLemmas

@@ -8,6 +8,9 @@ use Rattle.histories.specs.History.{Law}
 use Rattle.histories.specs.declared.entry.Entry.{Entry}
 use Rattle.histories.specs.Turns.{Turn, Face, IsTurn, direct, called, starved, lapsed, unsaid, moments_in, entries_in, draw_of}
 use Rattle.serving.specs.Logs.{joined, Sessions, IsAccount, Serves}
+use Rattle.serving.specs.Desks.{desk_backend}
+use Rattle.serving.specs.Connections.{Wire, Session, ServesTurns}
+use Rattle.serving.specs.declared.ends.ConnectionEnd.{ConnectionEnd}
 use Rattle.histories.proofs.TurnLemmas.{moments_in-append, entries_in-append}
 
 joined-next : {X : Type 0} (xss : List (List X)) (ys : List X) → joined (xss ++ ys ∷ []) ≡ joined xss ++ ys
@@ -43,8 +46,8 @@ module _ {Message Call Reply Note : Type 0} (IsSession : Served → List (Turn M
       })
 
   entries_by_connections : (conns : List Served) (turns : List (List (Turn Message (Entry Call Reply Note))))
-      → ((conn : Served) (ts : List (Turn Message (Entry Call Reply Note))) → IsSession conn ts → length (entries_in ts) ≤ 1000)
-      → Sessions IsSession conns turns → length (entries_in (joined turns)) ≤ 1000 * length conns
+      → ((conn : Served) (ts : List (Turn Message (Entry Call Reply Note))) → IsSession conn ts → length (entries_in ts) ≤ 2000)
+      → Sessions IsSession conns turns → length (entries_in (joined turns)) ≤ 2000 * length conns
   entries_by_connections [] [] few each = omega arith
   entries_by_connections [] (ts ∷ turns) few each = absurd each
   entries_by_connections (conn ∷ conns) [] few each = absurd each
@@ -55,10 +58,10 @@ module _ {Message Call Reply Note : Type 0} (IsSession : Served → List (Turn M
       let sum = length-append (entries_in ts) (entries_in (joined turns)) in
       omega (arith, first, rest, all, sum)
 
-  -- Where a connection makes at most 1,000 entries, a worker made at most 1,000 for each that its gear served.
+  -- Where a connection makes at most 2,000 entries, a worker made at most 2,000 for each that its gear served.
   pub account_few : (log : Log) (own : List (Entry Call Reply Note))
-      → ((conn : Served) (ts : List (Turn Message (Entry Call Reply Note))) → IsSession conn ts → length (entries_in ts) ≤ 1000)
-      → IsAccount IsSession log own → length own ≤ 1000 * length log.served
+      → ((conn : Served) (ts : List (Turn Message (Entry Call Reply Note))) → IsSession conn ts → length (entries_in ts) ≤ 2000)
+      → IsAccount IsSession log own → length own ≤ 2000 * length log.served
   account_few log own few account =
       let most = entries_by_connections log.served account.turns few account.sessions in
       let all = ap length account.own_is in
@@ -73,17 +76,26 @@ entries_few law face rules last turn (starved m t) = omega arith
 entries_few law face rules last turn (lapsed m e call asks lapse) = omega arith
 entries_few law face rules last turn (unsaid m e asks) = omega arith
 
--- what is so of each connection served in the one way is so of each in the other
-pub serves-so : {Message Call Reply Note : Type 0} (P Q : Served → List (Turn Message (Entry Call Reply Note)) → Type 0)
-    → ((conn : Served) (turns : List (Turn Message (Entry Call Reply Note))) → P conn turns → Q conn turns)
-    → (number : ℕ) (seen : List (Entry Call Reply Note) → Type 0) (h : List (Entry Call Reply Note)) (gear gear_now : GearState)
-    (conn : Served) → Serves P number seen h gear gear_now conn → Serves Q number seen h gear gear_now conn
-serves-so P Q so number seen h gear gear_now conn serves = record {
-  turns = serves.turns;
-  few = serves.few;
-  history = serves.history;
-  seen_now = serves.seen_now;
-  own = serves.own;
-  used = serves.used;
-  session = so conn serves.turns serves.session;
-}
+-- what was served at a desk, by what its sessions are
+module _ {D Rules Home Message Fault Call Reply Note : Type 0} (rules : D → Rules) (number : D → ℕ) (home : D → Home) (seen : D → List (Entry Call Reply Note) → Type 0)
+    (wanted : Rules) (wire : Wire Message Fault) (IsTurn : Bool → Turn Message (Entry Call Reply Note) → Type 0) (before after : D) (gear gear_now : GearState) (conn : Served)
+    (ended : ConnectionEnd Fault)
+    (serves : (h : List (Entry Call Reply Note)) → seen before h
+    → ServesTurns (desk_backend rules number home seen wanted) wire IsTurn before h after gear gear_now conn ended) where
+  pub served-at-desk : (P : Served → List (Turn Message (Entry Call Reply Note)) → Type 0)
+      → ((turns : List (Turn Message (Entry Call Reply Note))) → Session wire IsTurn conn turns ended → P conn turns)
+      → (h : List (Entry Call Reply Note)) → seen before h → Serves P (number before) (seen after) h gear gear_now conn
+  served-at-desk P so h was =
+      let s = serves h was in
+      record {
+        turns = s.turns;
+        few = s.few;
+        history = s.past_now;
+        seen_now = s.leads.seen_now;
+        own = s.leads.own;
+        used = s.used;
+        session = so s.turns s.session;
+      }
+
+  pub same-desk : (h : List (Entry Call Reply Note)) → seen before h → (rules after ≡ rules before) × (number after ≡ number before) × (home after ≡ home before)
+  same-desk h was = let leads = (serves h was).leads in (leads.rules_same, leads.number_same, leads.home_same)

@@ -90,13 +90,13 @@ one-more-account account gears gear passes seen i keeps whole =
     accounts-append [] = refl
     accounts-append (g ∷ gs) = ap (λ l. IsAccount account g.log ∷ l) (accounts-append gs)
 
-pub account_as : {Message Rules Call Reply Note : Type 0} (session : Rules → Served → List (Turn Message (Entry Call Reply Note)) → Type 0)
-    (rules rules' : Rules) (log log' : Log) (n n' : ℕ) (seen : List (Entry Call Reply Note))
-    → rules ≡ rules' → log ≡ log' → n ≡ n' → IsAccount (session rules) log (own_of n seen) → IsAccount (session rules') log' (own_of n' seen)
-account_as session rules rules' log log' n n' seen same_rules same_log same account =
-    subst (λ r. IsAccount (session r) log' (own_of n' seen)) same_rules
-    (subst (λ l. IsAccount (session rules) l (own_of n' seen)) same_log
-    (subst (λ k. IsAccount (session rules) log (own_of k seen)) same account))
+pub account_as : {Front Message Call Reply Note : Type 0} (session : Front → Served → List (Turn Message (Entry Call Reply Note)) → Type 0)
+    (front front' : Front) (log log' : Log) (n n' : ℕ) (seen : List (Entry Call Reply Note))
+    → front ≡ front' → log ≡ log' → n ≡ n' → IsAccount (session front) log (own_of n seen) → IsAccount (session front') log' (own_of n' seen)
+account_as session front front' log log' n n' seen same_front same_log same account =
+    subst (λ r. IsAccount (session r) log' (own_of n' seen)) same_front
+    (subst (λ l. IsAccount (session front) l (own_of n' seen)) same_log
+    (subst (λ k. IsAccount (session front) log (own_of k seen)) same account))
 
 pub map-next : {X Y : Type 0} (f : X → Y) (xs ys : List X) (x : X) → ys ≡ xs ++ x ∷ [] → map f ys ≡ map f xs ++ f x ∷ []
 map-next f xs ys x is = ap (map f) is ∙ map-append f xs (x ∷ [])

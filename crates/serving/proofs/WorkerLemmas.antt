@@ -22,15 +22,15 @@ gave_one {Conn} before after given conn is accepts =
     let P : Option Conn → Type 0 = λ o. (let r : Result (Option Conn) Failed = Ok o in Accepts before after r) in
     subst P is accepts
 
-module _ {Message Rules Call Reply Note : Type 0} (law : Law Rules Call Reply Note)
-    (session : Rules → Served → List (Turn Message (Entry Call Reply Note)) → Type 0) (rules : Rules)
-    (w : WorkerState Rules (Entry Call Reply Note)) (keeps : IsSoundWorker law session rules w)
+module _ {Message Front Rules Call Reply Note : Type 0} (law : Law Rules Call Reply Note)
+    (session : Served → List (Turn Message (Entry Call Reply Note)) → Type 0) (rules : Rules)
+    (w : WorkerState Front Rules (Entry Call Reply Note)) (keeps : IsSoundWorker law session rules w)
     (gear1 gear2 gear3 : GearState) (station : StationState Rules (Entry Call Reply Note)) (conn : Served)
     (some_left : 0 < w.gear.left) (gave : gear1 ≡ record w.gear { out = w.gear.out + 1; left = w.gear.left - 1 })
     (home : station.home ≡ w.station.home) (number : station.number ≡ w.station.number)
     (serves : (h : List (Entry Call Reply Note)) → (h ≡ w.station.seen) × Legal law w.station.home.rules h
-    → Serves (session rules) w.station.number (λ k. (k ≡ station.seen) × Legal law station.home.rules k) h gear1 gear2 conn) where
-  served : Serves (session rules) w.station.number (λ k. (k ≡ station.seen) × Legal law station.home.rules k) w.station.seen gear1 gear2 conn
+    → Serves session w.station.number (λ k. (k ≡ station.seen) × Legal law station.home.rules k) h gear1 gear2 conn) where
+  served : Serves session w.station.number (λ k. (k ≡ station.seen) × Legal law station.home.rules k) w.station.seen gear1 gear2 conn
   served = serves w.station.seen (refl, subst (λ (r : Rules). Legal law r w.station.seen) (sym keeps.rules_are) keeps.legal)
 
   pub one_out : 0 < gear2.out
@@ -55,13 +55,13 @@ module _ {Message Rules Call Reply Note : Type 0} (law : Law Rules Call Reply No
     faults_now : gear3.faults ≡ w.gear.faults
     faults_now = ap (λ (g : GearState). g.faults) back ∙ ap (λ (g : GearState). g.faults) served.used ∙ ap (λ (g : GearState). g.faults) gave
 
-    pub keeps_on : IsSoundWorker law session rules (record { station = station; gear = gear3 })
+    pub keeps_on : IsSoundWorker law session rules (record { front = w.front; station = station; gear = gear3 })
     keeps_on = record {
       rules_are = ap (λ h. h.rules) home ∙ keeps.rules_are;
       legal = subst (λ (r : Rules). Legal law r station.seen) (ap (λ h. h.rules) home ∙ keeps.rules_are)
           (subst (λ (k : List (Entry Call Reply Note)). Legal law station.home.rules k) served.seen_now.0 served.seen_now.1);
-      account = subst (λ (l : Log). IsAccount (session rules) l (own_of station.number station.seen)) (sym log_now)
-          (account-next (session rules) w.gear.log gear2.log (own_of w.station.number w.station.seen) (own_of station.number station.seen) conn served.turns
+      account = subst (λ (l : Log). IsAccount session l (own_of station.number station.seen)) (sym log_now)
+          (account-next session w.gear.log gear2.log (own_of w.station.number w.station.seen) (own_of station.number station.seen) conn served.turns
           keeps.account served.session uses own_now);
       room = (
           let size = ap length own_now in
@@ -78,8 +78,9 @@ module _ {Message Rules Call Reply Note : Type 0} (law : Law Rules Call Reply No
           omega (arith, out3, out2, out1, was));
     }
 
-    pub same_on : IsSameWorker w (record { station = station; gear = gear3 })
+    pub same_on : IsSameWorker w (record { front = w.front; station = station; gear = gear3 })
     same_on = record {
+      front = refl;
       home = home;
       number = number;
       left = (let left = left_now in omega (arith, left));
@@ -93,16 +94,16 @@ module _ {Message Rules Call Reply Note : Type 0} (law : Law Rules Call Reply No
     }
 
 -- a worker that has seen nothing, with a gear that has done nothing
-pub sound-start : {Message Rules Call Reply Note : Type 0} (law : Law Rules Call Reply Note)
-    (session : Rules → Served → List (Turn Message (Entry Call Reply Note)) → Type 0) (rules : Rules) (w : WorkerState Rules (Entry Call Reply Note))
-    → w.station.home.rules ≡ rules → w.station.seen ≡ [] → IsUnused w.gear → 1000 * w.gear.left + 1000 < 4503599627370496 → IsSoundWorker law session rules w
+pub sound-start : {Message Front Rules Call Reply Note : Type 0} (law : Law Rules Call Reply Note)
+    (session : Served → List (Turn Message (Entry Call Reply Note)) → Type 0) (rules : Rules) (w : WorkerState Front Rules (Entry Call Reply Note))
+    → w.station.home.rules ≡ rules → w.station.seen ≡ [] → IsUnused w.gear → 2000 * w.gear.left + 2000 < 4503599627370496 → IsSoundWorker law session rules w
 sound-start law session rules w same unseen unused fits =
     let none : own_of w.station.number w.station.seen ≡ [] = ap (own_of w.station.number) unseen in
     record {
       rules_are = same;
       legal = subst (Legal law rules) (sym unseen) (legal-nil law rules);
-      account = subst (IsAccount (session rules) w.gear.log) (sym none)
-          (subst (λ (l : Log). IsAccount (session rules) l []) (sym (ap (λ (g : GearState). g.log) unused)) (account-none (session rules)));
+      account = subst (IsAccount session w.gear.log) (sym none)
+          (subst (λ (l : Log). IsAccount session l []) (sym (ap (λ (g : GearState). g.log) unused)) (account-none session));
       room = (let size = ap length none in omega (arith, size, fits));
       out = ap (λ (g : GearState). g.out) unused;
     }
@@ -120,11 +121,12 @@ served-none before after (Err e) accepts none = record {
   done = inr accepts.1;
 }
 
-pub same-none : {Rules E : Type 0} (w : WorkerState Rules E) → IsSameWorker w w
-same-none w = record { home = refl; number = refl; left = omega arith }
+pub same-none : {Front Rules E : Type 0} (w : WorkerState Front Rules E) → IsSameWorker w w
+same-none w = record { front = refl; home = refl; number = refl; left = omega arith }
 
-pub same-then : {Rules E : Type 0} (u v w : WorkerState Rules E) → IsSameWorker u v → IsSameWorker v w → IsSameWorker u w
+pub same-then : {Front Rules E : Type 0} (u v w : WorkerState Front Rules E) → IsSameWorker u v → IsSameWorker v w → IsSameWorker u w
 same-then u v w first second = record {
+  front = second.front ∙ first.front;
   home = second.home ∙ first.home;
   number = second.number ∙ first.number;
   left = (let a = first.left in let b = second.left in omega (arith, a, b));

@@ -2,7 +2,9 @@
 use Rattle.std.proofs.Common.{suc}
 use Rattle.std.specs.Prelude.{◌≡◌, ℕ, ◌<◌, ◌≤◌, Bool, true, false, ◌||◌, ◌==◌, List, [], ◌∷◌, ◌++◌, length}
 use Rattle.gnap_io.specs.Outside.{Served, IsAtEnd}
-use Rattle.histories.specs.Turns.{Turn, OneMore, Cut, messages_in, bytes_in}
+use Rattle.gnap_io.specs.Gears.{GearState, with_uses}
+use Rattle.histories.specs.Turns.{Turn, OneMore, Cut, messages_in, moments_in, entries_in, bytes_in}
+use Rattle.serving.specs.Backends.{BackendKind}
 use Rattle.serving.specs.declared.ends.ConnectionEnd.{ConnectionEnd}
 use Rattle.serving.specs.declared.ends.ConnectionEnd.TheVariants.{Closed, Quota, Truncated, Refused, ReadFault, WriteFault, Memory}
 
@@ -76,3 +78,14 @@ module _ {Message Fault E : Type 0} (wire : Wire Message Fault) where
     pub rest : List ℕ
     pub came : AreMessages wire conn.told.taken (messages_in turns) rest
     pub finishes : Finishes turns conn rest ended
+
+-- A connection that nothing was done with before was served so, by turns at a backend that had seen this past. The gear gave their moments and
+-- their words.
+pub record ServesTurns {Message Fault B Past E : Type 0} (kind : BackendKind B Past E) (wire : Wire Message Fault) (IsTurn : Bool → Turn Message E → Type 0)
+    (before : B) (past : Past) (after : B) (gear gear_now : GearState) (conn : Served) (ended : ConnectionEnd Fault) : Type 0 where
+  pub turns : List (Turn Message E)
+  pub session : Session wire IsTurn conn turns ended
+  pub few : length (entries_in turns) ≤ 2000
+  pub past_now : Past
+  pub leads : kind.leads before past (entries_in turns) after past_now
+  pub used : gear_now ≡ with_uses (moments_in turns) (kind.draws (entries_in turns)) gear

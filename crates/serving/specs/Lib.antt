@@ -1,3 +1,5 @@
+pub mod Backends
+pub mod Desks
 pub mod Logs
 pub mod Connections
 pub mod Reading
@@ -5,3 +7,5 @@ pub mod MessageSteps
 pub mod MessageTurns
 pub mod Workers
 pub mod ServiceEnds
+pub mod Services
+pub mod Wholes

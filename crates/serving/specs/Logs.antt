@@ -33,7 +33,7 @@ module _ {Message Call Reply Note : Type 0} (IsSession : Served → List (Turn M
   pub record Serves (number : ℕ) (seen : List (Entry Call Reply Note) → Type 0) (h : List (Entry Call Reply Note)) (gear gear_now : GearState)
       (conn : Served) : Type 0 where
     pub turns : List (Turn Message (Entry Call Reply Note))
-    pub few : length (entries_in turns) ≤ 1000
+    pub few : length (entries_in turns) ≤ 2000
     pub history : List (Entry Call Reply Note)
     pub seen_now : seen history
     pub own : own_of number history ≡ own_of number h ++ entries_in turns

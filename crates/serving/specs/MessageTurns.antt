@@ -1,11 +1,13 @@
 -- What one message's turn does.
-use Rattle.std.specs.Prelude.{◌≡◌, ℕ, ◌≤◌, Bool, true, false, List, [], ◌∷◌, ◌++◌, map, length}
+use Rattle.std.specs.Prelude.{◌≡◌, ℕ, ◌≤◌, Bool, true, false, List, Result, Ok, Err, length}
 use Rattle.bytes_and_lists.specs.Prefixes.{IsPrefix}
 use Rattle.gnap_io.specs.Outside.{Told, Writes, Rose}
-use Rattle.gnap_io.specs.Gears.{GearState, with_uses}
+use Rattle.gnap_io.specs.Gears.{GearState, with_draw}
 use Rattle.histories.specs.declared.entry.Entry.{Entry}
-use Rattle.histories.specs.Turns.{Turn, draw_of}
-use Rattle.histories.specs.Whole.{own_of}
+use Rattle.histories.specs.History.{Law}
+use Rattle.histories.specs.Steps.{Enters, EntersLapse}
+use Rattle.histories.specs.Turns.{Turn}
+use Rattle.serving.specs.Backends.{BackendKind, Entered}
 use Rattle.serving.specs.declared.ends.AfterTurn.{AfterTurn}
 use Rattle.serving.specs.declared.ends.AfterTurn.TheVariants.{MoreMayCome, OutOfMemory, WriteFailed}
 
@@ -21,17 +23,23 @@ HasWrittenText text before after faults faults_now WriteFailed =
     ((part : List ℕ) × IsPrefix part text × Writes part before after) × Rose faults faults_now
 HasWrittenText text before after faults faults_now _ = Writes text before after × (faults_now ≡ faults)
 
-module _ {Message Call Reply Note : Type 0} (IsTurn : Bool → Turn Message (Entry Call Reply Note) → Type 0) (number : ℕ) where
-  -- One message had its turn at a desk of this number, which led from one history that it had seen to another.
-  pub record TakesTurn (last : Bool) (m : Message) (seen : List (Entry Call Reply Note) → Type 0) (h : List (Entry Call Reply Note))
-      (gear gear_now : GearState) (conn conn_now : Told) (faults faults_now : ℕ) (after : AfterTurn) : Type 0 where
-    pub turn : Turn Message (Entry Call Reply Note)
+-- A call was entered behind a history that a desk had seen, with words that its gear drew: its reply came, or memory ran out.
+abbrev pub EntersCall : {Rules Call Reply Note E : Type 0} → Law Rules Call Reply Note → Rules → ℕ → List (Entry Call Reply Note) → ℕ → Call
+    → (List (Entry Call Reply Note) → Type 0) → GearState → GearState → Result Reply E → Type 0
+EntersCall law rules number h moment call seen gear gear_now (Ok reply) =
+    (draw : List ℕ) × (gear_now ≡ with_draw draw gear) × Enters law rules number h moment draw call reply seen
+EntersCall law rules number h moment call seen gear gear_now (Err e) =
+    (draw : List ℕ) × (gear_now ≡ with_draw draw gear) × EntersLapse law rules number h moment draw seen
+
+module _ {Message B Past E : Type 0} (kind : BackendKind B Past E) (IsTurn : Bool → Turn Message E → Type 0) where
+  -- One message had its turn at a backend that had seen this past.
+  pub record TakesTurn (last : Bool) (m : Message) (before : B) (past : Past) (after : B) (gear gear_now : GearState) (conn conn_now : Told)
+      (faults faults_now : ℕ) (ended : AfterTurn) : Type 0 where
+    pub turn : Turn Message E
     pub is_turn : IsTurn last turn
     pub message : turn.message ≡ m
-    pub follows : LetsFollow after turn.on
-    pub few : length turn.entries ≤ 1
-    pub history : List (Entry Call Reply Note)
-    pub seen_now : seen history
-    pub own : own_of number history ≡ own_of number h ++ turn.entries
-    pub used : gear_now ≡ with_uses (turn.moment ∷ []) (map draw_of turn.entries) gear
-    pub written : HasWrittenText turn.bytes conn conn_now faults faults_now after
+    pub follows : LetsFollow ended turn.on
+    pub few : length turn.entries ≤ 2
+    pub past_now : Past
+    pub entered : Entered kind before past turn.entries turn.moment gear gear_now after past_now
+    pub written : HasWrittenText turn.bytes conn conn_now faults faults_now ended

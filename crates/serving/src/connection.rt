@@ -1,88 +1,25 @@
-//! A connection's messages, one after another, at any desk.
-ghost use Rattle.std.specs.Prelude.{◌≡◌, ◌≢◌, ℕ, ◌+◌, ◌<◌, ◌≤◌, ◌^◌, List, [], Bool, length};
+//! A connection's messages, one after another.
+ghost use Rattle.std.specs.Prelude.{◌≡◌};
 ghost use Rattle.gnap_io.specs.Outside.{IsUntouched, served_of};
-ghost use Rattle.histories.specs.History.{places};
-ghost use Rattle.serving.specs.Logs.{Serves};
-ghost use Rattle.histories.specs.Turns.{IsTurn};
-ghost use Rattle.histories.specs.Whole.{own_of};
-ghost use Rattle.serving.specs.Connections.{Session, is_closing};
+ghost use Rattle.serving.specs.Connections.{ServesTurns, is_closing};
 ghost use Rattle.serving.specs.Reading.{Stops};
-ghost use Rattle.serving.specs.MessageTurns.{HasWrittenText, TakesTurn};
 
 use crate::ends::{AfterTurn, ConnectionEnd, NoMessage};
-use crate::message_step::MessageStep;
-use crate::server::Server;
-use bytes_and_lists::memory::Mem;
+use crate::message_reader::MessageReader;
+use crate::turn_taker::TurnTaker;
 use gnap_io::device::{Failed, Sink, Source};
-use gnap_io::gear::{Clock, Draws};
-use histories::machine::{Desk, Machine};
+use gnap_io::gear::Clock;
 use std::alloc::Global;
 
-fn say<V: Server, S: Source + Sink>(server: &V, conn: &mut S, response: &V::Response) -> AfterTurn
-    ensures written { HasWrittenText (V.text response.now) (S.told conn.old) (S.told conn.new) (S.faults conn.old) (S.faults conn.new) result }
-    ensures fed { result ≢ AfterTurn.OutOfMemory }
-{
-    match server.write_response(response, conn) {
-        Ok(()) => AfterTurn::MoreMayCome,
-        Err(Failed) => AfterTurn::WriteFailed,
-    }
-}
-
-fn say_busy<V: Server, S: Source + Sink>(server: &V, conn: &mut S) -> AfterTurn
-    ensures written { HasWrittenText V.face.busy (S.told conn.old) (S.told conn.new) (S.faults conn.old) (S.faults conn.new) result }
-    ensures starved { result ≢ AfterTurn.MoreMayCome }
-{
-    match server.write_busy(conn) {
-        Ok(()) => AfterTurn::OutOfMemory,
-        Err(Failed) => AfterTurn::WriteFailed,
-    }
-}
-
-// One message's turn.
-fn turn<V: Server, D: Desk<M = V::M>, S: Source + Sink, G: Clock + Draws>(
-    server: &V,
-    alloc: Global,
-    desk: &mut D,
-    conn: &mut S,
-    gear: &mut G,
-    message: &V::Message,
-    last: bool,
-) -> AfterTurn
-    requires rules { D.rules desk.old ≡ V.rules server.now }
-    requires room { (h : _) × D.seen desk.old h × (length (places (D.number desk.old) h) < 2 ^ 52) }
-    ensures rules { D.rules desk.new ≡ D.rules desk.old }
-    ensures number { D.number desk.new ≡ D.number desk.old }
-    ensures home { D.home desk.new ≡ D.home desk.old }
-    ensures turn { (h : _) → D.seen desk.old h → TakesTurn (IsTurn V.M.law V.face (V.rules server.now)) (D.number desk.old) last
-        message.now (D.seen desk.new) h (G.state gear.old) (G.state gear.new) (S.told conn.old) (S.told conn.new)
-        (S.faults conn.old) (S.faults conn.new) result }
-{
-    let moment = gear.now();
-    match server.step(alloc, message, moment, last) {
-        Ok(MessageStep::Say(response)) => say(server, conn, &response),
-        Ok(MessageStep::Ask(call)) => {
-            let draw = gear.draw();
-            match desk.submit(moment, &draw, call) {
-                Ok(reply) => match server.respond(alloc, &reply, last) {
-                    Ok(response) => say(server, conn, &response),
-                    Err(Mem) => say_busy(server, conn),
-                },
-                Err(Mem) => say_busy(server, conn),
-            }
-        }
-        Err(Mem) => say_busy(server, conn),
-    }
-}
-
 // Whether the response to the message of a place, counted from 0, is the last one.
-fn closes<V: Server>(server: &V, message: &V::Message, place: u64) -> bool
+fn closes<V: MessageReader>(server: &V, message: &V::Message, place: u64) -> bool
     ensures { result ≡ is_closing V.wire place message.now }
 {
     server.is_last(message) || place == 999
 }
 
 // Says what is said where there is no message.
-fn stop<V: Server, S: Source + Sink>(
+fn stop<V: MessageReader, S: Source + Sink>(
     server: &V,
     conn: &mut S,
     why: NoMessage<V::Fault>,
@@ -103,24 +40,20 @@ fn stop<V: Server, S: Source + Sink>(
     }
 }
 
-/// Serves the messages of a connection that nothing was done with before, up to 1,000, until it ends. The clock is read once for each whole
-/// message, and words are drawn once for each call.
-pub fn serve_connection<V: Server, D: Desk<M = V::M>, S: Source + Sink, G: Clock + Draws>(
+/// Serves the messages of a connection that nothing was done with before, up to 1,000, each by one turn, until it ends. The turns make at most
+/// 2,000 entries.
+pub fn serve_connection<V: TurnTaker<B, G>, B, S: Source + Sink, G: Clock>(
     server: &V,
     alloc: Global,
-    desk: &mut D,
+    backend: &mut B,
     conn: &mut S,
     gear: &mut G,
 ) -> ConnectionEnd<V::Fault>
-    requires rules { D.rules desk.old ≡ V.rules server.now }
-    requires room { (h : _) × D.seen desk.old h × (length (own_of (D.number desk.old) h) + 1000 < 4503599627370496) }
+    requires room { (V.backend_kind server.now).has_room backend.old 1000 }
     requires untouched { IsUntouched (S.told conn.old) (S.faults conn.old) }
-    ensures rules { D.rules desk.new ≡ D.rules desk.old }
-    ensures number { D.number desk.new ≡ D.number desk.old }
-    ensures home { D.home desk.new ≡ D.home desk.old }
-    ensures session { (h : _) → D.seen desk.old h
-        → Serves (λ served turns. Session V.wire (IsTurn V.M.law V.face (V.rules server.now)) served turns result) (D.number desk.old)
-        (D.seen desk.new) h (G.state gear.old) (G.state gear.new) (served_of (S.told conn.new) (S.faults conn.new)) }
+    ensures { (past : _) → (V.backend_kind server.now).seen backend.old past
+        → ServesTurns (V.backend_kind server.now) V.wire (V.is_turn server.now) backend.old past backend.new (G.state gear.old) (G.state gear.new)
+        (served_of (S.told conn.new) (S.faults conn.new)) result }
 {
     let mut held = server.hold_none(alloc);
     let mut place = 0u64;
@@ -129,7 +62,7 @@ pub fn serve_connection<V: Server, D: Desk<M = V::M>, S: Source + Sink, G: Clock
             Ok(None) => return ConnectionEnd::Closed,
             Ok(Some(message)) => {
                 let last = closes(server, &message, place);
-                match turn(server, alloc, desk, conn, gear, &message, last) {
+                match server.turn(alloc, backend, conn, gear, &message, last) {
                     AfterTurn::MoreMayCome => {
                         if last {
                             if place == 999 {

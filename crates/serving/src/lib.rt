@@ -9,7 +9,11 @@
 pub mod connection;
 pub mod ends;
 pub mod front;
+pub mod message_reader;
 pub mod message_step;
+pub mod message_turn;
 pub mod server;
+pub mod service;
 pub mod threads;
+pub mod turn_taker;
 pub mod worker;

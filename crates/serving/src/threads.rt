@@ -55,7 +55,7 @@ fn start_workers<'a, C: Core, F: Front<M = C::M>, G: Gear, R: Wait>(
     requires unused { All (λ gear. IsUnused (G.state gear)) gears.items }
     requires within { All (λ gear. (G.state gear).left ≤ 4294967295) gears.items }
     requires room { (vec_len workers ≡ 0) × (length passes.items ≤ vec_capacity workers) }
-    ensures workers { AreWorkers shared.now result.items }
+    ensures workers { AreWorkers shared.now front.now result.items }
     ensures gears { map (λ worker. worker.gear) result.items ≡ map G.state gears.items }
 {
     let mut rest = gears.into_iter();
@@ -71,18 +71,20 @@ fn start_workers<'a, C: Core, F: Front<M = C::M>, G: Gear, R: Wait>(
 // The passes and the gears of workers, in order.
 fn end_workers<'a, C: Core, F: Front<M = C::M>, G: Gear, R: Wait>(
     shared: &Shared<C>,
+    front: &F,
     workers: Vec<Worker<'a, C, F, G, R>>,
     mut passes: Vec<Pass<C>>,
     mut gears: Vec<G>,
 ) -> (Vec<Pass<C>>, Vec<G>)
-    requires workers { AreWorkers shared.now workers.items }
+    requires workers { AreWorkers shared.now front.now workers.items }
     requires room { (vec_len passes ≡ 0) × (vec_len gears ≡ 0) × (length workers.items ≤ vec_capacity passes) × (length workers.items ≤ vec_capacity gears) }
     ensures passes { AreAll shared.now result.0.items }
     ensures gears { map G.state result.1.items ≡ map (λ worker. worker.gear) workers.entry.items }
     ensures out { All (λ gear. (G.state gear).out ≡ 0) result.1.items }
-    ensures accounts { AllKeep 0 (accounts_of (F.session shared.now.rules) (map G.state result.1.items)) (map (λ pass. pass.seen) result.0.items) }
+    ensures accounts { AllKeep 0 (accounts_of (F.session front.now) (map G.state result.1.items)) (map (λ pass. pass.seen) result.0.items) }
 {
     let _shared = shared;
+    let _front = front;
     for worker in workers {
         let (pass, gear) = worker.leave();
         passes.push_reserved(pass);
@@ -120,7 +122,7 @@ where
     requires rules { C.rules core ≡ F.rules front.now }
     requires unused { All (λ gear. IsUnused (G.state gear)) gears.items }
     requires within { All (λ gear. (G.state gear).left ≤ 4294967295) gears.items }
-    ensures one { OneHistory C.M.law (F.rules front.now) (accounts_of (F.session (F.rules front.now)) (map G.state result.0.items)) }
+    ensures one { OneHistory C.M.law (F.rules front.now) (accounts_of (F.session front.now) (map G.state result.0.items)) }
     ensures many { length result.0.items ≡ length gears.items }
     ensures out { All (λ gear. (G.state gear).out ≡ 0) result.0.items }
     ensures done { IsOk result.1 → HaveServedAll (map G.state gears.items) (map G.state result.0.items) }
@@ -139,7 +141,7 @@ where
     };
     let mut workers = start_workers(rt, alloc, &shared, front, passes, gears, room);
     serve_workers(rt, workers.as_mut_slice());
-    let (passes, gears) = end_workers(&shared, workers, passes_back, gears_back);
+    let (passes, gears) = end_workers(&shared, front, workers, passes_back, gears_back);
     close_all(shared, passes);
     (gears, Ok(()))
 }

@@ -15,7 +15,7 @@ use std::alloc::Global;
 use std::marker::Model;
 use std::sync::Wait;
 
-/// Serves the connections of one gear, with a station of its own. Contracts see the station, and what the gear counts and tells. What the
+/// Serves the connections of one gear, with a station of its own. Contracts see the front, the station, and what the gear counts and tells. What the
 /// gear tells is accounted for by the entries of the station's number in what the station has seen.
 #[derive(Drop)]
 pub struct Worker<'a, C: Core, F: Front<M = C::M>, G: Gear, R> {
@@ -29,11 +29,12 @@ impl<'a, C: Core, F: Front<M = C::M>, G: Gear, R> Model for Worker<'a, C, F, G, 
     ghost use Rattle.histories.specs.declared.entry.Entry.{Entry};
     ghost use Rattle.serving.specs.Workers.{WorkerState, IsSoundWorker};
 
-    ghost Value = { WorkerState C.M.Rules (Entry C.M.Call C.M.Reply C.M.Note) };
+    ghost Value = { WorkerState F C.M.Rules (Entry C.M.Call C.M.Reply C.M.Note) };
 
-    ghost view = { λ w. record { station = w.station; gear = G.state w.gear } };
+    ghost view = { λ w. record { front = w.front.now; station = w.station; gear = G.state w.gear } };
 
-    ghost invariant = { λ w. IsSoundWorker C.M.law F.session (F.rules w.front.now) (record { station = w.station; gear = G.state w.gear }) };
+    ghost invariant = { λ w. IsSoundWorker C.M.law (F.session w.front.now) (F.rules w.front.now)
+        (record { front = w.front.now; station = w.station; gear = G.state w.gear }) };
 }
 
 impl<'a, C: Core, F: Front<M = C::M>, G: Gear, R: Wait> Worker<'a, C, F, G, R> {
@@ -50,8 +51,8 @@ impl<'a, C: Core, F: Front<M = C::M>, G: Gear, R: Wait> Worker<'a, C, F, G, R> {
         requires rules { shared.now.rules ≡ F.rules front.now }
         requires unseen { pass.seen ≡ [] }
         requires unused { IsUnused (G.state gear) }
-        requires room { 1000 * (G.state gear).left + 1000 < 4503599627370496 }
-        ensures { result ≡ record { station = record { home = shared.now; number = pass.number; seen = pass.seen }; gear = G.state gear } }
+        requires room { 2000 * (G.state gear).left + 2000 < 4503599627370496 }
+        ensures { result ≡ record { front = front.now; station = record { home = shared.now; number = pass.number; seen = pass.seen }; gear = G.state gear } }
     {
         Worker {
             alloc,
@@ -90,7 +91,7 @@ impl<'a, C: Core, F: Front<M = C::M>, G: Gear, R: Wait> Worker<'a, C, F, G, R> {
         ensures number { result.0.number ≡ self.entry.station.number }
         ensures gear { G.state result.1 ≡ self.entry.gear }
         ensures out { self.entry.gear.out ≡ 0 }
-        ensures account { IsAccount (F.session self.entry.station.home.rules) self.entry.gear.log (own_of self.entry.station.number result.0.seen) }
+        ensures account { IsAccount (F.session self.entry.front) self.entry.gear.log (own_of self.entry.station.number result.0.seen) }
     {
         let Worker {
             alloc: _,

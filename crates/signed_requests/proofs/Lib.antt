@@ -1,1 +1,2 @@
 pub mod NeverSigned
+pub mod LineNonces

@@ -1,2 +1,3 @@
 pub mod Forms
+pub mod Nonces
 pub mod Requests

@@ -6,7 +6,7 @@ use Rattle.bytes_and_lists.specs.declared.message.Field.{Field}
 use Rattle.bytes_and_lists.specs.declared.message.Message.{Message}
 use Rattle.structured_fields.specs.Letters.{is_lower}
 use Rattle.message_signature.specs.Components.{authority_of}
-use Rattle.message_signature.specs.Signed.{field, signed}
+use Rattle.message_signature.specs.Signed.{field, signed, signed_marked}
 use Rattle.signed_requests.specs.declared.unsigned.UnsignedRequest.{UnsignedRequest}
 use Rattle.signed_requests.specs.declared.unsigned.Scheme.{Scheme}
 use Rattle.signed_requests.specs.declared.unsigned.Scheme.TheVariants.{Gnap, Bearer}
@@ -65,3 +65,7 @@ request_bytes m = m.method ++ (codes " " ++ (m.target ++ (codes " HTTP/1.1\r\n"
 -- (`message_signature::laws`).
 unfoldable pub signed_request : List ℕ → List ℕ → List ℕ → ℕ → UnsignedRequest → Option (List ℕ)
 signed_request base id secret now request = option_map request_bytes (signed (unsigned_message base request) base id secret now (codes "gnap"))
+
+-- The same, with this nonce in the signature.
+unfoldable pub marked_request : List ℕ → List ℕ → List ℕ → ℕ → List ℕ → UnsignedRequest → Option (List ℕ)
+marked_request base id secret now nonce request = option_map request_bytes (signed_marked (unsigned_message base request) base id secret now nonce (codes "gnap"))

@@ -4,13 +4,14 @@ ghost use Rattle.std.specs.List.{list_all};
 ghost use Rattle.structured_fields.specs.Letters.{is_string_byte};
 ghost use Rattle.message_signature.specs.Signed.{field};
 ghost use Rattle.message_signature.specs.Components.{until, authority_of};
-ghost use Rattle.signed_requests.specs.Requests.{scheme_text, authorization_fields, type_fields, unsigned_message, signed_request};
+ghost use Rattle.message_signature.specs.Marks.{is_nonce};
+ghost use Rattle.signed_requests.specs.Requests.{scheme_text, authorization_fields, type_fields, unsigned_message, signed_request, marked_request};
 
 use crate::request_bytes::request_bytes;
 use bytes_and_lists::bytes::Bytes;
 use bytes_and_lists::memory::Mem;
 use bytes_and_lists::message::{Field, Fields, Message};
-use message_signature::{SignFault, sign};
+use message_signature::{SignFault, sign, sign_marked};
 use std::alloc::Global;
 
 /// How a token is presented (RFC 9635, section 7.2).
@@ -132,6 +133,32 @@ pub fn signed_request(
     let mut message = unsigned_message(alloc, base, request)?;
     let tag = Bytes::from_slice(alloc, b"gnap")?;
     match sign(alloc, &mut message, base, id, secret, now, &tag) {
+        Ok(()) => request_bytes(alloc, &message),
+        Err(SignFault::HasSignature) => unreachable!(),
+        Err(SignFault::OutOfMemory) => Err(Mem),
+    }
+}
+
+/// What `signed_request` gives, with a nonce in the signature, by which the server knows a second use of it (RFC 9421, section 2.3): 1 to 64 letters,
+/// digits, `.`, `_` or `-`.
+#[tactic(auto, using(crate::proofs::NeverSigned::never_signed), unfolding(crate::specs::Requests::marked_request))]
+pub fn marked_request(
+    alloc: Global,
+    base: &Bytes,
+    id: &Bytes,
+    secret: &Bytes,
+    now: u64,
+    nonce: &Bytes,
+    request: UnsignedRequest,
+) -> Result<Bytes, Mem>
+    requires now { now < 10 ^ 15 }
+    requires id { list_all is_string_byte id.now ≡ true }
+    requires nonce { is_nonce nonce.now ≡ true }
+    ensures { IfOk result (λ b. marked_request base.now id.now secret.now now nonce.now request ≡ Some b) }
+{
+    let mut message = unsigned_message(alloc, base, request)?;
+    let tag = Bytes::from_slice(alloc, b"gnap")?;
+    match sign_marked(alloc, &mut message, base, id, secret, now, nonce, &tag) {
         Ok(()) => request_bytes(alloc, &message),
         Err(SignFault::HasSignature) => unreachable!(),
         Err(SignFault::OutOfMemory) => Err(Mem),

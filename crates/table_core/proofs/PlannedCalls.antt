@@ -1,10 +1,11 @@
--- Which calls come to a plan: all but those that are answered at once. They take memory.
-use Rattle.std.proofs.Common.{◌≢◌, List, Option, refl}
+-- Which calls come to a plan: all but those that are answered at once. They take memory. Of those that take none no nonce is remembered.
+use Rattle.std.proofs.Common.{◌≡◌, ◌≢◌, false, List, Option, refl}
 use Rattle.gnap_model.specs.Common.{Text}
 use Rattle.gnap_model.specs.declared.rights.Right.{Right}
 use Rattle.gnap_model.specs.declared.objects.Binding.{Binding}
 use Rattle.gnap_model.specs.declared.calls.Call.{Call}
 use Rattle.gnap_model.specs.declared.calls.Call.TheVariants.{Begin, Continue, Modify, Cancel, Rotate, Revoke, Introspect, Look, FindCode, Decide, Lapse}
+use Rattle.signed_calls.specs.Marks.{is_remembered}
 use Rattle.table_core.specs.Frugal.{IsFrugal}
 use Rattle.table_core.specs.Planned.{IsPlanned}
 
@@ -35,3 +36,16 @@ frugal_unplanned (Cancel key value) planned frugal = planned
 frugal_unplanned (Revoke key value) planned frugal = planned
 frugal_unplanned (Rotate key value new_key) planned frugal = frugal
 frugal_unplanned Lapse planned frugal = frugal
+
+pub frugal_unremembered : (call : Call) → IsFrugal call → is_remembered call ≡ false
+frugal_unremembered (Cancel key value) frugal = refl
+frugal_unremembered (Revoke key value) frugal = refl
+frugal_unremembered (Begin key request not_after) frugal = absurd frugal
+frugal_unremembered (Continue key value reference) frugal = absurd frugal
+frugal_unremembered (Modify key value request) frugal = absurd frugal
+frugal_unremembered (Look front handle) frugal = absurd frugal
+frugal_unremembered (FindCode front code) frugal = absurd frugal
+frugal_unremembered (Decide front request) frugal = absurd frugal
+frugal_unremembered (Introspect server value binding wanted) frugal = absurd frugal
+frugal_unremembered (Rotate key value new_key) frugal = absurd frugal
+frugal_unremembered Lapse frugal = absurd frugal

@@ -41,9 +41,9 @@ refusal_acts supply t key grants (Some token) = by (row_by_number token.grant gr
     keyed false = no_notes supply (Refuse InvalidClient) t (Error InvalidClient) refl refl
 
     by : (x : Option GrantRow) → RefusalActs supply t (of_grant key token x)
-        (on_found InvalidRequest (λ (row : GrantRow). if same_text row.key key then RevokeToken (token_of token) token.retired else Refuse InvalidClient) x)
+        (on_found InvalidRequest (λ (row : GrantRow). if same_text token.key key then RevokeToken (token_of token) token.retired else Refuse InvalidClient) x)
     by None = no_notes supply (Refuse InvalidRequest) t (Error InvalidRequest) refl refl
-    by (Some row) = keyed (same_text row.key key)
+    by (Some row) = keyed (same_text token.key key)
 
 pub revocation_refused : (supply : Supply) (t : Tables) (key : Text) (grants : List GrantRow) (found : Option TokenRow) (code : ErrorCode) → revocation_of key grants found ≡ Refused code
     → ActsBy supply (revoke_by key grants found) t t (undrawn_of (Error code))

@@ -4,7 +4,7 @@ use Rattle.std.specs.Prelude.{◌++◌, is_some, slice_index, if◌then◌else�
 use Rattle.gnap_model.specs.Common.{Text, same_text}
 use Rattle.gnap_model.specs.Values.{value_text}
 use Rattle.gnap_model.specs.Manage.{rotate_key}
-use Rattle.gnap_model.specs.Actions.{Action, Supply, on_found, with_key, successor}
+use Rattle.gnap_model.specs.Actions.{Action, Supply, on_found, with_owner, successor}
 use Rattle.gnap_model.specs.Actions.Action.{Refuse}
 use Rattle.gnap_model.specs.declared.objects.Setup.{Setup}
 use Rattle.gnap_model.specs.declared.objects.ErrorCode.TheVariants.{InvalidClient, InvalidRotation, KeyRotationNotSupported}
@@ -41,8 +41,8 @@ RotationActs supply (Denied code) grants tokens action = ActsBy supply action (t
 RotationActs supply (Succeeded serial row out) grants tokens action =
     ActsBy supply action (tables_in grants tokens) (tables_in grants (drop_token serial tokens ++ row ∷ [])) (rotated_with out) × IsTokenRow row × (row.serial ≡ supply.first)
 
-successor_row : (supply : Supply) (opening : OpeningNote) (token : TokenNote) → supply.first < 2 ^ 63 → IsTokenRow (new_token (successor supply opening token))
-successor_row supply opening token small = record {
+successor_row : (supply : Supply) (opening : OpeningNote) (token : TokenNote) (key : Text) → supply.first < 2 ^ 63 → IsTokenRow (new_token (successor supply opening token key))
+successor_row supply opening token key small = record {
   small = omega arith;
   value = (slice_index supply.words 0, slice_index supply.words 1, refl);
   manage = (slice_index supply.words 2, slice_index supply.words 3, (let e : supply.first + 1 ≡ supply.first + 0 + 1 = omega arith in ap (λ n. value_text n (slice_index supply.words 2) (slice_index supply.words 3)) e));
@@ -54,19 +54,19 @@ rotation_acts supply key new_key grants tokens None small = no_notes supply (Ref
 rotation_acts supply key new_key grants tokens (Some token) small = live (is_live_row supply.now grants token)
   where
     new : (row : GrantRow) (k : Option Text)
-        → RotationActs supply (if is_some k then Denied KeyRotationNotSupported else rotated_to supply token row) grants tokens (rotate_key k (token_of token) (opening_of row))
+        → RotationActs supply (if is_some k then Denied KeyRotationNotSupported else rotated_to supply token row token.key) grants tokens (rotate_key k (token_of token) (opening_of row))
     new row (Some k) = no_notes supply (Refuse KeyRotationNotSupported) (tables_in grants tokens) (Error KeyRotationNotSupported) refl refl
-    new row None = (record { reply = refl; tables = refl; opened = refl; drawn = refl }, successor_row supply (opening_of row) (token_of token) small, omega arith)
+    new row None = (record { reply = refl; tables = refl; opened = refl; drawn = refl }, successor_row supply (opening_of row) (token_of token) token.key small, omega arith)
 
     keyed : (row : GrantRow) (b : Bool)
-        → RotationActs supply (if b then (if is_some new_key then Denied KeyRotationNotSupported else rotated_to supply token row) else Denied InvalidClient) grants tokens
+        → RotationActs supply (if b then (if is_some new_key then Denied KeyRotationNotSupported else rotated_to supply token row token.key) else Denied InvalidClient) grants tokens
         (if b then rotate_key new_key (token_of token) (opening_of row) else Refuse InvalidClient)
     keyed row true = new row new_key
     keyed row false = no_notes supply (Refuse InvalidClient) (tables_in grants tokens) (Error InvalidClient) refl refl
 
-    on : (x : Option GrantRow) → RotationActs supply (rotation_for supply key new_key token x) grants tokens (on_found InvalidRotation (λ (row : GrantRow). with_key (rotate_key new_key (token_of token)) key (opening_of row)) x)
+    on : (x : Option GrantRow) → RotationActs supply (rotation_for supply key new_key token x) grants tokens (on_found InvalidRotation (λ (row : GrantRow). with_owner (rotate_key new_key (token_of token)) token.key key (opening_of row)) x)
     on None = no_notes supply (Refuse InvalidRotation) (tables_in grants tokens) (Error InvalidRotation) refl refl
-    on (Some row) = keyed row (same_text row.key key)
+    on (Some row) = keyed row (same_text token.key key)
 
     live : (b : Bool) → RotationActs supply (if b then rotation_for supply key new_key token (row_by_number token.grant grants) else Denied InvalidRotation) grants tokens
         (if b then on_row InvalidRotation grants key token (rotate_key new_key (token_of token)) else Refuse InvalidRotation)

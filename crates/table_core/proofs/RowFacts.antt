@@ -136,7 +136,7 @@ opened_few supply (ModifyAsking o retired request modes) =
     let past = retire_skipped is_opening retired after skips in
     let none : count_by is_opening (Terms (terms_for o request) ∷ []) ≡ 0 = refl in omega (arith, same, past, none)
 opened_few supply (CancelGrant o) = omega arith
-opened_few supply (RotateToken o token) = omega arith
+opened_few supply (RotateToken o token key) = omega arith
 opened_few supply (RevokeToken token true) = omega arith
 opened_few supply (RevokeToken token false) = omega arith
 

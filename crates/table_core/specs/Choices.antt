@@ -44,7 +44,7 @@ judged_reply names (Some row) Active = ToldActive (served_part names row.rights)
 
 abbrev pub of_grant : Text → TokenRow → Option GrantRow → Revocation
 of_grant key token None = Refused InvalidRequest
-of_grant key token (Some row) = if same_text row.key key then (if token.retired then Left else Marked token.serial) else Refused InvalidClient
+of_grant key token (Some row) = if same_text token.key key then (if token.retired then Left else Marked token.serial) else Refused InvalidClient
 
 abbrev pub revocation_of : Text → List GrantRow → Option TokenRow → Revocation
 revocation_of key grants None = Refused InvalidRequest
@@ -52,14 +52,14 @@ revocation_of key grants (Some token) = of_grant key token (row_by_number token.
 
 -- ---- a rotation
 
--- the successor of a token of a grant
-abbrev pub rotated_to : Supply → TokenRow → GrantRow → Rotation
-rotated_to supply token row = Succeeded token.serial (new_token (successor supply (opening_of row) (token_of token))) (token_out supply.now (successor supply (opening_of row) (token_of token)))
+-- the successor of a token of a grant, which is bound to this key
+abbrev pub rotated_to : Supply → TokenRow → GrantRow → (key : Text) → Rotation
+rotated_to supply token row key = Succeeded token.serial (new_token (successor supply (opening_of row) (token_of token) key)) (token_out supply.now (successor supply (opening_of row) (token_of token) key))
 
 abbrev pub rotation_for : Supply → Text → Option Text → TokenRow → Option GrantRow → Rotation
 rotation_for supply key new_key token None = Denied InvalidRotation
 rotation_for supply key new_key token (Some row) =
-    if same_text row.key key then (if is_some new_key then Denied KeyRotationNotSupported else rotated_to supply token row) else Denied InvalidClient
+    if same_text token.key key then (if is_some new_key then Denied KeyRotationNotSupported else rotated_to supply token row token.key) else Denied InvalidClient
 
 -- what a rotation comes to
 abbrev pub rotation_of : Supply → Text → Option Text → List GrantRow → Option TokenRow → Rotation

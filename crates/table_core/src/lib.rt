@@ -1,6 +1,7 @@
 //! The grant machine over tables: rows of the grants that go on and of the tokens that can be managed, in place of the notes of a history.
 //!
-//! `TableCore` meets the contract of `Core`: each reply is the machine's for the history that it stands for. A call takes its memory before it changes a row.
+//! `TableCore` meets the contract of `Core`: each reply is that of `Gnap`, the machine of `grant_machine`, for the history that it stands for. It is
+//! `RowCore`, which keeps the rows of `Grants`, and the nonces that are remembered. A call takes its memory before it changes a row.
 #![tactic(auto)]
 
 pub mod answered;
@@ -19,7 +20,9 @@ pub mod modifying;
 pub mod planning;
 pub mod revoking;
 pub mod rotating;
+pub mod row_core;
 pub mod stored;
 pub mod table_core;
 
+pub use row_core::RowCore;
 pub use table_core::{TableCore, TableDesk, table_desk};

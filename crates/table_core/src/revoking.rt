@@ -32,8 +32,8 @@ fn revocation_by(grants: &GrantTable, tokens: &TokenTable, key: &[u8], value: &[
 {
     match tokens.by_manage(value) {
         Some(token) => match grants.by_number(token.grant) {
-            Some(row) => {
-                if row.key.as_slice() == key {
+            Some(_) => {
+                if token.key.as_slice() == key {
                     if token.retired {
                         Revocation::Left
                     } else {

@@ -44,18 +44,18 @@ fn is_live(grants: &GrantTable, row: &TokenRow, now: u64) -> bool
     !row.retired && now < row.until && grants.is_approved(row.grant)
 }
 
-// The token's successor, and what the client is told.
+// The token's successor, which keeps its key, and what the client is told.
 fn succeed(
     alloc: Global,
     token: &TokenRow,
     grant: &GrantRow,
     supply: &Supply,
 ) -> Result<Rotation, Mem>
-    ensures { IfOk result (λ r. (taken : List Text) → r ≡ rotated_to (supply_with supply.now taken) token.now grant.now) }
+    ensures { IfOk result (λ r. (taken : List Text) → r ≡ rotated_to (supply_with supply.now taken) token.now grant.now token.now.key) }
 {
     let successor = supply.token(
         grant.number,
-        &grant.key,
+        &token.key,
         grant.end,
         token.label.copy()?,
         token.rights.rights(alloc)?,
@@ -84,7 +84,7 @@ fn rotation_on(
     match grant {
         None => Ok(Rotation::Denied(ErrorCode::InvalidRotation)),
         Some(grant) => {
-            if grant.key.as_slice() != key {
+            if token.key.as_slice() != key {
                 return Ok(Rotation::Denied(ErrorCode::InvalidClient));
             }
             match new_key {

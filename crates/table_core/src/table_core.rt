@@ -1,133 +1,28 @@
-//! A core that keeps tables.
-ghost use Rattle.std.specs.Prelude.{◌≡◌, ◌≢◌, ◌≤◌, ◌+◌, ℕ, [], List, IfOk, OnErr, IsOk};
-ghost use Rattle.histories.specs.History.{last_moment};
-ghost use Rattle.gnap_model.specs.declared.calls.Call.TheVariants.{Lapse};
-ghost use Rattle.grant_machine.specs.Gnap.{GnapFits};
-ghost use Rattle.table_core.specs.CallEffects.{tables_in, moved, HasRoom, AnswersCall};
-ghost use Rattle.table_core.specs.Frugal.{IsFrugal};
-ghost use Rattle.table_core.specs.Planned.{IsPlanned};
-ghost use Rattle.table_core.specs.StandsInTables.{StandsInTables};
+//! The core that keeps tables and the nonces that are remembered.
+ghost use Rattle.std.specs.Prelude.{◌≡◌, List, [], count_by};
+ghost use Rattle.histories.specs.History.{now, notes_of};
+ghost use Rattle.signed_calls.specs.Remembering.{is_kept};
+ghost use Rattle.signed_calls.proofs.RememberingSteps.{signed-renumbered};
+ghost use Rattle.grant_machine.specs.Gnap.{GnapEntry, SignedFits};
 ghost use Rattle.table_core.specs.Renumbered.{stands-renumbered};
+ghost use Rattle.table_core.specs.Frugal.{IsFrugal};
 
-use crate::answered::Answered;
-use crate::cancelling::cancel;
-use crate::carrying::carry_out;
-use crate::entering::Entering;
-use crate::introspecting::introspect;
-use crate::planning::plan_call;
-use crate::revoking::revoke;
-use crate::rotating::rotate;
+use crate::row_core::RowCore;
 use bytes_and_lists::memory::Mem;
-use gnap_model::calls::{Call, Reply};
+use gnap_model::calls::Reply;
 use gnap_model::objects::Setup;
 use grant_machine::Gnap;
-use grant_rules::drawing::Supply;
-use grant_states::GrantTable;
 use histories::lone::Lone;
 use histories::machine::{Core, Desk};
+use nonce_store::NonceStore;
+use remembering_core::Remembering;
+use signed_calls::signed::Signed;
 use std::alloc::Global;
-use token_manager::TokenTable;
 
-/// Keeps the rows that stand for a history, with the numbers of the next grant and value, and its greatest moment.
+/// Keeps the rows that stand for a history, the nonces that are remembered, and the greatest moment.
 #[derive(Drop)]
 pub struct TableCore {
-    alloc: Global,
-    rules: Setup,
-    latest: u64,
-    next: u64,
-    first: u64,
-    grants: GrantTable,
-    tokens: TokenTable,
-    ghost in_time: { latest ≤ last_moment },
-}
-
-// Sweeps both tables where time went on.
-fn advance(grants: &mut GrantTable, tokens: &mut TokenTable, latest: u64, moment: u64)
-    ensures rows { tables_in grants.new.rows tokens.new.rows ≡ moved latest moment (tables_in grants.old.rows tokens.old.rows) }
-    ensures doors { grants.new.doors_below ≡ grants.old.doors_below }
-{
-    if latest < moment {
-        grants.sweep(moment);
-        tokens.sweep(grants);
-    }
-}
-
-// Answers a call that comes to a plan. An `Err` changes no row.
-fn answer_by_plan(
-    alloc: Global,
-    rules: &Setup,
-    supply: &Supply,
-    next: u64,
-    grants: &mut GrantTable,
-    tokens: &mut TokenTable,
-    call: &Call,
-) -> Result<Answered, Mem>
-    requires fits { GnapFits call.now }
-    requires planned { IsPlanned call.now }
-    requires room { HasRoom next supply.now.first grants.old tokens.old }
-    ensures ok { IfOk result (AnswersCall rules.now next supply.now call.now (tables_in grants.old.rows tokens.old.rows) (tables_in grants.new.rows tokens.new.rows)) }
-    ensures doors { IfOk result (λ answered. grants.new.doors_below ≤ supply.now.first + answered.drawn) }
-    ensures few { IfOk result (λ answered. (answered.opened ≤ 1) × (answered.drawn ≤ 17)) }
-    ensures err { OnErr result (tables_in grants.new.rows tokens.new.rows ≡ tables_in grants.old.rows tokens.old.rows) }
-    ensures err_doors { OnErr result (grants.new.doors_below ≡ grants.old.doors_below) }
-{
-    let entering = Entering {
-        grants: &*grants,
-        tokens: &*tokens,
-        next,
-        supply: *supply,
-    };
-    let plan = plan_call(alloc, rules, &entering, call)?;
-    carry_out(grants, tokens, next, supply.first, plan)
-}
-
-// Answers a call at the greatest moment so far. An `Err` changes no row.
-fn answer_call(
-    alloc: Global,
-    rules: &Setup,
-    supply: &Supply,
-    next: u64,
-    grants: &mut GrantTable,
-    tokens: &mut TokenTable,
-    call: &Call,
-) -> Result<Answered, Mem>
-    requires fits { GnapFits call.now }
-    requires no_lapse { call.now ≢ Lapse }
-    requires room { HasRoom next supply.now.first grants.old tokens.old }
-    ensures ok { IfOk result (AnswersCall rules.now next supply.now call.now (tables_in grants.old.rows tokens.old.rows) (tables_in grants.new.rows tokens.new.rows)) }
-    ensures doors { IfOk result (λ answered. grants.new.doors_below ≤ supply.now.first + answered.drawn) }
-    ensures few { IfOk result (λ answered. (answered.opened ≤ 1) × (answered.drawn ≤ 17)) }
-    ensures err { OnErr result (tables_in grants.new.rows tokens.new.rows ≡ tables_in grants.old.rows tokens.old.rows) }
-    ensures err_doors { OnErr result (grants.new.doors_below ≡ grants.old.doors_below) }
-    ensures frugal { IsFrugal call.now → IsOk result }
-{
-    match call {
-        Call::Introspect {
-            server,
-            value,
-            binding,
-            wanted,
-        } => introspect(
-            alloc,
-            rules,
-            grants,
-            tokens,
-            supply.moment,
-            server,
-            value,
-            *binding,
-            wanted,
-        ),
-        Call::Cancel { key, value } => Ok(cancel(grants, tokens, key, value)),
-        Call::Revoke { key, value } => Ok(revoke(grants, tokens, key, value)),
-        Call::Rotate {
-            key,
-            value,
-            new_key,
-        } => rotate(alloc, grants, tokens, supply, key, value, new_key),
-        Call::Lapse => unreachable!(),
-        _ => answer_by_plan(alloc, rules, supply, next, grants, tokens, call),
-    }
+    core: Remembering<RowCore, NonceStore>,
 }
 
 /// One worker over tables.
@@ -140,14 +35,16 @@ impl TableCore {
         ensures empty { ⟦<TableCore as Core>⟧.stands result [] }
     {
         TableCore {
-            alloc,
-            rules: setup,
-            latest: 0,
-            next: 1,
-            first: 1,
-            grants: GrantTable::new(alloc),
-            tokens: TokenTable::new(alloc),
+            core: Remembering::new(RowCore::new(alloc, setup), NonceStore::new(alloc)),
         }
+    }
+
+    /// How many nonces are remembered at the greatest moment so far. Takes no memory.
+    pub fn marks(&self) -> usize
+        requires { (h : List GnapEntry) × ⟦<TableCore as Core>⟧.stands self.now h }
+        ensures { (h : List GnapEntry) → ⟦<TableCore as Core>⟧.stands self.now h → result ≡ count_by (is_kept (now h 0)) (notes_of h) }
+    {
+        self.core.marks()
     }
 }
 
@@ -162,35 +59,18 @@ pub fn table_desk(alloc: Global, setup: Setup) -> TableDesk
 impl Core for TableCore {
     type M = Gnap;
 
-    ghost rules = { λ core. core.rules };
+    ghost rules = { λ tables. ⟦<Remembering<RowCore, NonceStore> as Core>⟧.rules tables.core };
 
-    ghost stands = { λ core h. StandsInTables core.rules core.grants core.tokens core.next core.first core.latest h };
+    ghost stands = { λ tables h. ⟦<Remembering<RowCore, NonceStore> as Core>⟧.stands tables.core h };
 
-    ghost frugal = { IsFrugal };
+    ghost frugal = { λ signed. IsFrugal signed.call };
 
-    fn step(&mut self, moment: u64, draw: &[u64; 48], call: &Call) -> Result<Reply, Mem> {
-        advance(&mut self.grants, &mut self.tokens, self.latest, moment);
-        self.latest = self.latest.max(moment);
-        let supply = Supply {
-            moment: self.latest,
-            first: self.first,
-            words: draw,
-        };
-        let answered = answer_call(
-            self.alloc,
-            &self.rules,
-            &supply,
-            self.next,
-            &mut self.grants,
-            &mut self.tokens,
-            call,
-        )?;
-        self.next += answered.opened;
-        self.first += answered.drawn;
-        Ok(answered.reply)
+    fn step(&mut self, moment: u64, draw: &[u64; 48], signed: &Signed) -> Result<Reply, Mem> {
+        self.core.step(moment, draw, signed)
     }
 
-    ghost legal = { λ core h stands. stands.rows.is_legal };
+    ghost legal = { λ tables h stands. stands.legal };
 
-    ghost renumbers = { λ core h k same stands. stands-renumbered core.rules core.grants core.tokens core.next core.first core.latest h k same stands };
+    ghost renumbers = { λ tables h k same stands.
+        signed-renumbered SignedFits _ _ _ _ _ h k (λ a b. stands-renumbered _ _ _ _ _ _ a b) same stands };
 }

@@ -35,7 +35,7 @@ use Rattle.gnap_model.specs.Continue.{with_grant, is_before, is_early, is_wrong,
 use Rattle.gnap_model.specs.Change.{modify_by, other_live_tokens}
 use Rattle.gnap_model.specs.Manage.{rotate_key, on_grant}
 use Rattle.gnap_model.specs.Front.{decide_on}
-use Rattle.gnap_model.specs.Actions.{Action, Supply, on_found, with_key}
+use Rattle.gnap_model.specs.Actions.{Action, Supply, on_found, with_owner}
 use Rattle.gnap_model.specs.Actions.Action.{Refuse, OpenAtOnce, ShowRound, ShowHandle, RenewDoor, CollectDecision, WrongReference, LastWrongReference, RefuseAndFinalize, ModifyAtOnce, ModifyAsking, CancelGrant, RevokeToken}
 use Rattle.gnap_model.specs.Answer.{action_of}
 use Rattle.gnap_model.proofs.TrailNotes.{HasNote, first_noted, grant_named, terms_noted, token_found}
@@ -175,10 +175,10 @@ managed_goes trail now value t e =
 on_row_is : (code : ErrorCode) (trail : List Note) (now : ℕ) (key : Text) (t : TokenNote) (act : OpeningNote → Action) → is_finalized (grant_state trail t.grant now) ≡ false
     → on_row code (grant_rows trail now) key (token_row trail t) act ≡ on_grant code trail key t act
 on_row_is code trail now key t act going =
-    ap (on_found code (λ (row : GrantRow). with_key act key (opening_of row))) (number_is trail now t.grant) ∙ at (is_finalized (grant_state trail t.grant now)) (first_of (opening_in t.grant) trail) going
+    ap (on_found code (λ (row : GrantRow). with_owner act t.key key (opening_of row))) (number_is trail now t.grant) ∙ at (is_finalized (grant_state trail t.grant now)) (first_of (opening_in t.grant) trail) going
   where
     at : (f : Bool) (x : Option OpeningNote) → f ≡ false
-        → on_found code (λ (row : GrantRow). with_key act key (opening_of row)) (option_and_then (λ (o : OpeningNote). some_if (not f) (grant_row trail now o)) x) ≡ on_found code (with_key act key) x
+        → on_found code (λ (row : GrantRow). with_owner act t.key key (opening_of row)) (option_and_then (λ (o : OpeningNote). some_if (not f) (grant_row trail now o)) x) ≡ on_found code (with_owner act t.key key) x
     at true x e = cc e
     at false None e = refl
     at false (Some o) e = refl

@@ -113,11 +113,11 @@ action_known supply trail call (ModifyAsking o retired request modes) g sound a 
     pend_known g supply o (retire retired ++ Terms (terms_for o request) ∷ []) modes None k (known_retired g retired (Terms (terms_for o request) ∷ []) (k, tt))
 action_known supply trail call (CancelGrant o) g sound a m p =
     let k : o.grant < g = old_known (outcome_of supply (CancelGrant o)).notes trail o (names_known trail supply.now call o sound a.0) g p in (k, tt)
-action_known supply trail call (RotateToken o u) g sound a m p =
+action_known supply trail call (RotateToken o u key) g sound a m p =
     let same : o.grant ≡ u.grant = (opening_noted trail u.grant o a.3).1 in
     let u_sound = sound_note (next_grant trail) _ trail (Issued u) sound (managed_issued trail supply.now a.1.0 u a.1.2).0 in
     let low : u.grant < next_grant trail = u_sound.1 in
-    let grows = sum_by-append (λ (n : Note). cond (is_opening n) 1 0) (reverse (outcome_of supply (RotateToken o u)).notes) trail in
+    let grows = sum_by-append (λ (n : Note). cond (is_opening n) 1 0) (reverse (outcome_of supply (RotateToken o u key)).notes) trail in
     (tt, (omega arith, tt))
 action_known supply trail call (RevokeToken u false) g sound a m p = (tt, tt)
 action_known supply trail call _ g sound a m p = tt

@@ -32,7 +32,7 @@ use Rattle.gnap_model.specs.Continue.{is_early, is_wrong, decided_asks, continue
 use Rattle.gnap_model.specs.Change.{modify_by, tokens_of, other_live_tokens}
 use Rattle.gnap_model.specs.Manage.{rotate_key}
 use Rattle.gnap_model.specs.Front.{may_decide, rights_or}
-use Rattle.gnap_model.specs.Actions.{Action, Supply, on_found, with_key}
+use Rattle.gnap_model.specs.Actions.{Action, Supply, on_found, with_owner}
 use Rattle.gnap_model.specs.Actions.Action.{Refuse, ShowToken, ShowInactive, OpenAtOnce, OpenAsking, ShowHandle, TakeDecision, RenewDoor, CollectDecision, WrongReference, LastWrongReference, RefuseAndFinalize, ModifyAtOnce, ModifyAsking, CancelGrant, RevokeToken}
 use Rattle.gnap_model.specs.Answer.{action_of}
 use Rattle.gnap_laws.proofs.Causes.{if_both, if_known}
@@ -47,8 +47,8 @@ found : {A : Type 0} (P : Action → Type 0) (code : ErrorCode) (act : A → Act
 found P code act None r h = r
 found P code act (Some y) r h = h y refl
 
-keyed : (P : Action → Type 0) (act : OpeningNote → Action) (key : Text) (o : OpeningNote) → ((code : ErrorCode) → P (Refuse code)) → P (act o) → P (with_key act key o)
-keyed P act key o r h = if_both P (same_text o.key key) (act o) (Refuse _) h (r _)
+owned : (P : Action → Type 0) (act : OpeningNote → Action) (owner key : Text) (o : OpeningNote) → ((code : ErrorCode) → P (Refuse code)) → P (act o) → P (with_owner act owner key o)
+owned P act owner key o r h = if_both P (same_text owner key) (act o) (Refuse _) h (r _)
 
 asked : (P : Action → Type 0) (ask : Modes → Action) (modes : Option Modes) → ((code : ErrorCode) → P (Refuse code)) → ((m : Modes) → P (ask m)) → P (ask_user ask modes)
 asked P ask None r h = r _
@@ -111,12 +111,12 @@ more_cause rules supply trail (Decide front request) = found (MoreCause trail su
     (λ r a. found (MoreCause trail supply.now) _ _ (terms_of trail r.grant) tt
     (λ w b. if_both (MoreCause trail supply.now) (may_decide request.verdict (asked_rights w.asks) (rights_or (asked_rights w.asks) request.rights)) (TakeDecision r _ request) (Refuse _) (request.handle, a) tt))
 more_cause rules supply trail (Continue key value reference) = found (MoreCause trail supply.now) _ _ (named_grant trail supply.now value) tt
-    (λ o e. keyed (MoreCause trail supply.now) (λ x. continue_at (grant_state trail x.grant supply.now) trail supply.now x reference) key o (λ c. tt) (continue_more (grant_state trail o.grant supply.now) trail supply.now o reference))
+    (λ o e. owned (MoreCause trail supply.now) (λ x. continue_at (grant_state trail x.grant supply.now) trail supply.now x reference) o.key key o (λ c. tt) (continue_more (grant_state trail o.grant supply.now) trail supply.now o reference))
 more_cause rules supply trail (Modify key value request) = found (MoreCause trail supply.now) _ _ (named_grant trail supply.now value) tt
-    (λ o e. keyed (MoreCause trail supply.now) (λ x. modify_by (settle rules x.key (consent_of trail x.grant) request) trail supply.now x request) key o (λ c. tt) (modify_more (settle rules o.key (consent_of trail o.grant) request) trail supply.now o request))
-more_cause rules supply trail (Cancel key value) = found (MoreCause trail supply.now) _ _ (named_grant trail supply.now value) tt (λ o e. keyed (MoreCause trail supply.now) CancelGrant key o (λ c. tt) tt)
+    (λ o e. owned (MoreCause trail supply.now) (λ x. modify_by (settle rules x.key (consent_of trail x.grant) request) trail supply.now x request) o.key key o (λ c. tt) (modify_more (settle rules o.key (consent_of trail o.grant) request) trail supply.now o request))
+more_cause rules supply trail (Cancel key value) = found (MoreCause trail supply.now) _ _ (named_grant trail supply.now value) tt (λ o e. owned (MoreCause trail supply.now) CancelGrant o.key key o (λ c. tt) tt)
 more_cause rules supply trail (Rotate key value new_key) = found (MoreCause trail supply.now) _ _ (managed_token trail supply.now value) tt
     (λ t e. if_both (MoreCause trail supply.now) (is_live trail supply.now t) _ (Refuse _)
-    (found (MoreCause trail supply.now) _ _ (first_of (opening_in t.grant) trail) tt (λ o is. keyed (MoreCause trail supply.now) (rotate_key new_key t) key o (λ c. tt) (rotate_more trail supply.now new_key t o))) tt)
+    (found (MoreCause trail supply.now) _ _ (first_of (opening_in t.grant) trail) tt (λ o is. owned (MoreCause trail supply.now) (rotate_key new_key t) t.key key o (λ c. tt) (rotate_more trail supply.now new_key t o))) tt)
 more_cause rules supply trail (Revoke key value) = found (MoreCause trail supply.now) _ _ (managed_token trail supply.now value) tt
-    (λ t e. found (MoreCause trail supply.now) _ _ (first_of (opening_in t.grant) trail) tt (λ o is. keyed (MoreCause trail supply.now) (λ o. RevokeToken t (list_any (is_retirement t.serial) trail)) key o (λ c. tt) tt))
+    (λ t e. found (MoreCause trail supply.now) _ _ (first_of (opening_in t.grant) trail) tt (λ o is. owned (MoreCause trail supply.now) (λ o. RevokeToken t (list_any (is_retirement t.serial) trail)) t.key key o (λ c. tt) tt))

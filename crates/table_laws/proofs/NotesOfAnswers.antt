@@ -109,7 +109,7 @@ action_follows supply trail call (ModifyAsking o retired request modes) sound kn
     (modified_below trail supply.now o retired supply.first sound a.2 (omega arith)) (named_goes trail supply.now a.0.0 o a.0.2)
     (λ after going. (tt, (tt, ((going, round_later supply o modes), tt))))
 action_follows supply trail call (CancelGrant o) sound known first a m = (tt, tt)
-action_follows supply trail call (RotateToken o u) sound known first a m =
+action_follows supply trail call (RotateToken o u key) sound known first a m =
     let u_sound = sound_note (next_grant trail) (first_serial trail) trail (Issued u) sound (managed_issued trail supply.now a.1.0 u a.1.2).0 in
     let low : u.serial < first_serial trail = u_sound.0 in
     let going : is_finalized (grant_state trail u.grant supply.now) ≡ false = live_goes (grant_state trail u.grant supply.now) (not (list_any (is_retirement u.serial) trail)) (nat_lt supply.now u.until) a.2 in

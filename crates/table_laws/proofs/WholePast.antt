@@ -120,7 +120,7 @@ action_doored supply (ModifyAsking o retired request modes) =
     each-append (HasDoorNote (outcome_of supply (ModifyAsking o retired request modes)).notes) (retire retired ++ Terms (terms_for o request) ∷ []) (door_note supply o 0 ∷ Pended (round_for supply o modes) ∷ [])
     (retire_doored _ retired (Terms (terms_for o request) ∷ []) (tt, tt)) (tt, (tt, tt))
 action_doored supply (CancelGrant o) = (tt, tt)
-action_doored supply (RotateToken o t) = (tt, (tt, tt))
+action_doored supply (RotateToken o t key) = (tt, (tt, tt))
 action_doored supply (RevokeToken t false) = (tt, tt)
 action_doored supply _ = tt
 

@@ -1,3 +1,4 @@
 mod Growing
 mod Passing
 mod Summing
+mod TwoEntries

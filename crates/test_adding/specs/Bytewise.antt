@@ -1,12 +1,12 @@
 -- Bytes as messages to the adding machine.
-use Rattle.std.specs.Prelude.{◌≡◌, ◌≢◌, ℕ, ◌<◌, ◌%◌, ◌==◌, ◌⊎◌, List, [], ◌∷◌, ◌++◌, if◌then◌else◌, Result, OnOk, IfErr, MatchResult}
+use Rattle.std.specs.Prelude.{◌≡◌, ◌≢◌, ℕ, ◌<◌, ◌%◌, ◌==◌, ◌⊎◌, Bool, true, false, List, [], ◌∷◌, ◌++◌, if◌then◌else◌, Result, OnOk, IfErr, MatchResult}
 use mathlib.Core.Path.{ap}
 use Rattle.gnap_io.specs.Outside.{Told, Served, Takes, IsAtEnd, Rose}
-use Rattle.histories.specs.declared.entry.Entry.{Entry}
 use Rattle.histories.specs.Turns.{Face, Turn, IsTurn}
 use Rattle.test_adding.specs.Adding.{adding}
+use Rattle.test_adding.specs.Amounts.{AddingEntry}
 use Rattle.test_adding.specs.declared.adding.Call.{Call}
-use Rattle.test_adding.specs.declared.adding.Call.TheVariants.{Add}
+use Rattle.test_adding.specs.declared.adding.Call.TheVariants.{Add, Lapse}
 use Rattle.test_adding.specs.declared.adding.Reply.{Reply}
 use Rattle.test_adding.specs.declared.adding.Reply.TheVariants.{Sum, Lapsed}
 use Rattle.serving.specs.Connections.{Wire, Session}
@@ -42,9 +42,22 @@ byte_face = record {
   busy = 1 ∷ [];
 }
 
+-- A byte's turn. 253 is entered as two amounts, at one moment: 250 and 3. Any other byte has the turn of its face.
+pub data IsByteTurn (start : ℕ) (last : Bool) : Turn ℕ AddingEntry → Type 0 where
+  plain : (t : Turn ℕ AddingEntry) → t.message ≢ 253 → IsTurn adding byte_face start last t → IsByteTurn start last t
+  -- both were answered, and the second sum is said
+  in_two : (e f : AddingEntry) → e.call ≡ Add 250 → f.call ≡ Add 3 → e.moment ≡ f.moment
+      → IsByteTurn start last (record { message = 253; moment = f.moment; entries = e ∷ f ∷ []; bytes = byte_face.prints start last f.reply; on = true })
+  -- memory ran out at the first
+  cut_off : (e : AddingEntry) → e.call ≡ Lapse
+      → IsByteTurn start last (record { message = 253; moment = e.moment; entries = e ∷ []; bytes = byte_face.busy; on = false })
+  -- or at the second, or when its sum was to be said
+  half_said : (e f : AddingEntry) → e.call ≡ Add 250 → (f.call ≡ Add 3) ⊎ (f.call ≡ Lapse) → e.moment ≡ f.moment
+      → IsByteTurn start last (record { message = 253; moment = f.moment; entries = e ∷ f ∷ []; bytes = byte_face.busy; on = false })
+
 -- a connection was served by these turns, and so it ended
-abbrev pub IsByteSession : ℕ → Served → List (Turn ℕ (Entry Call Reply ℕ)) → Type 0
-IsByteSession rules conn turns = (ended : ConnectionEnd NoAmount) × Session byte_wire (IsTurn adding byte_face rules) conn turns ended
+abbrev pub IsByteSession : ℕ → Served → List (Turn ℕ AddingEntry) → Type 0
+IsByteSession start conn turns = (ended : ConnectionEnd NoAmount) × Session byte_wire (IsByteTurn start) conn turns ended
 
 -- Some bytes were read, where none were held, and they are held then.
 pub record Fills (held held_now : List ℕ) (before after : Told) (result : Result (Unit {0}) (NoMessage NoAmount)) : Type 0 where

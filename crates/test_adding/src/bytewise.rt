@@ -1,6 +1,8 @@
 //! Bytes as messages.
 ghost use Rattle.std.specs.Prelude.{◌≡◌, ◌<◌, length, [], ◌∷◌, ◌++◌, IfOk};
-ghost use Rattle.test_adding.specs.Bytewise.{Fills, HasFillCause};
+ghost use Rattle.serving.specs.Desks.{desk_backend};
+ghost use Rattle.serving.specs.MessageTurns.{TakesTurn};
+ghost use Rattle.test_adding.specs.Bytewise.{Fills, HasFillCause, IsByteTurn};
 
 use crate::adding::{Adding, Call, Reply};
 use crate::fault::NoAmount;
@@ -10,10 +12,13 @@ use gnap_io::device::{Failed, Sink, Source, write_all};
 use gnap_io::gear::{Clock, Draws};
 use histories::machine::Desk;
 use serving::connection::serve_connection;
-use serving::ends::NoMessage;
+use serving::ends::{AfterTurn, NoMessage};
 use serving::front::Front;
+use serving::message_reader::MessageReader;
 use serving::message_step::MessageStep;
+use serving::message_turn::{enter, say, say_busy, take_turn};
 use serving::server::Server;
+use serving::turn_taker::TurnTaker;
 use std::alloc::Global;
 
 /// A server of an adding machine that starts from an amount.
@@ -51,34 +56,20 @@ fn fill<S: Source>(source: &mut S, held: &mut Bytes) -> Result<(), NoMessage<NoA
     }
 }
 
-impl Server for Bytewise {
-    ghost use Rattle.test_adding.specs.Bytewise.{byte_wire, byte_face, stays};
-
-    type M = Adding;
+impl MessageReader for Bytewise {
+    ghost use Rattle.test_adding.specs.Bytewise.{byte_wire, stays};
 
     type Message = u8;
 
     type Fault = NoAmount;
 
-    type Response = Bytes;
-
     type Held = Bytes;
 
-    ghost rules = { λ server. server.start };
-
-    ghost face = { byte_face };
-
     ghost wire = { byte_wire };
-
-    ghost text = { λ response. response };
-
-    ghost can_say = { λ reply. Unit {0} };
 
     ghost held_bytes = { λ held. held };
 
     ghost stays = { stays };
-
-    ghost says_all = { λ rules before e after legal. tt };
 
     fn hold_none(&self, alloc: Global) -> Bytes {
         Bytes::new(alloc)
@@ -108,6 +99,32 @@ impl Server for Bytewise {
     fn is_last(&self, message: &u8) -> bool {
         *message == 255
     }
+
+    fn write_starved<K: Sink>(&self, out: &mut K) -> Result<(), Failed> {
+        write_all(out, &[2])
+    }
+
+    fn write_refusal<K: Sink>(&self, _fault: &NoAmount, out: &mut K) -> Result<(), Failed> {
+        write_all(out, &[0])
+    }
+}
+
+impl Server for Bytewise {
+    ghost use Rattle.test_adding.specs.Bytewise.{byte_face};
+
+    type M = Adding;
+
+    type Response = Bytes;
+
+    ghost rules = { λ server. server.start };
+
+    ghost face = { byte_face };
+
+    ghost text = { λ response. response };
+
+    ghost can_say = { λ reply. Unit {0} };
+
+    ghost says_all = { λ rules before e after legal. tt };
 
     fn step(
         &self,
@@ -140,13 +157,61 @@ impl Server for Bytewise {
     fn write_busy<K: Sink>(&self, out: &mut K) -> Result<(), Failed> {
         write_all(out, &[1])
     }
+}
 
-    fn write_starved<K: Sink>(&self, out: &mut K) -> Result<(), Failed> {
-        write_all(out, &[2])
+// The turn of the byte 253: two amounts are entered at one moment, and the second sum is said.
+fn turn_in_two<D: Desk<M = Adding>, S: Source + Sink, G: Clock + Draws>(
+    server: &Bytewise,
+    alloc: Global,
+    desk: &mut D,
+    conn: &mut S,
+    gear: &mut G,
+    last: bool,
+) -> AfterTurn
+    requires { (desk_backend D.rules D.number D.home D.seen server.now.start).has_room desk.old 1 }
+    ensures { (h : _) → D.seen desk.old h → TakesTurn (desk_backend D.rules D.number D.home D.seen server.now.start) (IsByteTurn server.now.start) last 253
+        desk.old h desk.new (G.state gear.old) (G.state gear.new) (S.told conn.old) (S.told conn.new) (S.faults conn.old) (S.faults conn.new) result }
+{
+    let moment = gear.now();
+    match enter(desk, gear, moment, Call::Add(250)) {
+        Err(Mem) => say_busy(server, conn),
+        Ok(_) => match enter(desk, gear, moment, Call::Add(3)) {
+            Err(Mem) => say_busy(server, conn),
+            Ok(reply) => match server.respond(alloc, &reply, last) {
+                Err(Mem) => say_busy(server, conn),
+                Ok(response) => say(server, conn, &response),
+            },
+        },
     }
+}
 
-    fn write_refusal<K: Sink>(&self, _fault: &NoAmount, out: &mut K) -> Result<(), Failed> {
-        write_all(out, &[0])
+impl<D: Desk<M = Adding>, G: Clock + Draws> TurnTaker<D, G> for Bytewise {
+    ghost use Rattle.std.specs.Prelude.{List};
+    ghost use Rattle.serving.specs.Desks.{desk_backend};
+    ghost use Rattle.test_adding.specs.Amounts.{AddingEntry};
+    ghost use Rattle.test_adding.specs.Bytewise.{IsByteTurn};
+
+    ghost Entry = { AddingEntry };
+
+    ghost Past = { List AddingEntry };
+
+    ghost backend_kind = { λ server. desk_backend D.rules D.number D.home D.seen server.start };
+
+    ghost is_turn = { λ server. IsByteTurn server.start };
+
+    fn turn<S: Source + Sink>(
+        &self,
+        alloc: Global,
+        desk: &mut D,
+        conn: &mut S,
+        gear: &mut G,
+        message: &u8,
+        last: bool,
+    ) -> AfterTurn {
+        if *message == 253 {
+            return turn_in_two(self, alloc, desk, conn, gear, last);
+        }
+        take_turn(self, alloc, desk, conn, gear, message, last)
     }
 }
 
@@ -159,7 +224,7 @@ impl Front for Bytewise {
 
     ghost rules = { λ server. server.start };
 
-    ghost session = { IsByteSession };
+    ghost session = { λ server. IsByteSession server.start };
 
     fn serve<D: Desk<M = Adding>, S: Source + Sink, G: Clock + Draws>(
         &self,

@@ -2,6 +2,7 @@
 use bytes_and_lists::bytes::Bytes;
 use bytes_and_lists::memory::{Duplicate, Mem};
 use bytes_and_lists::seq::Seq;
+use gnap_model::key_rows::KeyRows;
 use gnap_model::notes::OpeningNote;
 use gnap_model::objects::{Ask, ErrorCode, Finish, KeyRow, Modes, Role, Setup};
 use gnap_model::rights::{Right, RightObject, Rights};
@@ -50,9 +51,9 @@ fn copies_setup(alloc: Global) -> Result<bool, Mem> {
     let setup = Setup {
         base: Bytes::new(alloc),
         front: Bytes::new(alloc),
-        keys,
+        keys: KeyRows::new(alloc, keys)?,
     };
-    Ok(setup.copy()?.keys.len() == 1)
+    Ok(setup.copy()?.keys.as_slice().len() == 1)
 }
 
 fn finds_key(alloc: Global) -> Result<bool, Mem> {
@@ -68,7 +69,7 @@ fn finds_key(alloc: Global) -> Result<bool, Mem> {
     let setup = Setup {
         base: Bytes::new(alloc),
         front: Bytes::new(alloc),
-        keys,
+        keys: KeyRows::new(alloc, keys)?,
     };
     Ok(match setup.key(b"k") {
         Some(key) => key.secret.as_slice() == b"s".as_slice() && setup.key(b"K").is_none(),

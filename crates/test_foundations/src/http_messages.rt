@@ -112,7 +112,7 @@ const CODED: Answer = Answer::Fault(EdgeFault::Coded);
 const CUT: Answer = Answer::Fault(EdgeFault::Truncated);
 
 // A front, a filler so many times and a back, and what is answered.
-const ANSWERS: [(&[u8], &[u8], usize, &[u8], Answer); 27] = [
+const ANSWERS: [(&[u8], &[u8], usize, &[u8], Answer); 61] = [
     (b"", b"", 0, b"", Answer::End),
     (
         b"POST /gnap HTTP/1.1\r\nHost: a\r\nContent-Length: 2\r\n\r\n{}",
@@ -240,6 +240,130 @@ const ANSWERS: [(&[u8], &[u8], usize, &[u8], Answer); 27] = [
     (GET, b"A: b\r\n", 65, b"\r\n", LARGE),
     (GET, b"A: b\r\n", 65, b"", CUT),
     (GET, b"A: b\r\n", 65, b"a b\r\n", BAD),
+    // Bounds and lines of RFC 9112, sections 2.2, 5.1, 5.2 and 6.3, and of docs/HTTP.md.
+    (
+        b"GET / HTTP/1.1\r\nA: ",
+        b"x",
+        16_360,
+        b"\r\n\r\n",
+        Answer::Message {
+            fields: 1,
+            body: 0,
+            last: false,
+            held: 0,
+        },
+    ),
+    (b"GET / HTTP/1.1\r\nA: ", b"x", 16_363, b"\r\n\r\n", LARGE),
+    (
+        b"GET / HTTP/1.1\r\nContent-Length: 65537\r\n\r\n",
+        b"x",
+        65_537,
+        b"",
+        LARGE,
+    ),
+    (GET, b"Content-Length: +5\r\n", 1, b"\r\nabcde", BAD),
+    (GET, b"Content-Length: -5\r\n", 1, b"\r\nabcde", BAD),
+    (GET, b"Content-Length: 5, 5\r\n", 1, b"\r\nabcde", BAD),
+    (GET, b"Content-Length: 5 5\r\n", 1, b"\r\nabcde", BAD),
+    (GET, b"Content-Length: 5,\r\n", 1, b"\r\nabcde", BAD),
+    (GET, b"Content-Length: 0x5\r\n", 1, b"\r\nabcde", BAD),
+    (GET, b"Content-Length: 5.0\r\n", 1, b"\r\nabcde", BAD),
+    (GET, b"Content-Length:  \r\n", 1, b"\r\nabcde", BAD),
+    (
+        GET,
+        b"Content-Length: 05\r\n",
+        1,
+        b"\r\nabcde",
+        Answer::Message {
+            fields: 1,
+            body: 5,
+            last: false,
+            held: 0,
+        },
+    ),
+    (
+        GET,
+        b"Content-Length:   5\t\r\n",
+        1,
+        b"\r\nabcde",
+        Answer::Message {
+            fields: 1,
+            body: 5,
+            last: false,
+            held: 0,
+        },
+    ),
+    (
+        GET,
+        b"Content-Length: 00000000000000000000000005\r\n",
+        1,
+        b"\r\nabcde",
+        Answer::Message {
+            fields: 1,
+            body: 5,
+            last: false,
+            held: 0,
+        },
+    ),
+    (GET, b"Content-Length: 00065537\r\n", 1, b"\r\nabcde", LARGE),
+    (
+        GET,
+        b"Content-Length: 18446744073709551615\r\n",
+        1,
+        b"\r\nabcde",
+        LARGE,
+    ),
+    (GET, b"Content-Length: 5\r\n", 2, b"\r\nabcde", BAD),
+    (GET, b"A : b\r\n", 1, b"\r\n", BAD),
+    (GET, b" A: b\r\n", 1, b"\r\n", BAD),
+    (GET, b"A: b\r\n c\r\n", 1, b"\r\n", BAD),
+    (GET, b"A: b\r\n\tc\r\n", 1, b"\r\n", BAD),
+    (GET, b"A: b\rc\r\n", 1, b"\r\n", BAD),
+    (GET, b"A: b\x00c\r\n", 1, b"\r\n", BAD),
+    (GET, b"A\x00: b\r\n", 1, b"\r\n", BAD),
+    (GET, b"A: b\x7f\r\n", 1, b"\r\n", BAD),
+    (GET, b": b\r\n", 1, b"\r\n", BAD),
+    (GET, b"A\r\n", 1, b"\r\n", BAD),
+    (
+        GET,
+        b"A: \xff\t\x80\r\n",
+        1,
+        b"\r\n",
+        Answer::Message {
+            fields: 1,
+            body: 0,
+            last: false,
+            held: 0,
+        },
+    ),
+    (
+        GET,
+        b"A:b\r\n",
+        1,
+        b"\r\n",
+        Answer::Message {
+            fields: 1,
+            body: 0,
+            last: false,
+            held: 0,
+        },
+    ),
+    (
+        b"GET / HTTP/1.1\nA: b\n",
+        b"B: c\r\n",
+        1,
+        b"\n",
+        Answer::Message {
+            fields: 2,
+            body: 0,
+            last: false,
+            held: 0,
+        },
+    ),
+    (b"GET / HTTP/1.1\r", b"", 0, b"A: b\r\n\r\n", BAD),
+    (b"GET /\x00 HTTP/1.1\r\n\r\n", b"", 0, b"", BAD),
+    (b"GET /\r HTTP/1.1\r\n\r\n", b"", 0, b"", BAD),
+    (b"GET\t/ HTTP/1.1\r\n\r\n", b"", 0, b"", BAD),
 ];
 
 // The texts that are answered otherwise than the table says, however they are cut.

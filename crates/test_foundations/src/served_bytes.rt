@@ -1,6 +1,6 @@
 //! What two gears' connections are answered.
-ghost use Rattle.std.specs.Prelude.{◌≡◌, IfOk};
-ghost use Rattle.gnap_io.specs.Gears.{new_gear, AreStarted};
+ghost use Rattle.std.specs.Prelude.{◌≡◌, ◌<◌, ◌≤◌, All, IfOk, length};
+ghost use Rattle.gnap_io.specs.Gears.{new_gear, AreStarted, IsUnused};
 ghost use Rattle.gnap_io.specs.MemoryForms.{IsUnusedConn};
 
 use bytes_and_lists::bytes::Bytes;
@@ -47,18 +47,38 @@ fn two_gears(alloc: Global) -> Result<Vec<MemGear>, Mem>
     Ok(gears)
 }
 
+// One with a byte that enters two amounts, and one more.
+fn one_gear(alloc: Global) -> Result<Vec<MemGear>, Mem>
+    ensures { IfOk result (λ gears. AreStarted ⟦<MemGear as Counted>⟧.state 1 4294967295 gears.items) }
+{
+    let mut gears = Vec::new(alloc);
+    gears.push(gear(alloc, &[253, 7], &[253, 255])?)?;
+    Ok(gears)
+}
+
 // The gears after all was served.
-fn served_gears<R: Threads + Wait + Sync>(rt: &R, alloc: Global) -> Result<Vec<MemGear>, Mem> {
+fn served_gears<R: Threads + Wait + Sync>(
+    rt: &R,
+    alloc: Global,
+    gears: Vec<MemGear>,
+) -> Result<Vec<MemGear>, Mem>
+    requires some { 0 < length gears.items }
+    requires few { length gears.items ≤ 64 }
+    requires unused { All (λ gear. IsUnused (⟦<MemGear as Counted>⟧.state gear)) gears.items }
+    requires within { All (λ gear. (⟦<MemGear as Counted>⟧.state gear).left ≤ 4294967295) gears.items }
+{
     let front = Bytewise { start: 0 };
-    let (gears, served) = serve_gears(
-        rt,
-        alloc,
-        Adder::new(alloc, 0, 0),
-        &front,
-        two_gears(alloc)?,
-    );
+    let (gears, served) = serve_gears(rt, alloc, Adder::new(alloc, 0, 0), &front, gears);
     served?;
     Ok(gears)
+}
+
+fn two_served<R: Threads + Wait + Sync>(rt: &R, alloc: Global) -> Result<Vec<MemGear>, Mem> {
+    served_gears(rt, alloc, two_gears(alloc)?)
+}
+
+fn one_served<R: Threads + Wait + Sync>(rt: &R, alloc: Global) -> Result<Vec<MemGear>, Mem> {
+    served_gears(rt, alloc, one_gear(alloc)?)
 }
 
 // What was written to a connection.
@@ -70,7 +90,7 @@ fn written(gears: &[MemGear], gear: usize, place: usize) -> Option<&[u8]> {
 /// answered.
 #[test]
 fn two_gears_are_served(rt: HostRuntime) {
-    let gears = served_gears(&rt, rt.alloc());
+    let gears = two_served(&rt, rt.alloc());
     assert!(rt; gears.is_ok(), "no memory");
     let gears = gears.unwrap_or(Vec::new(rt.alloc()));
     for (gear, place, want) in [
@@ -83,4 +103,23 @@ fn two_gears_are_served(rt: HostRuntime) {
     let many = written(&gears, 1, 1).unwrap_or(&[]);
     assert_eq!(rt; many.len(), 1001, "a thousand messages");
     assert_eq!(rt; &many[998..], &[230u8, 231, 255][..], "the thousandth");
+}
+
+/// 253 enters 250 and 3 and is answered by their sum, and what comes behind it counts both: 253 + 7 = 260, then 260 + 253 = 513 and 513 + 255 = 768,
+/// each but for a multiple of 256. 255 is the last message, and its reply has one more byte.
+#[test]
+fn a_byte_enters_two_amounts(rt: HostRuntime) {
+    let gears = one_served(&rt, rt.alloc());
+    assert!(rt; gears.is_ok(), "no memory");
+    let gears = gears.unwrap_or(Vec::new(rt.alloc()));
+    assert_eq!(rt;
+        written(&gears, 0, 0),
+        Some(&[253u8, 4][..]),
+        "250 and 3, and 7"
+    );
+    assert_eq!(rt;
+        written(&gears, 0, 1),
+        Some(&[1u8, 0, 255][..]),
+        "250 and 3, and 255"
+    );
 }

@@ -1,4 +1,5 @@
 //! A configuration, and a client of it.
+use bytes_and_lists::bytes::Bytes;
 use gnap_client::{Client, read_client_config};
 use std::test::Fail;
 
@@ -12,6 +13,7 @@ fn a_new_client_has_nothing_to_poll(rt: HostRuntime) -> Result<(), Fail> {
     };
     assert!(rt; config.secret.as_slice() == b"secret-key-of-c1".as_slice());
     let mut client = Client::new(rt.alloc(), config);
-    assert!(rt; client.poll(1000).is_err());
+    let nonce = Bytes::from_slice(rt.alloc(), b"n1")?;
+    assert!(rt; client.poll(1000, &nonce).is_err());
     Ok(())
 }

@@ -1,11 +1,11 @@
-//! Tests of grant calls, servers and clients: each public call of these libraries once, with ample memory. What is printed, signed and answered is
-//! compared with what other implementations worked out.
+//! Tests of grant calls, clients, files, loads and resource servers: each public call of these libraries once, with ample memory. What is printed, signed and
+//! answered is compared with what other implementations worked out.
 #![tactic(auto)]
 
 #[cfg(test)]
-mod client_configs;
+mod cached_requests;
 #[cfg(test)]
-mod gates;
+mod client_configs;
 #[cfg(test)]
 mod grant_texts;
 #[cfg(test)]
@@ -24,8 +24,6 @@ mod request_bytes;
 mod routes;
 #[cfg(test)]
 mod script_lines;
-#[cfg(test)]
-mod served_messages;
 #[cfg(test)]
 mod services;
 #[cfg(test)]

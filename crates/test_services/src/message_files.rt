@@ -76,7 +76,7 @@ fn signed(alloc: Global, id: &[u8], created: u64, text: &[u8]) -> Result<Bytes, 
     let setup = setup(alloc)?;
     let mut source = source(alloc, text, 0)?;
     let id = Bytes::from_slice(alloc, id)?;
-    sign_file(alloc, &setup, &id, created.min(9_999), &mut source)
+    sign_file(alloc, &setup, &id, created.min(9_999), None, &mut source)
 }
 
 fn verified(alloc: Global, now: u64, text: &[u8], bad_read: u64) -> Result<Bytes, FileFault> {

@@ -71,7 +71,7 @@ fn judgements_are_read(rt: HostRuntime) {
         (
             200,
             r#"{"access":["photos"],"active":true,"exp":4600,"iat":1000,"instance_id":"c1","iss":"https://as.example/gnap","key":"c1"}"#,
-            "active",
+            "active until 4600",
         ),
         (
             200,
@@ -85,7 +85,8 @@ fn judgements_are_read(rt: HostRuntime) {
         let found = match read_judgement(rt.alloc(), status, body.as_bytes()) {
             Err(Mem) => "memory",
             Ok(None) => "none",
-            Ok(Some(Judgement::Active { .. })) => "active",
+            Ok(Some(Judgement::Active { exp: 4600, .. })) => "active until 4600",
+            Ok(Some(Judgement::Active { .. })) => "active until another moment",
             Ok(Some(Judgement::Inactive)) => "inactive",
         };
         assert!(rt; found == expected, "{body}: {found}");

@@ -5,6 +5,7 @@ use bytes_and_lists::bytes::Bytes;
 use bytes_and_lists::memory::Mem;
 use bytes_and_lists::seq::Seq;
 use gnap_model::calls::Reply;
+use gnap_model::key_rows::KeyRows;
 use gnap_model::objects::{ErrorCode, Setup};
 use gnap_replies::{print_client_discovery, print_error, print_reply, print_server_discovery};
 use std::alloc::Global;
@@ -17,7 +18,7 @@ fn setup(alloc: Global) -> Result<Setup, Mem>
     Ok(Setup {
         base: Bytes::from_slice(alloc, b"https://as.example")?,
         front: Bytes::from_slice(alloc, b"https://front.example")?,
-        keys: Seq::new(alloc),
+        keys: KeyRows::new(alloc, Seq::new(alloc))?,
     })
 }
 

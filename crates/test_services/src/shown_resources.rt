@@ -9,7 +9,7 @@ use gnap_io::gear::Counted;
 use gnap_io::memory_conn::MemConn;
 use gnap_io::memory_gear::MemGear;
 use gnap_io::memory_link::MemLink;
-use resource_server::read_rs_setup;
+use resource_server::{AskingGuard, read_rs_setup};
 use rs_edge::serve_door;
 use std::alloc::Global;
 use std::test::Fail;
@@ -100,7 +100,7 @@ fn a_signed_request_is_shown_the_text(rt: HostRuntime) -> Result<(), Fail> {
     };
     let mut link = MemLink::new(replies, Vec::new(alloc));
     let mut gear = gear;
-    serve_door(alloc, &setup, &mut link, &mut gear);
+    serve_door(alloc, &mut AskingGuard, &setup, &mut link, &mut gear);
     assert!(rt; matches!(gear.served(), [conn] if conn.written() == shown.as_slice()));
     assert!(rt;
         matches!(link.asked(), [(request, Some(_))] if request.as_slice() == asked.as_slice())

@@ -1,7 +1,7 @@
 """Writes ../stdin, four tables, and ../stdout, what must come of each line.
 
 fields.txt and signatures.txt hold two of them: each line, and behind it what must come of it in lines that begin with a tab. The third is that
-of marks (mark_cases.py), and the fourth a table of JSON texts; what each reader gives of them is told here by docs/FORMATS.md, without the program.
+of marks (signature_marks.py), and the fourth a table of JSON texts; what each reader gives of them is told here by docs/FORMATS.md, without the program.
 
 Run it anew where a rule or a case changes: python3 crates/test_tables/expected/write.py
 """
@@ -14,7 +14,7 @@ HERE = Path(__file__).resolve().parent
 sys.path.insert(0, str(HERE.parent.parent / "test_worlds" / "expected"))
 
 import json_forms
-import mark_cases
+import signature_marks
 import object_cases
 from json_forms import Fault, KeyFault, NotJson
 
@@ -126,7 +126,7 @@ def rows():
     for table, name in (("field", "fields.txt"), ("signature", "signatures.txt")):
         for line, answers in held(name):
             yield f"{table} {line}", answers
-    for line, answers in mark_cases.rows():
+    for line, answers in signature_marks.rows():
         yield f"mark {line}", answers
     for line in object_cases.lines():
         yield f"object {line}", [answer(line)]

@@ -11,7 +11,7 @@ use crate::messages::{Parts, fields_from, message_in, ring, text_of};
 use bytes_and_lists::bytes::Bytes;
 use bytes_and_lists::memory::Mem;
 use message_signature::{
-    Mark as SignatureMark, SigFault, SignFault, is_nonce, mark_of, sign_marked, verify_marked,
+    SigFault, SignFault, SignatureMark, is_nonce, mark_of, sign_marked, verify_marked,
 };
 use std::alloc::Global;
 

@@ -105,7 +105,7 @@ pub fn decision(alloc: Global, decision: &DecideRequest) -> Result<String, Alloc
 pub fn setup(alloc: Global, setup: &Setup) -> Result<String, AllocError> {
     let base = quoted(alloc, setup.base.as_slice())?;
     let front = quoted(alloc, setup.front.as_slice())?;
-    format!(in alloc; "{base} {front} {}", setup.keys.len())
+    format!(in alloc; "{base} {front} {}", setup.keys.as_slice().len())
 }
 
 fn fault(alloc: Global, fault: &ObjectFault) -> Result<String, AllocError> {

@@ -1,10 +1,10 @@
 """The authorization server over HTTP, written from docs/HTTP.md alone: what is written to the connections of one worker."""
 
-from calls import Server, stranger
+from calls import ROLES, Server
 from http_forms import Refused, Unfinished, next_request, reply_bytes
 from json_forms import NotJson, NoWholeNumber, read_json
 from rights import compact
-from signatures import Fault, verified
+from signatures import Fault, mark_of, verified
 
 MESSAGES_MOST = 1_000
 GATHERED = 4_096
@@ -76,12 +76,15 @@ class Service(Server):
         if call in ("discovery", "rs_discovery"):
             form = {"discovery": discovery, "rs_discovery": rs_discovery}[call](self.setup.base)
             return reply_bytes(200, compact(form).encode(), request.last), False
+        mark = mark_of(request)
         try:
             key = verified(request, self.setup.base, self.secrets, moment)
         except Fault:
             key = None
+        if ROLES[call] != "server" and mark is None:
+            key = None
         value = presented_value(request)
-        status, form, reached = self.answer(moment, words, call, key, value, body_value(call, request.body))
+        status, form, reached = self.answer(moment, words, call, key, value, body_value(call, request.body), mark)
         return reply_bytes(status, b"" if form is None else compact(form).encode(), request.last), reached
 
 

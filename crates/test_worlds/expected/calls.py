@@ -75,15 +75,18 @@ class Server:
         self.setup = setup
         self.machine = Machine(setup)
 
-    def answer(self, moment, words, call, key, value, body):
-        """Status and body of the answer to a call, and whether the machine was reached."""
+    def answer(self, moment, words, call, key, value, body, mark=None):
+        """Status and body of the answer to a call, and whether the machine was reached. The mark of an introspection isn't looked at."""
         try:
             if self.setup.role(key) != ROLES[call]:
                 raise Refused(stranger(call))
             arguments = read_call(call, key, value, body)
         except Refused as refused:
             return (*error_form(refused.code), False)
-        reply = self.machine.take(moment, words, call, *arguments)
+        if mark is None or call == "introspect":
+            reply = self.machine.take(moment, words, call, *arguments)
+        else:
+            reply = self.machine.take_signed(moment, words, key, mark, call, *arguments)
         return (*print_reply(reply, self.setup), True)
 
 

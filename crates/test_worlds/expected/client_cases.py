@@ -65,7 +65,7 @@ class Meeting:
             self.before = reply
             self.given.append(shown)
             return shown
-        printed, _ = carried_out(self.client, compact(line).encode(), exchange)
+        printed, _ = carried_out(self.client, compact(line).encode(), len(self.lines), exchange)
         if printed.endswith("LinkFault\n"):
             self.tell(do, at + 10, **takes)
         return self.before
@@ -158,6 +158,13 @@ def bad_lines():
     yield {**case("a last line without an LF", []), "files": [["c", CONFIG_TEXT], ["s", compact(deed("poll")) + "\n{"]]}
 
 
+def nonces():
+    begin = deed("begin", body=PHOTOS)
+    lines = [{**begin, "nonce": nonce} for nonce in ("", "a" * 65, "a b", "a/b", "\u00e9", "a\n", 1, None)]
+    lines += ["", {**begin, "nonce": "Az09._-"}, {**deed("poll"), "nonce": "a" * 64}, deed("poll"), {**deed("poll"), "nonce": "1000-12"}]
+    yield case("nonces of lines, and the numbers of those without", lines, [GRANTED, BUSY, BUSY, BUSY])
+
+
 def around():
     begin = deed("begin", body=PHOTOS)
     plain = case("", [begin, begin], [GRANTED])
@@ -179,5 +186,5 @@ def around():
 
 
 def cases():
-    for part in (whole_runs, states, uses, odd_replies, bad_lines, around):
+    for part in (whole_runs, states, uses, odd_replies, bad_lines, nonces, around):
         yield from part()

@@ -13,6 +13,7 @@ from rights import compact
 from signatures import Request, signed
 
 LAST_MOMENT = 253_402_300_799
+NONCE = "[A-Za-z0-9._-]{1,64}"
 # What each word sends, and to which of these requests replies come: a grant request, a continuation, a rotation, an ending.
 DEEDS = {
     "begin": ("POST", "/gnap", "grant"), "poll": ("POST", "/continue", "continuation"), "finish": ("POST", "/continue", "continuation"),
@@ -132,8 +133,8 @@ def text_in(line, name, form=r"(?s).*"):
     return line[name]
 
 
-def read_line(text):
-    """The moment, the word and what it takes."""
+def read_line(text, number):
+    """The moment, the nonce, the word and what it takes, of the line of this number."""
     try:
         line = read_json(text)
     except NotJson:
@@ -141,24 +142,30 @@ def read_line(text):
     if not isinstance(line, dict):
         raise BadLine
     at, word = whole_number(line, "at", LAST_MOMENT), text_in(line, "do")
+    nonce = text_in(line, "nonce", NONCE) if "nonce" in line else f"{at}-{number}"
+    return at, nonce, word, taken(line, word)
+
+
+def taken(line, word):
+    """What the word takes of the line."""
     if word in ("begin", "patch"):
         body = line.get("body")
         if not isinstance(body, dict) or json_forms.has_bad_number(body):
             raise BadLine
         try:
-            return at, word, (json_forms.read_grant(body, word == "patch"),)
+            return (json_forms.read_grant(body, word == "patch"),)
         except Fault:
             raise BadLine from None
     if word == "finish":
-        return at, word, (text_in(line, "hash"), text_in(line, "reference"))
+        return text_in(line, "hash"), text_in(line, "reference")
     if word in ("rotate", "revoke"):
-        return at, word, (whole_number(line, "token", 2 ** 64 - 1),)
+        return (whole_number(line, "token", 2 ** 64 - 1),)
     if word == "use":
         token = whole_number(line, "token", 2 ** 64 - 1)
-        return at, word, (token, text_in(line, "method", "[A-Z]{1,15}"), text_in(line, "path", "/[!-~]{0,2047}"))
+        return token, text_in(line, "method", "[A-Z]{1,15}"), text_in(line, "path", "/[!-~]{0,2047}")
     if word not in DEEDS:
         raise BadLine
-    return at, word, ()
+    return ()
 
 
 def grant_body(request):
@@ -197,13 +204,13 @@ class Client:
         self.tokens = []
         self.finish = None  # as the client asked for it, and the server's nonce, while both are known
 
-    def request(self, at, base, method, target, presented=None, body=b""):
+    def request(self, at, nonce, base, method, target, presented=None, body=b""):
         fields = [(b"host", base.partition("://")[2].encode()), (b"connection", b"close")]
         if presented:
             fields.append((b"authorization", " ".join(presented).encode()))
         if body:
             fields.append((b"content-type", b"application/json"))
-        return sent(signed(Request(method.encode(), target.encode(), fields, body), base, self.config.id, self.config.secret, at))
+        return sent(signed(Request(method.encode(), target.encode(), fields, body), base, self.config.id, self.config.secret, at, nonce))
 
     def in_state(self, *states):
         if self.state not in states:
@@ -215,25 +222,25 @@ class Client:
             raise Unfit("NoToken")
         return self.tokens[place]
 
-    def due(self, at, word, arguments):
+    def due(self, at, nonce, word, arguments):
         """The bytes of the request that is due."""
         server = self.config.server
         if word == "use":
             place, method, path = arguments
             token = self.token_at(place)
-            return self.request(at, self.config.resource, method, path, ("Bearer" if token["bearer"] else "GNAP", token["value"]))
+            return self.request(at, nonce, self.config.resource, method, path, ("Bearer" if token["bearer"] else "GNAP", token["value"]))
         method, target, _ = DEEDS[word]
         if word == "begin":
             self.in_state("Fresh")
-            return self.request(at, server, method, target, body=grant_body(*arguments))
+            return self.request(at, nonce, server, method, target, body=grant_body(*arguments))
         if word in ("rotate", "revoke"):
-            return self.request(at, server, method, target, ("GNAP", self.token_at(*arguments)["manage"]))
+            return self.request(at, nonce, server, method, target, ("GNAP", self.token_at(*arguments)["manage"]))
         body = grant_body(*arguments) if word == "patch" else b""
         if word == "finish":
             body = self.finish_body(*arguments)
         else:
             self.in_state("Pending", "Approved")
-        return self.request(at, server, method, target, ("GNAP", self.door), body)
+        return self.request(at, nonce, server, method, target, ("GNAP", self.door), body)
 
     def finish_body(self, told, reference):
         if self.state != "Pending" or self.finish is None:
@@ -299,14 +306,14 @@ class Client:
         self.finish = (asked, interact["finish"]) if asked and "finish" in interact else None
 
 
-def carried_out(client, line, exchange):
-    """What is printed for a line, and whether it is ok. `exchange` gives the reply to a request, or None."""
+def carried_out(client, line, number, exchange):
+    """What is printed for the line of this number, and whether it is ok. `exchange` gives the reply to a request, or None."""
     try:
-        at, word, arguments = read_line(line)
+        at, nonce, word, arguments = read_line(line, number)
     except BadLine:
         return "bad line\n", False
     try:
-        reply = exchange(client.due(at, word, arguments))
+        reply = exchange(client.due(at, nonce, word, arguments))
         if reply is None:
             raise Unfit("LinkFault")
         return f"{word} ok {client.take(word, arguments, reply)}\n", True

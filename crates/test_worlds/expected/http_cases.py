@@ -29,12 +29,19 @@ def request(method, target, body=b"", fields=()):
     return Request(method, target, kept, body)
 
 
+def nonce_of(message, at):
+    """A nonce for a request: another one for each other request."""
+    parts = (message.method, message.target, message.joined(b"authorization") or b"", message.body, b"%d" % at)
+    return "n-" + hashlib.sha256(b"\n".join(parts)).hexdigest()[:8]
+
+
 def call(name, key, at, body=None, value=None, **how):
-    """The bytes of a signed call; `how` are arguments of `signed`."""
+    """The bytes of a signed call; `how` are arguments of `signed`. All but introspections carry a nonce."""
     method, target = (part.encode() for part in ROUTES[name])
     fields = [] if value is None else [(b"authorization", b"GNAP " + value.encode())]
-    how = {"secret": SECRETS.get(key, b""), **how}
-    return sent(signed(request(method, target, b"" if body is None else body, fields), BASE, key, created=at, **how))
+    message = request(method, target, b"" if body is None else body, fields)
+    how = {"secret": SECRETS.get(key, b""), "nonce": None if name == "introspect" else nonce_of(message, at), **how}
+    return sent(signed(message, BASE, key, created=at, **how))
 
 
 def latin(*parts):
@@ -109,8 +116,8 @@ def plain(*fields):
     return request(b"POST", b"/gnap", TEXT, fields)
 
 
-def signed_by_c1(message, **how):
-    return signed(message, BASE, "c1", SECRETS["c1"], 1_000, **how)
+def signed_by_c1(message, nonce="n1", **how):
+    return signed(message, BASE, "c1", SECRETS["c1"], 1_000, nonce, **how)
 
 
 GOOD = signed_by_c1(plain())
@@ -142,7 +149,7 @@ def changed_requests():
         ("a blank behind the signature", changed(code, code + b" ")),
         ("zeros before a number", changed(b"created=1000", b"created=001000")),
         ("a parameter twice: the last one counts, in the place of the first", changed(
-            b';created=1000;keyid="c1";tag="gnap"', b';created=1;keyid="c1";tag="gnap";created=1000')),
+            b';created=1000;keyid="c1";nonce="n1";tag="gnap"', b';created=1;keyid="c1";nonce="n1";tag="gnap";created=1000')),
         ("a label twice: the last one counts", changed(b"sig1=(", b"sig1=1, sig1=(")),
         ("a parameter of the signature", changed(code, code + b";x=1")),
         ("a signature that is a list", changed(code, b"sig1=(" + code[5:] + b")")),
@@ -184,7 +191,7 @@ def signed_otherwise():
         ("alg is no String", {"more": {"alg": ("Token", "hmac-sha256")}}),
         ("it expires now", {"more": {"expires": ("Integer", 1_000)}}),
         ("it expired", {"more": {"expires": ("Integer", 999)}}),
-        ("a nonce beside", {"more": {"nonce": ("String", "n\"o\\nce")}}),
+        ("a nonce with odd characters", {"nonce": "n\"o\\nce"}),
         ("another label", {"label": "x"}),
         ("the method isn't covered", {"names": NAMES[1:]}),
         ("the target isn't covered", {"names": ["@method", "@authority", "@path", "@query", "@scheme", "content-digest"]}),

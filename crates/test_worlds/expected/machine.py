@@ -16,6 +16,8 @@ POLL_SECONDS = 5
 LIVE_LIMIT = 65_536
 WRONG_LIMIT = 5
 LETTERS = "BCDFGHJKLMNPQRSTVWXZ"
+MARK_SECONDS = 300
+UNREMEMBERED = ("cancel", "revoke")
 
 
 class Reply:
@@ -54,6 +56,17 @@ class Machine:
         self.doors = {}
         self.tokens = {}
         self.managed = {}
+        self.remembered = {}
+
+    def take_signed(self, moment, words, key, mark, call, *arguments):
+        """The reply to a call that the key signed with this mark: the mark is looked at first, and it is remembered also where the call is refused."""
+        self.now = max(self.now, moment)
+        until = mark.created + MARK_SECONDS
+        if until < self.now or self.now <= self.remembered.get((key, mark.nonce), -1):
+            return refusal("invalid_client")
+        if call not in UNREMEMBERED:
+            self.remembered[key, mark.nonce] = until
+        return self.take(moment, words, call, *arguments)
 
     def take(self, moment, words, call, *arguments):
         """The reply to a call, which is the name of a method below without its leading `call_`."""

@@ -85,7 +85,7 @@ def loads():
 
 HELLO = request(b"POST", b"/gnap", b'{"hello": "world"}')
 UNSIGNED = request_bytes(HELLO)
-SIGNED = request_bytes(signed_by_c1(HELLO))
+SIGNED = request_bytes(signed_by_c1(HELLO, None))
 
 
 def over(name, words_given, text, **more):
@@ -96,6 +96,11 @@ def over(name, words_given, text, **more):
 def signing():
     for key, created in [("c1", "1000"), ("r1", "0"), ("f1", "253402300799"), ("c9", "1000"), ("c1", "253402300800"), ("c1", "01000")]:
         yield over(f"sign: by {key} at {created}", ["sign", "setup", key, created, "request"], UNSIGNED)
+    for nonce in ("n1", "aZ09._-", "0" * 64, "0" * 65, "", "-n1", "a b", "a/b", "\u00e9", "n\n"):
+        yield over(f"sign: with the nonce {nonce!r}", ["sign", "setup", "c1", "1000", "request", nonce], UNSIGNED)
+    yield over("sign: with a nonce and a further word", ["sign", "setup", "c1", "1000", "request", "n1", "n2"], UNSIGNED)
+    yield over("sign: with a nonce, over a signed one", ["sign", "setup", "c1", "1000", "request", "n1"], SIGNED)
+    yield over("sign: a nonce that is none is found before a setup", ["sign", "other", "c1", "1000", "request", "a/b"], UNSIGNED)
     wrong_digest = request(b"POST", b"/gnap", HELLO.body, [(b"Content-Digest", b"sha-256=:AAAA:")])
     for name, text in [
         ("a signed one", SIGNED),
@@ -118,16 +123,16 @@ def verifying():
     for now in ("1000", "1300", "1301", "700", "699"):
         yield over(f"verify: at {now}", ["verify", "setup", now, "request"], SIGNED)
     items = b'("@method" "@target-uri" "content-digest")'
-    code = dict(signed_by_c1(HELLO).fields)[b"signature"]
+    code = dict(signed_by_c1(HELLO, None).fields)[b"signature"]
     other = b"sig1=:" + (b"A" if code[6:7] != b"A" else b"B") + code[7:]
     for name, text in [
         ("no signature", UNSIGNED),
         ("bytes behind it", SIGNED + b"\n"),
         ("a changed body", SIGNED[:-1] + b" "),
         ("a changed signature", SIGNED.replace(code, other)),
-        ("the digest isn't covered", request_bytes(signed_by_c1(HELLO, names=NAMES[:2]))),
-        ("two of the tag", request_bytes(signed_by_c1(signed_by_c1(HELLO), label="b"))),
-        ("another tag", request_bytes(signed_by_c1(HELLO, tag="x"))),
+        ("the digest isn't covered", request_bytes(signed_by_c1(HELLO, None, names=NAMES[:2]))),
+        ("two of the tag", request_bytes(signed_by_c1(signed_by_c1(HELLO, None), None, label="b"))),
+        ("another tag", request_bytes(signed_by_c1(HELLO, None, tag="x"))),
         ("no dictionary", SIGNED.replace(b"sig1=(", b"sig1=[")),
         ("no list", SIGNED.replace(b"sig1=" + items, b"sig1")),
         ("an item that is no String", SIGNED.replace(b'("@method"', b"(a")),

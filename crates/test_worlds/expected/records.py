@@ -1,7 +1,14 @@
-"""What the model of the grant machine keeps: requests, rounds, grants and tokens (docs/MACHINE.md, sections 2 and 3)."""
+"""What the model of the grant machine keeps: requests, rounds, grants and tokens (docs/MACHINE.md, sections 2 and 3), and what a signature says of itself."""
 
 from dataclasses import dataclass, field
 from typing import Optional
+
+
+@dataclass(frozen=True)
+class Mark:
+    """What a signature says of itself (docs/SIGNATURES.md)."""
+    nonce: bytes
+    created: int
 
 
 @dataclass

@@ -7,11 +7,13 @@ import sys
 
 from calls import ROLES, Server
 from json_forms import Fault, NotJson, read_json, read_setup
+from records import Mark
 from rights import compact
 
 SETUP_BYTES = 1_048_576
 LINE_BYTES = 131_072
 LAST_MOMENT = 253_402_300_799
+NONCE_BYTES = 64
 NO_FORM = (400, {"error": {"code": "invalid_request"}})
 
 
@@ -23,8 +25,12 @@ def whole_number(value, most):
     return type(value) is int and 0 <= value <= most
 
 
-def read_line(line):
-    """The members of a call line: moment, words, call, key, presented value, body."""
+def is_nonce(value):
+    return isinstance(value, str) and 0 < len(value.encode()) <= NONCE_BYTES
+
+
+def read_line(line, number):
+    """The members of the call line of this number: moment, words, call, key, presented value, body, and what its signature says of itself."""
     try:
         value = read_json(line)
     except NotJson:
@@ -39,23 +45,26 @@ def read_line(line):
         and ("body" not in value or isinstance(value["body"], dict))
         and isinstance(words, list) and len(words) <= 48
         and all(whole_number(word, 2 ** 64 - 1) for word in words)
+        and ("nonce" not in value or is_nonce(value["nonce"]))
+        and ("created" not in value or whole_number(value["created"], LAST_MOMENT))
     )
     if not fits:
         raise NoLine
-    return (value["at"], words, *texts, value.get("body"))
+    nonce = value.get("nonce", f"{value['at']}-{number}").encode()
+    return (value["at"], words, *texts, value.get("body"), Mark(nonce, value.get("created", value["at"])))
 
 
-def answer_line(server, line):
-    """Status and body of the answer to a line that isn't empty."""
+def answer_line(server, line, number):
+    """Status and body of the answer to the line of this number, which isn't empty."""
     if len(line) > LINE_BYTES:
         return 413, None
     try:
-        moment, words, call, key, value, body = read_line(line)
+        moment, words, call, key, value, body, mark = read_line(line, number)
     except NoLine:
         return NO_FORM
     if call not in ROLES:
         return 404, None
-    return server.answer(moment, words, call, key, value, body)[:2]
+    return server.answer(moment, words, call, key, value, body, mark)[:2]
 
 
 def printed(status, body):
@@ -71,7 +80,8 @@ def replay(text):
         server = Server(read_setup(first))
     except (NotJson, Fault):
         return 3, ""
-    return 0, "".join(printed(*answer_line(server, line)) for line in lines if line)
+    # The first line has the number 1, and empty lines have numbers too.
+    return 0, "".join(printed(*answer_line(server, line, number)) for number, line in enumerate(lines, 2) if line)
 
 
 if __name__ == "__main__":

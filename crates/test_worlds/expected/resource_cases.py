@@ -149,9 +149,56 @@ def links():
     yield case("the second connection can't be accepted", [[SIGNED], [SIGNED]], [says(), says()], bad_accepts=[2])
 
 
+def cached_case(name, cache, connections, replies, moments, **more):
+    """A case of `rs` with a cache of this size."""
+    served = case("with a cache: " + name, connections, replies, moments, **more)
+    return {**served, "words": [*served["words"], str(cache)]}
+
+
+def at(moment):
+    """The request with the bound token, signed at this moment."""
+    return sent(signed(plain(GNAP), RS, "c1", SECRETS["c1"], moment))
+
+
+def with_bit_changed(request):
+    mark = b"Signature: sig1=:"
+    before, _, code = request.partition(mark)
+    return before + mark + (b"B" if code[:1] == b"A" else b"A") + code[1:]
+
+
+def of_length(total):
+    """A reply about the bearer token 1 that has so many bytes together with its question."""
+    server = ResourceServer(read_resource_setup(RS_TEXT.encode()), None)
+    question = server.question("photos", "bearer", "1")
+    return next(reply for reply in (says(flags=["bearer"], key=None, x="x" * count) for count in range(total)) if len(question) + len(reply) == total)
+
+
+def cached():
+    one, two, three = (sent(plain(b"Bearer %d" % number)) for number in (1, 2, 3))
+    yield cached_case("asked once in 30 seconds, and signed each time", 16_384, [[at(1_000)], [at(1_030)], [with_bit_changed(at(1_010))], [at(1_031)]], [says()],
+                      [1_000, 1_030, 1_010, 1_031])
+    yield cached_case("two tokens in turn at one place", 1, [[one, two, one, two]], [FREE] * 4, [1_000, 1_001, 1_002, 1_003])
+    yield cached_case("the clock goes back", 1, [[one, one]], [FREE] * 2, [1_000, 999])
+    yield cached_case("until the token ends", 1, [[one, one, one]], [says(flags=["bearer"], key=None, exp=1_020)] * 2, [1_000, 1_019, 1_020])
+    yield cached_case("the one used longest ago goes out", 2, [[one, two, one, three, one, two]], [FREE] * 4, range(1_000, 1_006))
+    yield cached_case("what comes by the cache doesn't stay longer", 1, [[one, one, one]], [FREE] * 2, [1_000, 1_020, 1_040])
+    yield cached_case("each scheme has its own reply", 2, [[by("c1", plain(GNAP)), by("c1", plain(BEARER))] * 2], [says(), FREE], [1_000] * 4)
+    yield cached_case("refusals aren't kept", 2, [[one] * 5], [INACTIVE, says(flags=["bearer"], key=None, access=["mail"]), b"x", FREE], [1_000] * 5)
+    yield cached_case("a wrong signature keeps nothing", 1, [[with_bit_changed(SIGNED), SIGNED, SIGNED]], [says()] * 2, [1_000] * 3)
+    yield cached_case("an old reply goes out, also where the link fails", 1, [[one, one, one]], [FREE] * 2, [1_000, 1_031, 1_030], bad_exchanges=[2])
+    yield cached_case("13,500 bytes are kept", 1, [[one, one]], [of_length(13_500)] * 2, [1_000, 1_001])
+    yield cached_case("13,501 bytes aren't", 1, [[one, one]], [of_length(13_501)] * 2, [1_000, 1_001])
+    right = [{**ROUTES[0], "path": path, "text": path} for path in ("/a", "/b")]
+    yield {**cached_case("two routes with one right share a reply", 1, [[sent(plain(b"Bearer 1", target=b"/a")), sent(plain(b"Bearer 1", target=b"/b"))]], [FREE],
+                         [1_000, 1_001]), "files": [["s", latin(compact({**RS_SETUP, "routes": right}).encode())]]}
+    first = cached_case("", 1, [[one]], [FREE], [1_000])
+    for size in ("0", "16385", "01", "", "-1", "x"):
+        yield {**first, "name": f"rs: with a cache of the size `{size}`", "words": [*first["words"][:-1], size]}
+
+
 def around():
     plain_case = case("", [[SIGNED]], [says()])
-    for words in (["rs", "s", "a", "a"], ["rs", "s", "a", "a", "1", "1"], ["rs", "-s", "a", "a", "1"], ["rs", "s", "", "a", "1"], ["rs", "s", "a", "-", "1"],
+    for words in (["rs", "s", "a", "a"], ["rs", "s", "a", "a", "1", "1", "1"], ["rs", "-s", "a", "a", "1"], ["rs", "s", "", "a", "1"], ["rs", "s", "a", "-", "1"],
                   ["rs", "s", "a", "a", "01"], ["rs", "s", "a", "a", "1000001"], ["rs", "x", "a", "a", "1"], ["rs", "s", "b", "a", "1"], ["rs", "s", "a", "b", "1"]):
         yield {**plain_case, "name": f"rs: the words {words}", "words": words}
     for name, more in [
@@ -228,5 +275,5 @@ def story():
 
 
 def cases():
-    for part in (of_the_server, unasked, asked_of, links, around, setups, story):
+    for part in (of_the_server, unasked, asked_of, links, cached, around, setups, story):
         yield from part()

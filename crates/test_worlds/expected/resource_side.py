@@ -91,6 +91,8 @@ def read_resource_setup(text):
         except Fault as fault:
             raise KeyFault(place, fault.kind, fault.member) from None
         secrets[client] = client_secret
+    if len(secrets) > 4_096:
+        raise Fault("TooMany", "keys")
     listed = items_at(value, "routes")
     if not 1 <= len(listed) <= 1_024:
         raise Fault("TooMany" if listed else "Wrong", "routes")
@@ -110,7 +112,7 @@ def presented_token(request):
 
 
 def judgement(text):
-    """What a reply says of a token: its rights and its key, or None where it isn't active; of a bearer token the key is None."""
+    """What a reply says of a token: its rights, its key and its end, or None where it isn't active; of a bearer token the key is None."""
     try:
         status, body = read_reply(text)
         form = read_json(body)
@@ -119,28 +121,58 @@ def judgement(text):
         if not form["active"]:
             return None
         rights = read_rights(member(form, "access"))
-        number_at(form, "exp"), number_at(form, "iat")
+        end = number_at(form, "exp")
+        number_at(form, "iat")
         text_at(form, "iss")
         key = text_at(form, "key") if "key" in form else None
         if form.get("flags", ["bearer"]) != ["bearer"] or ("flags" in form) == ("key" in form) or key not in (None, text_at(form, "instance_id")):
             raise SaysNothing
-        return rights, key
+        return rights, key, end
     except (client_side.Unfit, NotJson, Fault):
         raise SaysNothing from None
 
 
-class ResourceServer:
-    """A resource server over HTTP. `exchange` gives the reply to a request to the authorization server, or None."""
+class Cache:
+    """The replies by which requests were let through, at most `size` of them: the question of each, its reply, its moment and its token's end. The one that
+    was used last comes first.
+    """
 
-    def __init__(self, setup, exchange):
+    def __init__(self, size):
+        self.size = size
+        self.kept = []
+
+    def fresh(self, question, moment):
+        """The fresh reply to the question, which then comes first. One that isn't fresh goes out."""
+        found = [entry for entry in self.kept if entry[0] == question]
+        self.kept = [entry for entry in self.kept if entry[0] != question]
+        for entry in found:
+            if entry[2] <= moment <= entry[2] + 30 and moment < entry[3]:
+                self.kept.insert(0, entry)
+                return entry[1]
+        return None
+
+    def keep(self, question, reply, moment, end):
+        if len(question) + len(reply) <= 13_500:
+            self.kept = [(question, reply, moment, end), *self.kept][:self.size]
+
+
+class ResourceServer:
+    """A resource server over HTTP. `exchange` gives the reply to a request to the authorization server, or None. With a cache it asks only where that has no
+    fresh reply.
+    """
+
+    def __init__(self, setup, exchange, cache=None):
         self.setup = setup
         self.exchange = exchange
+        self.cache = cache
         # It signs its requests as a client does.
         self.signer = client_side.Client(client_side.Config(setup.server, setup.base, setup.id, setup.secret))
 
-    def introspection(self, right, proof, value, moment):
-        form = {"access": [right], "access_token": value, "proof": proof, "resource_server": self.setup.id}
-        return self.signer.request(moment, self.setup.server, "POST", "/introspect", body=compact(form).encode())
+    def question(self, right, proof, value):
+        return compact({"access": [right], "access_token": value, "proof": proof, "resource_server": self.setup.id}).encode()
+
+    def ask(self, question, moment):
+        return self.exchange(self.signer.request(moment, None, self.setup.server, "POST", "/introspect", body=question))
 
     def has_signed(self, key, request, moment):
         try:
@@ -153,7 +185,9 @@ class ResourceServer:
         token = presented_token(request)
         if not token:
             return 401
-        reply = self.exchange(self.introspection(route.right, *token, moment))
+        question = self.question(route.right, *token)
+        kept = self.cache and self.cache.fresh(question, moment)
+        reply = kept or self.ask(question, moment)
         try:
             if reply is None:
                 raise SaysNothing
@@ -162,10 +196,14 @@ class ResourceServer:
             return 502
         if says is None:
             return 401
-        rights, key = says
+        rights, key, end = says
         if not covers(rights, [route.right]):
             return 403
-        return 200 if key is None or self.has_signed(key, request, moment) else 401
+        if key is not None and not self.has_signed(key, request, moment):
+            return 401
+        if self.cache and not kept:
+            self.cache.keep(question, reply, moment, end)
+        return 200
 
     def reply(self, request, moment, _):
         """The reply to a request, and whether words are drawn for it."""

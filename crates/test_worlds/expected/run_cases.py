@@ -27,13 +27,13 @@ def secret_of(setup, key):
     return setup.keys[key].secret if key in setup.keys else b"of nobody"
 
 
-def signed_request(step, setup):
-    """The bytes of a step's call as its key signs it, at the step's moment."""
+def signed_request(step, setup, created, nonce):
+    """The bytes of a step's call as its key signs it. Introspections have no nonce."""
     method, path = ROUTES[step.call]
     body = b"" if step.body is None else compact(step.body).encode()
     fields = [(b"authorization", b"GNAP " + step.value.encode())] if step.value else []
     request = Request(method.encode(), path.encode(), fields, body)
-    return request_bytes(signed(request, setup.base, step.key, secret_of(setup, step.key), step.at))
+    return request_bytes(signed(request, setup.base, step.key, secret_of(setup, step.key), created, None if step.call == "introspect" else nonce))
 
 
 def signed_case(run):
@@ -41,14 +41,15 @@ def signed_case(run):
     setup = read_setup(setup_text.encode())
     server = Server(setup)
     sent, draws = [], []
-    for step in run.steps:
+    moments = list(run.signed_at())
+    for place, (step, moment) in enumerate(zip(run.steps, moments), 1):
         words = step.draw or []
         if server.answer(step.at, words, step.call, step.key, step.value or "", step.body)[2]:
             draws.append(words)
-        sent.append(signed_request(step, setup).decode("latin-1"))
+        sent.append(signed_request(step, setup, moment, f"n{place}").decode("latin-1"))
     while draws and not draws[-1]:
         draws.pop()
-    gear = {"connections": ["".join(sent)], "moments": [step.at for step in run.steps], "draws": draws}
+    gear = {"connections": ["".join(sent)], "moments": moments, "draws": draws}
     return {"name": run.name + ", signed", "words": ["as", "s", "a", "1", "1"], "files": [["s", latin(setup_text)]], "gears": [gear]}
 
 

@@ -3,7 +3,9 @@
 from dataclasses import dataclass
 from typing import Optional
 
-from machine import value_text
+from calls import Server
+from json_forms import read_setup
+from machine import MARK_SECONDS, value_text
 from rights import compact
 
 BASE = "https://as.example"
@@ -20,11 +22,11 @@ class Step:
     answer: str
     draw: Optional[list] = None
 
-    def line(self):
+    def line(self, **more):
         members = {"at": self.at, "call": self.call, "key": self.key}
         members.update({name: given for name, given in
                         (("value", self.value), ("body", self.body), ("draw", self.draw)) if given is not None})
-        return compact(members)
+        return compact({**members, **more})
 
 
 @dataclass
@@ -33,8 +35,20 @@ class Run:
     setup: dict
     steps: list
 
+    def signed_at(self):
+        """When each step's call is signed: at its moment, or now where the step goes back so far that its signature would be too old."""
+        server = Server(read_setup(compact(self.setup).encode()))
+        for step in self.steps:
+            now = server.machine.now
+            yield step.at if now <= step.at + MARK_SECONDS else now
+            server.answer(step.at, step.draw or [], step.call, step.key, step.value or "", step.body)
+
+    def lines(self):
+        for step, created in zip(self.steps, self.signed_at()):
+            yield step.line() if created == step.at else step.line(created=created)
+
     def file(self):
-        return "".join(line + "\n" for line in [compact(self.setup)] + [step.line() for step in self.steps])
+        return "".join(line + "\n" for line in [compact(self.setup), *self.lines()])
 
     def answers(self):
         return "".join(step.answer + "\n" for step in self.steps)

@@ -8,8 +8,11 @@ import hashlib
 import hmac
 from dataclasses import dataclass, field
 
+from records import Mark
 from structured import NotAField, print_bare, print_inner_list, read_dictionary
 
+NONCE_BYTES = 64
+LATEST_CREATED = 253_402_301_099
 DIGESTS = {"sha-256": hashlib.sha256, "sha-512": hashlib.sha512}
 
 
@@ -90,19 +93,38 @@ def must_cover(message):
     return names
 
 
-def signed(message, base, key, secret, created, tag="gnap", names=None, label="sig1", more=(), with_digest=True):
+def signed(message, base, key, secret, created, nonce=None, tag="gnap", names=None, label="sig1", more=(), with_digest=True):
     """The message with a signature; `names` are the covered components where they aren't those that are asked for, `more` further parameters."""
     fields = list(message.fields)
     if message.body and with_digest and message.joined(b"content-digest") is None:
         fields.append((b"content-digest", digest_field(message.body)))
     message = Request(message.method, message.target, fields, message.body, message.last)
     items = [(("String", name), {}) for name in (names or must_cover(message))]
-    parameters = {"created": ("Integer", created), "keyid": ("String", key), "tag": ("String", tag), **dict(more)}
+    told = {} if nonce is None else {"nonce": ("String", nonce)}
+    parameters = {"created": ("Integer", created), "keyid": ("String", key), **told, "tag": ("String", tag), **dict(more)}
     parameters = {name: value for name, value in parameters.items() if value is not None}
     code = mac(secret, signature_base(message, base, items, parameters))
     fields.append((b"signature-input", f"{label}={print_inner_list(items, parameters)}".encode()))
     fields.append((b"signature", f"{label}=".encode() + print_bare(("Binary", code)).encode()))
     return message
+
+
+def lists_tagged(inputs, tag):
+    """Those lists of covered components that have this tag, with their labels."""
+    return [(label, member) for label, member in inputs.items() if member[0][0] == "list" and member[1].get("tag") == ("String", tag)]
+
+
+def mark_of(message, tag="gnap"):
+    """What the one signature with this tag says of itself, where it does; a nonce has any characters of a String."""
+    inputs = message.joined(b"signature-input")
+    try:
+        found = lists_tagged(read_dictionary(inputs), tag) if inputs is not None else []
+    except NotAField:
+        return None
+    parameters = found[0][1][1] if len(found) == 1 else {}
+    (kind, nonce), (moment_kind, created) = (parameters.get(name, (None, None)) for name in ("nonce", "created"))
+    fits = (kind == "String" and 0 < len(nonce) <= NONCE_BYTES and moment_kind == "Integer" and 0 <= created <= LATEST_CREATED)
+    return Mark(nonce.encode(), created) if fits else None
 
 
 def tagged_list(message, tag):
@@ -114,8 +136,7 @@ def tagged_list(message, tag):
         inputs, signatures = read_dictionary(inputs), read_dictionary(signatures)
     except NotAField:
         raise Fault("NotAField") from None
-    found = [(label, member) for label, member in inputs.items()
-             if member[0][0] == "list" and member[1].get("tag") == ("String", tag)]
+    found = lists_tagged(inputs, tag)
     if len(found) != 1:
         raise Fault("SeveralTags" if found else "NoTag")
     label, ((_, items), parameters) = found[0]

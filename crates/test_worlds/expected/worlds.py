@@ -4,6 +4,7 @@ A case is the object of a line of ../stdin; src/case.rt has its members.
 """
 
 import hashlib
+import re
 
 import as_server
 import client_side
@@ -12,6 +13,7 @@ import replays
 import resource_side
 import written_cases
 from calls import interaction_hash
+from client_side import NONCE
 from json_forms import Fault, NotJson, read_setup
 from signatures import Fault as Refusal
 from signatures import signed, verified
@@ -93,8 +95,8 @@ class World:
 def run(world):
     """The status of a case's words."""
     name, *words = world.case["words"] or [""]
-    command, arguments = COMMANDS.get(name, (None, 0))
-    if command is None or len(words) != arguments:
+    command, *arguments = COMMANDS.get(name, (None,))
+    if len(words) not in arguments:
         return 2
     try:
         return command(world, *words)
@@ -104,6 +106,12 @@ def run(world):
 
 def argument(word):
     if not word or word.startswith("-"):
+        raise Stop(2)
+    return word
+
+
+def nonce_word(word):
+    if not re.fullmatch(NONCE, argument(word)):
         raise Stop(2)
     return word
 
@@ -148,9 +156,10 @@ def print_answer(world, name, answer):
         return 7
 
 
-def sign(world, config, key, created, name):
+def sign(world, config, key, created, name, nonce=None):
     argument(config), argument(key), argument(name)
     created = number(created, 0, LAST_MOMENT)
+    nonce = None if nonce is None else nonce_word(nonce)
     setup = world.config(config)
 
     def answer(request):
@@ -158,7 +167,7 @@ def sign(world, config, key, created, name):
             raise Refusal("UnknownKey")
         if request.values(b"signature-input") or request.values(b"signature"):
             raise Refusal("HasSignature")
-        message = signed(request, setup.base, key, setup.keys[key].secret, created)
+        message = signed(request, setup.base, key, setup.keys[key].secret, created, nonce)
         lines = [message.method + b" " + message.target + b" HTTP/1.1"]
         lines += [of_field + b": " + value for of_field, value in message.fields]
         return b"\r\n".join(lines + [b"", b""]) + message.body
@@ -188,9 +197,10 @@ def serve(world, config, listen, workers, quota):
     return 4 if any(failed for _, failed in answers) else 0
 
 
-def serve_resources(world, config, listen, server, quota):
+def serve_resources(world, config, listen, server, quota, *cache):
     argument(config), argument(listen), argument(server)
     quota = number(quota, 0, 1_000_000)
+    cache = [resource_side.Cache(number(size, 1, 16_384)) for size in cache]
     setup = world.config(config, resource_side.read_resource_setup)
     world.open()
     if server != "a":
@@ -199,7 +209,7 @@ def serve_resources(world, config, listen, server, quota):
     gears = world.case.get("gears", [])
     if listen != "a" or len(gears) != 1 or len(gears[0]["connections"]) > quota:
         raise Stop(4)
-    connections, failed = as_server.served(world, resource_side.ResourceServer(setup, world.exchange), gears[0])
+    connections, failed = as_server.served(world, resource_side.ResourceServer(setup, world.exchange, *cache), gears[0])
     world.served = [connections]
     return 4 if failed else 0
 
@@ -212,8 +222,8 @@ def client(world, config, address, script):
         raise Stop(4)
     *lines, last = world.file(script).split(b"\n")
     fine = True
-    for line in lines + [last] * bool(last):
-        printed, ok = client_side.carried_out(scripted, line, world.exchange)
+    for number, line in enumerate(lines + [last] * bool(last), 1):
+        printed, ok = client_side.carried_out(scripted, line, number, world.exchange)
         world.print(printed.encode())
         fine = fine and ok
     return 0 if fine else 7
@@ -245,7 +255,7 @@ def load(world, grants, start, workers):
 
 
 COMMANDS = {
-    "replay": (replay, 1), "field": (field, 2), "sign": (sign, 4), "verify": (verify, 3), "as": (serve, 4), "rs": (serve_resources, 4), "client": (client, 3), "hash": (print_hash, 5), "load": (load, 3),
+    "replay": (replay, 1), "field": (field, 2), "sign": (sign, 4, 5), "verify": (verify, 3), "as": (serve, 4), "rs": (serve_resources, 4, 5), "client": (client, 3), "hash": (print_hash, 5), "load": (load, 3),
 }
 
 

@@ -12,6 +12,8 @@ import edge_cases
 import generated_histories
 import http_cases
 import line_cases
+import mark_cases
+import marked_histories
 import outside_cases
 import resource_cases
 import rights_cases
@@ -21,11 +23,12 @@ import scripted_interactions
 import stored_histories
 import written_cases
 from checks import check_all
+from replays import replay
 from worlds import outcome
 
 
 def cases():
-    for module in (http_cases, edge_cases, outside_cases, rights_cases, line_cases, written_cases, client_cases, resource_cases):
+    for module in (http_cases, edge_cases, outside_cases, rights_cases, line_cases, mark_cases, marked_histories, written_cases, client_cases, resource_cases):
         yield from module.cases()
     yield from run_cases.cases(scripted_grants.RUNS + scripted_interactions.RUNS)
     yield from map(run_cases.replay_case, generated_histories.runs() + stored_histories.runs())
@@ -41,12 +44,11 @@ def is_plain_replay(case):
 
 
 def histories(table):
-    """For each replay its lines, none of them empty, and what it prints."""
+    """For each replay its lines, none of them empty, and what it prints without those that are."""
     for case in filter(is_plain_replay, table):
         lines = [line for line in case["files"][0][1].split("\n") if line]
-        told = outcome(case)
-        if lines and told["status"] == 0 and all(ord(c) < 128 for c in case["files"][0][1]):
-            yield lines, told["out"]
+        if lines and outcome(case)["status"] == 0 and all(ord(c) < 128 for c in case["files"][0][1]):
+            yield lines, replay("\n".join(lines).encode())[1]
 
 
 def main():

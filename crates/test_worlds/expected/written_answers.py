@@ -6,6 +6,7 @@ Run as a program it says which it doesn't give.
 import sys
 
 import line_cases
+import mark_cases
 import scripted_grants
 import scripted_interactions
 from replays import replay
@@ -24,8 +25,8 @@ def compare(name, file, lines):
 def count_differences():
     wrong = 0
     for run in scripted_grants.RUNS + scripted_interactions.RUNS:
-        wrong += compare(run.name, run.file().encode(), [(step.line(), step.answer) for step in run.steps])
-    for name, lines in line_cases.GROUPS.items():
+        wrong += compare(run.name, run.file().encode(), [(line, step.answer) for line, step in zip(run.lines(), run.steps)])
+    for name, lines in [*line_cases.GROUPS.items(), *mark_cases.GROUPS.items()]:
         wrong += compare(name, line_cases.file_of(lines), [pair for pair in lines if pair[1] is not None])
     for name, text in line_cases.SETUPS.items():
         wrong += replay(text.encode() + b"\n") != (3, "")

@@ -37,6 +37,20 @@ NONCES = ["VJLO6A4CATR0KRO", "MBDOFXG4Y5CVJCX821LH", "4IFWWIKYB2PQ6U56NL1", "htt
 FRONT_ALONE = '{"base":"https://a","front":"https://b","keys":[{"id":"f1","role":"front","secret":"x"}]}'
 NO_JSON = "it is no JSON at line 1, column 1\n"
 
+NO_NONCE = "gnap: line 2: member `nonce` isn't 1 to 64 letters, digits, `.`, `_` or `-`\n"
+NO_MOMENT = "gnap: line 1: member `at` isn't a moment (0 to 253402300799, in seconds since 1970)\n"
+NONCE_FORM = "nonce (1 to 64 letters, digits, `.`, `_` or `-`, the first of them no `-`)\n"
+SIGN_USAGE = """usage:
+  gnap sign CONFIG KEY CREATED FILE  prints the request in FILE, signed by KEY of CONFIG at CREATED (0 to 253402300799, seconds since 1970)
+  gnap sign CONFIG KEY CREATED FILE NONCE  the same, with NONCE in the signature (1 to 64 letters, digits, `.`, `_` or `-`)
+"""
+VERIFY_USAGE = """usage:
+  gnap verify CONFIG NOW FILE  prints which key of the setup signed the request in FILE, at the moment NOW (0 to 253402300799, seconds since 1970)
+"""
+REPLAY_USAGE = """usage:
+  gnap replay FILE            answers the calls in FILE, whose first line is a setup
+"""
+
 # The words, the text of the file f, and what a person is told.
 TOLD = [
     (["replay", "f"], "{}", "gnap: the first line of f is no setup: member `base` is missing\n"),
@@ -52,12 +66,21 @@ TOLD = [
     (["client", "f", "a", "s"], "{}", "gnap: f is no configuration: member `server` is missing\n"),
     (["client", "f", "a", "s"], CONFIG_TEXT, "gnap: line 1: member `at` is missing\ngnap: a line of s wasn't ok\n"),
     (["client", "g", "a", "f"], "x", "gnap: g, a or f can't be opened or read\n"),
+    (["client", "c", "a", "f"], '\n{"at":1,"nonce":"a b","do":"poll"}', "gnap: line 1: it is no JSON\n" + NO_NONCE + "gnap: a line of f wasn't ok\n"),
+    (["client", "c", "a", "f"], '{"at":-1,"nonce":"","do":"poll"}', NO_MOMENT + "gnap: a line of f wasn't ok\n"),
+    (["sign", "f", "k", "0", "f", "a b"], "x", f"gnap: `a b` is no {NONCE_FORM}" + SIGN_USAGE),
+    (["sign", "f", "k", "0", "f", "-a"], "x", f"gnap: `-a` is no {NONCE_FORM}" + SIGN_USAGE),
+    (["sign", "f", "k", "-0", "f", "a b"], "x", "gnap: `-0` is no moment (0 to 253402300799, in seconds since 1970)\n" + SIGN_USAGE),
+    (["sign", "f", "k", "0"], "x", "gnap: `sign` takes 4 or 5 words after it, and there are 3\n" + SIGN_USAGE),
+    (["sign", "f", "k", "0", "f", "n", "m"], "x", "gnap: `sign` takes 4 or 5 words after it, and there are 6\n" + SIGN_USAGE),
+    (["verify", "f", "0"], "x", "gnap: `verify` takes 3 words after it, and there are 2\n" + VERIFY_USAGE),
+    (["replay"], "x", "gnap: `replay` takes 1 word after it, and there are 0\n" + REPLAY_USAGE),
     (["rs", "s", "a", "a", "1"], "x", "gnap: s is no setup: member `server` is missing\n"),
     (["rs", "f", "a", "b", "1"], latin(RS_TEXT.encode()), "gnap: f, b or a can't be opened or read\n"),
     (["hash", "sha-256", *NONCES], "x", ""),
 ]
 
-HINTS = {f"told: {' '.join(words)}, {text[:9]}": hint for words, text, hint in TOLD}
+HINTS = {f"told: {' '.join(words)}, {text[:9].strip()}": hint for words, text, hint in TOLD}
 
 
 def is_token(text):
@@ -92,7 +115,7 @@ def hashes():
 
 def told():
     for name, (words, text, _) in zip(HINTS, TOLD):
-        yield {"name": name, "words": words, "files": [["f", text], ["s", SETUP_TEXT]], "tells": True}
+        yield {"name": name, "words": words, "files": [["f", text], ["s", SETUP_TEXT], ["c", CONFIG_TEXT]], "tells": True}
 
 
 def cut_answers():

@@ -1,21 +1,7 @@
-use Rattle.std.proofs.Common.{◌∙◌, map, refl, ap, sym, subst, arith}
-use Rattle.std.specs.Prelude.{All}
-use Rattle.std.specs.List.{list_any}
-use Rattle.std.specs.Result.{is_ok, is_err}
-use Rattle.std.proofs.lemmas.Result.{err_from_is_err_and}
-use Rattle.std.proofs.lemmas.List.Elements.{All-map}
-use Rattle.gnap_io.specs.Gears.{IsUnused}
+use Rattle.std.proofs.Common.{arith, refl}
 use Rattle.gnap_io.specs.declared.world.WorldFault.TheVariants.{OutOfMemory}
-use Rattle.gnap_model.specs.declared.objects.Setup.{Setup}
-use Rattle.grant_machine.specs.Gnap.{gnap}
-use Rattle.histories.specs.Whole.{OneHistory}
-use Rattle.serving.specs.Workers.{accounts_of}
-use Rattle.as_edge.specs.EdgeSessions.{IsEdgeSession}
-use Rattle.serving.specs.ServiceEnds.{has_failed}
 use Rattle.as_service.specs.Services.{not_started}
-use Rattle.serving.proofs.UsedUp.{any_counted, used_up}
-use Rattle.as_service.proofs.FewEntries.{unused_few, started_few}
-use Rattle.as_service.proofs.TakenBack.{taken_back}
+use Rattle.as_service.proofs.FewEntries.{service_holds}
 use Rattle.as_service.proofs.service.serve_at.Goals as goal
 
 pub returns-in_default-clause-served : goal.returns-in_default-clause-served
@@ -24,43 +10,7 @@ returns-in_default-clause-served g c = not_started OutOfMemory refl refl
 pub returns-in_default-new-clause-served : goal.returns-in_default-new-clause-served
 returns-in_default-new-clause-served g c = not_started OutOfMemory refl refl
 
-pub returns-in_err-gears-clause-served : goal.returns-in_err-gears-clause-served
-returns-in_err-gears-clause-served g c =
-    let p = err_from_is_err_and c.from_residual.result c.from_residual.ensures.1 in
-    rw (p.1, p.2) (not_started _ c.in_err-gears.ensures.state c.in_err-gears.ensures.gears)
-
-pub returns-in-Err-clause-served : goal.returns-in-Err-clause-served
-returns-in-Err-clause-served g c =
-    let st = g.W.Gear.Counted.state in
-    let gears = c.serve_gears-gears.result.0.items in
-    let same = sym (c.serve_gears-gears.ensures.unserved (ap is_err c.in-Err.is)) in
-    let unused = All-map IsUnused st gears (subst (All (λ gear. IsUnused (st gear))) same c.in_ok-gears.ensures.gears.unused) in
-    taken_back st c.args.setup c.args.address.now c.args.workers c.args.quota _ (g.W.World.state c.args.world.now) _ _ gears
-    c.in_ok-gears.ensures.state c.stop_gears.ensures.state (c.serve_gears-gears.ensures.many ∙ c.in_ok-gears.ensures.gears.many)
-    (subst (λ (s : Setup). OneHistory gnap s (accounts_of (IsEdgeSession s) (map st gears))) c.in-Ok-new.ensures.ok c.serve_gears-gears.ensures.one)
-    c.serve_gears-gears.ensures.out
-    unused c.requires.few (unused_few (map st gears) unused) c.what_holds.ensures
-
-pub returns-then-failed-clause-served : goal.returns-then-failed-clause-served
-returns-then-failed-clause-served g c =
-    let st = g.W.Gear.Counted.state in
-    let gears = c.serve_gears-gears.result.0.items in
-    taken_back st c.args.setup c.args.address.now c.args.workers c.args.quota _ (g.W.World.state c.args.world.now) _ _ gears
-    c.in_ok-gears.ensures.state c.stop_gears.ensures.state (c.serve_gears-gears.ensures.many ∙ c.in_ok-gears.ensures.gears.many)
-    (subst (λ (s : Setup). OneHistory gnap s (accounts_of (IsEdgeSession s) (map st gears))) c.in-Ok-new.ensures.ok c.serve_gears-gears.ensures.one)
-    c.serve_gears-gears.ensures.out
-    (any_counted st gears ∙ ap (list_any (λ gear. has_failed (st gear))) (sym c.as_slice.ensures.value) ∙ sym c.any_failed-failed.ensures ∙ c.if-failed.true)
-    c.requires.few (started_few st c.args.workers c.args.quota c.in_ok-gears.gears.items gears c.in_ok-gears.ensures.gears (omega (arith, c.ranges.quota)) (c.serve_gears-gears.ensures.done (ap is_ok c.in-Ok-served.is))) c.what_holds.ensures
-
 pub returns-clause-served : goal.returns-clause-served
 returns-clause-served g c =
-    let st = g.W.Gear.Counted.state in
-    let gears = c.serve_gears-gears.result.0.items in
-    taken_back st c.args.setup c.args.address.now c.args.workers c.args.quota _ (g.W.World.state c.args.world.now) _ _ gears
-    c.in_ok-gears.ensures.state c.stop_gears.ensures.state (c.serve_gears-gears.ensures.many ∙ c.in_ok-gears.ensures.gears.many)
-    (subst (λ (s : Setup). OneHistory gnap s (accounts_of (IsEdgeSession s) (map st gears))) c.in-Ok-new.ensures.ok c.serve_gears-gears.ensures.one)
-    c.serve_gears-gears.ensures.out
-    (used_up (map st c.in_ok-gears.gears.items) (map st gears) (All-map IsUnused st c.in_ok-gears.gears.items c.in_ok-gears.ensures.gears.unused)
-    (c.serve_gears-gears.ensures.done (ap is_ok c.in-Ok-served.is))
-    (any_counted st gears ∙ ap (list_any (λ gear. has_failed (st gear))) (sym c.as_slice.ensures.value) ∙ sym c.any_failed-failed.ensures ∙ c.if-failed.false))
-    c.requires.few (started_few st c.args.workers c.args.quota c.in_ok-gears.gears.items gears c.in_ok-gears.ensures.gears (omega (arith, c.ranges.quota)) (c.serve_gears-gears.ensures.done (ap is_ok c.in-Ok-served.is))) c.what_holds.ensures
+    service_holds c.args.setup _ c.args.address.now c.args.workers c.args.quota _ _ c.serve_front_at.result c.in-Ok-new.ensures.ok c.requires.few (omega (arith, c.ranges.quota))
+    c.what_holds.ensures c.serve_front_at.ensures.served

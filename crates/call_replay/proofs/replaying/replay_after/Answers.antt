@@ -37,9 +37,9 @@ returns-in_default-clause-replays g c = λ setup is. runs-starved (Turns setup 0
 pub returns-clause-replays : goal.returns-clause-replays
 returns-clause-replays g c = λ setup is.
     let read : c.in-Ok.setup ≡ setup = same_Some c.in-Ok.setup setup (sym c.in-Ok.ensures.value ∙ is) in
-    let kept : c.replay_lines.new.desk.core.rules ≡ setup = c.replay_lines.ensures.rules ∙ c.table_desk-desk.ensures.rules ∙ c.in-Ok-copy.ensures ∙ read in
+    let kept = c.replay_lines.ensures.rules ∙ c.table_desk-desk.ensures.rules ∙ c.in-Ok-copy.ensures ∙ read in
     subst (λ (s : Setup). Replays s 0 (IsLoneHistory setup) (held_by c.args.reader.now) c.args.reader.now.taken c.replay_lines.new.reader.taken
     (g.S.Device.told c.args.source.now) (g.S.Device.told c.replay_lines.new.source) (g.O.Device.told c.args.out.now) (g.O.Device.told c.replay_lines.new.out)
     c.replay_lines.result) read
     (replays-weaker c.in-Ok.setup 0 _ (IsLoneHistory setup) _ _ _ _ _ _ _ _
-    (λ h seen. (subst (λ (s : Setup). Legal gnap s h) kept seen.0.rows.is_legal, seen.1)) c.replay_lines.ensures.replays)
+    (λ h seen. (subst (λ (s : Setup). Legal gnap s h) kept seen.0.legal, seen.1)) c.replay_lines.ensures.replays)

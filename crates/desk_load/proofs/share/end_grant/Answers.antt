@@ -1,14 +1,19 @@
 use Rattle.std.proofs.Common.{◌+◌, refl, sym, subst, arith}
+use Rattle.desk_load.specs.LoadCalls.{cancellation_place}
 use Rattle.desk_load.specs.Loads.{MayBeMade, PutsThrough, EndsGrant}
-use Rattle.desk_load.proofs.Fitting.{question_may}
+use Rattle.desk_load.proofs.Fitting.{cancellation_may, question_may}
 use Rattle.desk_load.proofs.Growing.{less-room, asks-as, not_ended, ended}
 use Rattle.desk_load.proofs.share.end_grant.Goals as goal
 
 pub returns-then-not-ends-clause-ends : goal.returns-then-not-ends-clause-ends
 returns-then-not-ends-clause-ends g c = λ h s.
     let D = g.D.Desk in
-    subst (λ b. PutsThrough (EndsGrant b c.args.opened.now c.args.rotated.now) (D.number c.args.desk.now) (D.seen c.args.desk.now) h c.args.tally.now c.args.tally.now)
-    (sym c.if-not-ends.true) (not_ended c.args.opened.now c.args.rotated.now _ (D.seen c.args.desk.now) h c.args.tally.now s)
+    subst (λ b. PutsThrough (EndsGrant b c.args.grant c.args.opened.now c.args.rotated.now) (D.number c.args.desk.now) (D.seen c.args.desk.now) h c.args.tally.now c.args.tally.now)
+    (sym c.if-not-ends.true) (not_ended c.args.grant c.args.opened.now c.args.rotated.now _ (D.seen c.args.desk.now) h c.args.tally.now s)
+
+pub ask-requires-clause-may : goal.ask-requires-clause-may
+ask-requires-clause-may g c =
+    subst MayBeMade (sym c.in_ok-cancellation_of.ensures.call) (cancellation_may c.args.grant cancellation_place c.args.opened.now (omega arith) (omega arith))
 
 pub ask-requires-2-clause-may : goal.ask-requires-2-clause-may
 ask-requires-2-clause-may g c = subst MayBeMade (sym c.in_ok-question_about.ensures.call) (question_may c.args.rotated.now)
@@ -16,9 +21,9 @@ ask-requires-2-clause-may g c = subst MayBeMade (sym c.in_ok-question_about.ensu
 pub returns-clause-ends : goal.returns-clause-ends
 returns-clause-ends g c = λ h s.
     let D = g.D.Desk in
-    subst (λ b. PutsThrough (EndsGrant b c.args.opened.now c.args.rotated.now) (D.number c.args.desk.now) (D.seen c.ask-2.new.desk) h c.args.tally.now c.ask-2.new.tally)
+    subst (λ b. PutsThrough (EndsGrant b c.args.grant c.args.opened.now c.args.rotated.now) (D.number c.args.desk.now) (D.seen c.ask-2.new.desk) h c.args.tally.now c.ask-2.new.tally)
     (sym c.if-not-ends.false)
-    (ended (D.number c.args.desk.now) (D.number c.ask.new.desk) (D.number c.ask-2.new.desk) (D.seen c.args.desk.now) (D.seen c.ask.new.desk) (D.seen c.ask-2.new.desk)
+    (ended c.args.grant (D.number c.args.desk.now) (D.number c.ask.new.desk) (D.number c.ask-2.new.desk) (D.seen c.args.desk.now) (D.seen c.ask.new.desk) (D.seen c.ask-2.new.desk)
     c.args.tally.now c.ask.new.tally c.ask-2.new.tally c.args.opened.now c.args.rotated.now c.in_ok-ask.field-0 c.in_ok-ask-2.field-0 c.ask.ensures.number
     (asks-as _ _ _ _ _ _ _ _ c.in_ok-cancellation_of.ensures.call c.in_ok-ask.ensures.asks)
     (asks-as _ _ _ _ _ _ _ _ c.in_ok-question_about.ensures.call c.in_ok-ask-2.ensures.asks) h s)

@@ -1,11 +1,26 @@
 use Rattle.std.proofs.Common.{◌+◌, refl, sym, subst, arith}
+use Rattle.desk_load.specs.LoadCalls.{opening_place, rotation_place}
 use Rattle.desk_load.specs.Loads.{MayBeMade}
-use Rattle.desk_load.proofs.Fitting.{opening_may}
+use Rattle.desk_load.proofs.Fitting.{opening_may, question_may, rotation_may}
 use Rattle.desk_load.proofs.Growing.{less-room, asks-as, put_through, if-ok-then}
 use Rattle.desk_load.proofs.share.put_through.Goals as goal
 
 pub ask-requires-clause-may : goal.ask-requires-clause-may
-ask-requires-clause-may g c = subst MayBeMade (sym c.in_ok-opening_call.ensures.call) opening_may
+ask-requires-clause-may g c =
+    subst MayBeMade (sym c.in_ok-opening_call.ensures.call) (opening_may c.args.grant opening_place (omega arith) (omega arith))
+
+pub ask-requires-2-clause-may : goal.ask-requires-2-clause-may
+ask-requires-2-clause-may g c = subst MayBeMade (sym c.in_ok-question_about.ensures.call) (question_may c.in_ok-opened.opened)
+
+pub ask-requires-3-clause-may : goal.ask-requires-3-clause-may
+ask-requires-3-clause-may g c =
+    subst MayBeMade (sym c.in_ok-rotation_of.ensures.call) (rotation_may c.args.grant rotation_place c.in_ok-opened.opened (omega arith) (omega arith))
+
+pub ask-requires-4-clause-may : goal.ask-requires-4-clause-may
+ask-requires-4-clause-may g c = subst MayBeMade (sym c.in_ok-question_about-2.ensures.call) (question_may c.in_ok-opened.opened)
+
+pub ask-requires-5-clause-may : goal.ask-requires-5-clause-may
+ask-requires-5-clause-may g c = subst MayBeMade (sym c.in_ok-question_about-3.ensures.call) (question_may c.in_ok-rotated.rotated)
 
 pub ask-requires-3-clause-room : goal.ask-requires-3-clause-room
 ask-requires-3-clause-room g c =
@@ -40,7 +55,7 @@ returns-clause-puts g c =
     let D = g.D.Desk in
     let s0 = D.seen c.args.desk.now in
     if-ok-then c.end_grant.result _ _ c.end_grant.ensures.ends (λ u end.
-    put_through (D.number c.args.desk.now) (D.number c.ask.new.desk) (D.number c.ask-2.new.desk) (D.number c.ask-3.new.desk) (D.number c.ask-4.new.desk) (D.number c.ask-5.new.desk)
+    put_through c.args.grant (D.number c.args.desk.now) (D.number c.ask.new.desk) (D.number c.ask-2.new.desk) (D.number c.ask-3.new.desk) (D.number c.ask-4.new.desk) (D.number c.ask-5.new.desk)
     s0 (D.seen c.ask.new.desk) (D.seen c.ask-2.new.desk) (D.seen c.ask-3.new.desk) (D.seen c.ask-4.new.desk) (D.seen c.ask-5.new.desk) (D.seen c.end_grant.new.desk)
     c.args.tally.now c.ask.new.tally c.ask-2.new.tally c.ask-3.new.tally c.ask-4.new.tally c.ask-5.new.tally c.end_grant.new.tally
     c.args.ends c.in_ok-opened.opened c.in_ok-ask.field-0 c.in_ok-rotated.rotated c.in_ok-ask-2.field-0 c.in_ok-ask-3.field-0

@@ -1,7 +1,16 @@
-use Rattle.std.proofs.Common.{refl}
+use Rattle.std.proofs.Common.{ℕ, List, Option, subst, refl}
+use Rattle.gnap_tool.specs.declared.command.Command.TheVariants.{Sign}
+use Rattle.gnap_tool.specs.Runs.{CarriesOut}
 use Rattle.world_uses.proofs.Uses.{nothing_used}
 use Rattle.gnap_tool.proofs.EachCommand.{carried_as, used_as}
 use Rattle.gnap_tool.proofs.commands.carry_out.Goals as goal
+
+pub returns-in-Sign-clause-carried : goal.returns-in-Sign-clause-carried
+returns-in-Sign-clause-carried g c =
+    let N : Option (List ℕ) → Type 0 = λ nonce.
+    CarriesOut (Sign c.in-Sign.config c.in-Sign.key c.in-Sign.created c.in-Sign.file nonce) (g.W.World.text c.args.world.now)
+    (g.W.World.state c.args.world.now) (g.W.World.state c.sign.new.world) (g.O.Device.told c.args.out.now) (g.O.Device.told c.sign.new.out) c.sign.result in
+    carried_as _ _ _ _ _ c.in-Sign.is _ _ _ (subst N c.as_ref-nonce.ensures.value c.sign.ensures.carried)
 
 pub returns-in-As-clause-carried : goal.returns-in-As-clause-carried
 returns-in-As-clause-carried g c = carried_as _ _ _ _ _ c.in-As.is _ _ _ (c.serve.ensures.carried (g.O.Device.told c.args.out.now))

@@ -1,14 +1,12 @@
-use Rattle.std.proofs.Common.{◌≡◌, ◌∷◌, [], sym, subst, inl, inr, refl}
+use Rattle.std.proofs.Common.{◌≡◌, ◌∷◌, [], refl}
 use Rattle.std.specs.Prelude.{None}
 use Rattle.gnap_io.specs.Worlds.{WorldState}
 use Rattle.gnap_io.specs.declared.world.Opening.TheVariants.{File, Gears, Link}
 use Rattle.resource_server.specs.declared.setup.RsSetup.{RsSetup}
-use Rattle.command_inputs.specs.declared.ended.Ended.{Ended}
 use Rattle.gnap_tool.specs.Configs.{rs_setup_in}
 use Rattle.gnap_tool.specs.Runs.{ServesRs}
-use Rattle.world_uses.specs.Uses.{UsesWorld}
+use Rattle.gnap_tool.proofs.ServedResources.{unserved}
 use Rattle.world_uses.proofs.AfterConfig.{by_setup_on, by_setup_off, unread_used, unread_writes, uses_then}
-use Rattle.gnap_tool.proofs.ServedResources.{resources_used}
 use Rattle.gnap_tool.proofs.commands.serve_rs.Goals as goal
 
 pub returns-in-Ok-clause-carried : goal.returns-in-Ok-clause-carried
@@ -16,30 +14,27 @@ returns-in-Ok-clause-carried g c out =
     let text = g.W.World.text c.args.world.now in
     let before = g.W.World.state c.args.world.now in
     let between = g.W.World.state c.open_config.new.world in
-    let after = g.W.World.state c.serve_resources_at.new.world in
-    let ended = c.ended_service.result in
-    let Then : WorldState → RsSetup → Type 0 = λ b setup. (out ≡ out) × ServesRs setup c.args.listen.now c.args.server.now c.args.quota b after ended in
+    let after = g.W.World.state c.serve_cached.new.world in
+    let ended = c.serve_cached.result in
+    let Then : WorldState → RsSetup → Type 0 = λ b setup. (out ≡ out) × ServesRs setup c.args.listen.now c.args.server.now c.args.quota c.args.cache b after ended in
     by_setup_on (λ (setup : RsSetup). setup) rs_setup_in (text c.args.config.now) before between Then c.in-Ok.setup after out out ended c.in-Ok.ensures.config
-    (refl, inr (c.serve_resources_at.result, c.ended_service.ensures, c.serve_resources_at.ensures.served))
+    (refl, c.serve_cached.ensures.served)
 
 pub returns-in-Err-clause-carried : goal.returns-in-Err-clause-carried
 returns-in-Err-clause-carried g c out =
     let text = g.W.World.text c.args.world.now in
     let after = g.W.World.state c.open_config.new.world in
     let ended = c.in-Err.ended in
-    let Then : WorldState → RsSetup → Type 0 = λ b setup. (out ≡ out) × ServesRs setup c.args.listen.now c.args.server.now c.args.quota b after ended in
-    by_setup_off (λ (setup : RsSetup). setup) rs_setup_in (text c.args.config.now) (g.W.World.state c.args.world.now) after Then out ended (λ is setup. (refl, inl (refl, is))) c.in-Err.ensures.config
+    let Then : WorldState → RsSetup → Type 0 = λ b setup. (out ≡ out) × ServesRs setup c.args.listen.now c.args.server.now c.args.quota c.args.cache b after ended in
+    by_setup_off (λ (setup : RsSetup). setup) rs_setup_in (text c.args.config.now) (g.W.World.state c.args.world.now) after Then out ended (λ is setup. (refl, unserved setup c.args.listen.now c.args.server.now c.args.quota c.args.cache after ended is)) c.in-Err.ensures.config
 
 pub returns-in-Ok-clause-world : goal.returns-in-Ok-clause-world
 returns-in-Ok-clause-world g c =
     let before = g.W.World.state c.args.world.now in
     let between = g.W.World.state c.open_config.new.world in
-    let after = g.W.World.state c.serve_resources_at.new.world in
-    let openings = Link c.args.server.now ∷ Gears c.args.listen.now 1 c.args.quota ∷ [] in
-    let U : Ended → Type 0 = λ ended. UsesWorld openings None between after ended in
-    uses_then c.args.config.now before between after c.in-Ok.ensures.world openings None c.ended_service.result
-    (subst U (sym c.ended_service.ensures)
-    (resources_used c.in-Ok.setup c.args.listen.now c.args.server.now c.args.quota between after c.serve_resources_at.result c.serve_resources_at.ensures.served))
+    let after = g.W.World.state c.serve_cached.new.world in
+    uses_then c.args.config.now before between after c.in-Ok.ensures.world (Link c.args.server.now ∷ Gears c.args.listen.now 1 c.args.quota ∷ []) None
+    c.serve_cached.result c.serve_cached.ensures.world
 
 pub returns-in-Err-clause-world : goal.returns-in-Err-clause-world
 returns-in-Err-clause-world g c =

@@ -12,6 +12,7 @@ pub serve_door-requires-clause-link : goal.serve_door-requires-clause-link
 serve_door-requires-clause-link g c lifetimes outlive = ap (λ (l : LinkState). l.asked) c.requires.link
 
 pub returns : goal.returns
-returns g c = gear_served g.G.Counted.state c.args.setup.now (g.L.Link.link c.serve_door.new.link) c.args.gears.items c.index_mut-gear.result.now c.serve_door.new.gear
+returns g c = gear_served g.K.RequestGuard.guards c.args.setup.now (g.K.RequestGuard.kept c.args.guard.now) (g.K.RequestGuard.kept c.serve_door.new.guard)
+    (g.L.Link.link c.serve_door.new.link) g.G.Counted.state c.args.gears.items c.index_mut-gear.result.now c.serve_door.new.gear
     c.has_failed-failed.result c.requires.one c.index_mut-gear.ensures.value c.requires.unused c.serve_door.ensures.account c.serve_door.ensures.out
     c.serve_door.ensures.done c.has_failed-failed.ensures

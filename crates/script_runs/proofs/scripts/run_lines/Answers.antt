@@ -42,14 +42,14 @@ returns-then-is_behind_last-clause-runs g c =
     let read = c.next_line-end.ensures.read in
     let none = sym c.in_default.ensures in
     let short = not_long c.next_line-end.result c.next_line-end.ensures.long in
-    let same = kept_line _ _ _ _ _ _ _ _ _ _ _ _ _ inv.goes _ _ _ _ c.next_line-end.result none short read c.next_line-end.new.self.limited in
+    let same = kept_line _ _ _ _ _ _ _ _ _ _ _ _ _ _ inv.goes _ _ _ _ c.next_line-end.result none short read c.next_line-end.new.self.limited in
     let behind = c.is_behind_last.ensures.nothing c.if-is_behind_last.true in
     let parts = last_parts _ _ _ _ _ _ _ _ c.next_line-end.result behind.0 read in
     let R : Ended → Type 0 = λ ended. RunsLines (ScriptHad c.args.client.now (g.L.Link.link c.args.link.now).asked c.lines.client (g.L.Link.link c.lines.link).asked) EndsScript
     (held_by c.args.reader.now) c.args.reader.now.taken c.next_line-end.new.self.taken
     (g.S.Device.told c.args.source.now) (g.S.Device.told c.next_line-end.new.source) (g.O.Device.told c.args.out.now) (g.O.Device.told c.lines.out) ended in
     subst R (sym c.ended_script.ensures)
-    (script-behind _ _ _ _ _ _ _ _ _ _ _ _ _ inv.goes read.bytes _ _ read.came (parts.0 ∙ empty_line read.full (sym (ap length same) ∙ behind.1)) parts.2)
+    (script-behind _ _ _ _ _ _ _ _ _ _ _ _ _ _ inv.goes read.bytes _ _ read.came (parts.0 ∙ empty_line read.full (sym (ap length same) ∙ behind.1)) parts.2)
 
 pub returns-then-is_behind_last-clause-reads : goal.returns-then-is_behind_last-clause-reads
 returns-then-is_behind_last-clause-reads g c =
@@ -69,6 +69,15 @@ returns-then-is_behind_last-clause-took g c =
 
 -- ---- a line had its turn
 
+pub overflow_add-number : goal.overflow_add-number
+overflow_add-number g c =
+    let inv = c.lines.invariant in
+    let few = inv.goes.goes.few in
+    let count = inv.goes.number_is in
+    let more = c.next_line-end.ensures.read.came.counted in
+    let most = c.next_line-end.new.self.limited in
+    omega (arith, few, count, more, most)
+
 pub lines-smaller : goal.lines-smaller
 lines-smaller g c =
     let read = c.next_line-end.ensures.read in
@@ -83,11 +92,11 @@ lines-preserved g c =
     let read = c.next_line-end.ensures.read in
     let none = sym c.in_default.ensures in
     let short = not_long c.next_line-end.result c.next_line-end.ensures.long in
-    let says = says_full _ _ _ _ _ _ _ _ _ _ _ _ _ inv.goes _ _ _ _ c.next_line-end.result none short read c.next_line-end.new.self.limited _ _ _ _ _ c.in-On.ensures.says in
+    let says = says_full _ _ _ _ _ _ _ _ _ _ _ _ _ _ inv.goes _ _ _ _ c.next_line-end.result none short read c.next_line-end.new.self.limited _ _ _ _ _ _ c.in-On.ensures.says in
     let parts = whole_parts _ _ _ _ _ _ _ _ c.next_line-end.result none (sym c.is_last.ensures ∙ c.if-is_last.false) short read in
     record {
       empty = c.emptied-line.ensures;
-      goes = script-next _ _ _ _ _ _ _ _ _ _ _ _ _ inv.goes read.full read.bytes _ _ _ _ _ says _ _ _ read.came read.is_line parts says.goes says.prints;
+      goes = script-next _ _ _ _ _ _ _ _ _ _ _ _ _ _ inv.goes read.full read.bytes _ _ _ _ _ _ refl says _ _ _ read.came read.is_line parts says.goes says.prints;
       reads = read_counts c.next_line-end.result _ _ none c.next_line-end.ensures.cause ∙ inv.reads;
       writes = c.in-On.ensures.counts ∙ inv.writes;
     }
@@ -98,16 +107,16 @@ returns-then-is_last-clause-runs g c =
     let read = c.next_line-end.ensures.read in
     let none = sym c.in_default.ensures in
     let short = not_long c.next_line-end.result c.next_line-end.ensures.long in
-    let says = says_full _ _ _ _ _ _ _ _ _ _ _ _ _ inv.goes _ _ _ _ c.next_line-end.result none short read c.next_line-end.new.self.limited _ _ _ _ _ c.in-On.ensures.says in
+    let says = says_full _ _ _ _ _ _ _ _ _ _ _ _ _ _ inv.goes _ _ _ _ c.next_line-end.result none short read c.next_line-end.new.self.limited _ _ _ _ _ _ c.in-On.ensures.says in
     let last = sym c.is_last.ensures ∙ c.if-is_last.true in
     let parts = last_parts _ _ _ _ _ _ _ _ c.next_line-end.result last read in
     let some = c.is_behind_last.ensures.some c.if-is_behind_last.false last in
-    let same = kept_line _ _ _ _ _ _ _ _ _ _ _ _ _ inv.goes _ _ _ _ c.next_line-end.result none short read c.next_line-end.new.self.limited in
+    let same = kept_line _ _ _ _ _ _ _ _ _ _ _ _ _ _ inv.goes _ _ _ _ c.next_line-end.result none short read c.next_line-end.new.self.limited in
     let R : Ended → Type 0 = λ ended. RunsLines (ScriptHad c.args.client.now (g.L.Link.link c.args.link.now).asked c.say_line.new.client (g.L.Link.link c.say_line.new.link).asked) EndsScript
     (held_by c.args.reader.now) c.args.reader.now.taken c.next_line-end.new.self.taken
     (g.S.Device.told c.args.source.now) (g.S.Device.told c.next_line-end.new.source) (g.O.Device.told c.args.out.now) (g.O.Device.told c.say_line.new.out) ended in
     subst R (sym c.ended_script-then-is_last.ensures)
-    (script-last _ _ _ _ _ _ _ _ _ _ _ _ _ inv.goes read.full read.bytes _ _ _ _ _ says _ _ read.came read.is_line parts.0 parts.2 (λ zero. some (ap length same ∙ zero)) says.goes says.prints)
+    (script-last _ _ _ _ _ _ _ _ _ _ _ _ _ _ inv.goes read.full read.bytes _ _ _ _ _ _ refl says _ _ read.came read.is_line parts.0 parts.2 (λ zero. some (ap length same ∙ zero)) says.goes says.prints)
 
 pub returns-then-is_last-clause-reads : goal.returns-then-is_last-clause-reads
 returns-then-is_last-clause-reads g c =
@@ -131,8 +140,8 @@ returns-in-Starved-clause-runs g c =
     let read = c.next_line-end.ensures.read in
     let none = sym c.in_default.ensures in
     let short = not_long c.next_line-end.result c.next_line-end.ensures.long in
-    let says = says_full _ _ _ _ _ _ _ _ _ _ _ _ _ inv.goes _ _ _ _ c.next_line-end.result none short read c.next_line-end.new.self.limited _ _ _ _ _ c.in-Starved.ensures.says in
-    script-starved _ _ _ _ _ _ _ _ _ _ _ _ _ inv.goes read.full read.bytes _ _ _ _ _ says _ _ read.came read.is_line (line_later _ _ _ _ _ _ _ _ c.next_line-end.result none short read) says.prints
+    let says = says_full _ _ _ _ _ _ _ _ _ _ _ _ _ _ inv.goes _ _ _ _ c.next_line-end.result none short read c.next_line-end.new.self.limited _ _ _ _ _ _ c.in-Starved.ensures.says in
+    script-starved _ _ _ _ _ _ _ _ _ _ _ _ _ _ inv.goes read.full read.bytes _ _ _ _ _ _ refl says _ _ read.came read.is_line (line_later _ _ _ _ _ _ _ _ c.next_line-end.result none short read) says.prints
 
 pub returns-in-Starved-clause-reads : goal.returns-in-Starved-clause-reads
 returns-in-Starved-clause-reads g c = read_counts c.next_line-end.result _ _ (sym c.in_default.ensures) c.next_line-end.ensures.cause ∙ c.lines.invariant.reads
@@ -143,8 +152,8 @@ returns-in-Cut-clause-runs g c =
     let read = c.next_line-end.ensures.read in
     let none = sym c.in_default.ensures in
     let short = not_long c.next_line-end.result c.next_line-end.ensures.long in
-    let says = says_full _ _ _ _ _ _ _ _ _ _ _ _ _ inv.goes _ _ _ _ c.next_line-end.result none short read c.next_line-end.new.self.limited _ _ _ _ _ c.in-Cut.ensures.says in
-    script-cut _ _ _ _ _ _ _ _ _ _ _ _ _ inv.goes read.full read.bytes _ _ _ _ _ says _ _ read.came read.is_line (line_later _ _ _ _ _ _ _ _ c.next_line-end.result none short read) says.prints
+    let says = says_full _ _ _ _ _ _ _ _ _ _ _ _ _ _ inv.goes _ _ _ _ c.next_line-end.result none short read c.next_line-end.new.self.limited _ _ _ _ _ _ c.in-Cut.ensures.says in
+    script-cut _ _ _ _ _ _ _ _ _ _ _ _ _ _ inv.goes read.full read.bytes _ _ _ _ _ _ refl says _ _ read.came read.is_line (line_later _ _ _ _ _ _ _ _ c.next_line-end.result none short read) says.prints
 
 pub returns-in-Cut-clause-reads : goal.returns-in-Cut-clause-reads
 returns-in-Cut-clause-reads g c = read_counts c.next_line-end.result _ _ (sym c.in_default.ensures) c.next_line-end.ensures.cause ∙ c.lines.invariant.reads

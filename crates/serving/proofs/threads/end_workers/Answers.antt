@@ -27,9 +27,9 @@ loop-worker-preserved g c =
     let session = g.F.Front.session in
     let made = map-next state c.loop-worker.gears.items c.push_reserved-in-loop-worker.new.self.items gear gears in
     let all_seen = map-next (λ p. p.seen) c.loop-worker.passes.items c.push_reserved.new.self.items pass pushed in
-    let account = account_as session w.station.home.rules c.args.shared.now.rules w.gear.log (state gear).log w.station.number
+    let account = account_as session w.front c.args.front.now w.gear.log (state gear).log w.station.number
     (0 + length (map (λ p. p.seen) c.loop-worker.passes.items)) pass.seen
-    (ap (λ h. h.rules) placed.0) (sym (ap (λ s. s.log) c.leave-pass.ensures.gear))
+    placed.2 (sym (ap (λ s. s.log) c.leave-pass.ensures.gear))
     (let a = placed.1 in let b = i.4 in let d = length-map c.loop-worker.passes.items (λ p. p.seen) in omega (arith, a, b, d)) c.leave-pass.ensures.account in (
       tt,
       tt,
@@ -44,9 +44,9 @@ loop-worker-preserved g c =
           (subst (λ h. IsPassOf h pass) placed.0 c.leave-pass.ensures.of, place)),
       subst (All (λ g'. (state g').out ≡ 0)) (sym gears)
           (All-push (λ g'. (state g').out ≡ 0) c.loop-worker.gears.items gear i.8 (ap (λ s. s.out) c.leave-pass.ensures.gear ∙ c.leave-pass.ensures.out)),
-      subst (λ l. AllKeep 0 (accounts_of (session c.args.shared.now.rules) l) (map (λ p. p.seen) c.push_reserved.new.self.items)) (sym made)
-          (subst (λ l. AllKeep 0 (accounts_of (session c.args.shared.now.rules) (map state c.loop-worker.gears.items ++ state gear ∷ [])) l) (sym all_seen)
-          (one-more-account (session c.args.shared.now.rules) (map state c.loop-worker.gears.items) (state gear) (map (λ p. p.seen) c.loop-worker.passes.items) pass.seen 0 i.9 account)),
+      subst (λ l. AllKeep 0 (accounts_of (session c.args.front.now) l) (map (λ p. p.seen) c.push_reserved.new.self.items)) (sym made)
+          (subst (λ l. AllKeep 0 (accounts_of (session c.args.front.now) (map state c.loop-worker.gears.items ++ state gear ∷ [])) l) (sym all_seen)
+          (one-more-account (session c.args.front.now) (map state c.loop-worker.gears.items) (state gear) (map (λ p. p.seen) c.loop-worker.passes.items) pass.seen 0 i.9 account)),
       (let a = c.in-Some.ensures.steps.1 in let b = ap length c.in-Some.ensures.steps.0 in let d = i.10 in omega (arith, a, b, d)),
     )
 

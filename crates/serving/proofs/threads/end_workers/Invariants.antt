@@ -18,5 +18,5 @@ invariant-loop-worker g l =
     × (length l.yielded + length (into_iter_items l.worker-iterator) ≤ vec_capacity l.gears)
     × ((k : ℕ) (p : _) → get_elem? l.passes.items k ≡ some p → IsPassOf l.shared p × (p.number ≡ k))
     × All (λ gear. (g.G.Counted.state gear).out ≡ 0) l.gears.items
-    × AllKeep 0 (accounts_of (g.F.Front.session l.shared.rules) (map g.G.Counted.state l.gears.items)) (map (λ pass. pass.seen) l.passes.items)
+    × AllKeep 0 (accounts_of (g.F.Front.session l.front) (map g.G.Counted.state l.gears.items)) (map (λ pass. pass.seen) l.passes.items)
     × (into_iter_len l.worker-iterator ≡ length (into_iter_items l.worker-iterator))

@@ -6,24 +6,24 @@ use Rattle.serving.proofs.threads.serve_gears.Goals as goal
 
 pub returns-in_default-clause-one : goal.returns-in_default-clause-one
 returns-in_default-clause-one g c =
-    one_unused g.C.M.Machine.law (g.F.Front.session (g.F.Front.rules c.args.front.now)) g.G.Counted.state c.args.gears.items (g.F.Front.rules c.args.front.now) c.requires.unused
+    one_unused g.C.M.Machine.law (g.F.Front.session c.args.front.now) g.G.Counted.state c.args.gears.items (g.F.Front.rules c.args.front.now) c.requires.unused
 
 pub returns-in_default-2-clause-one : goal.returns-in_default-2-clause-one
 returns-in_default-2-clause-one g c =
-    one_unused g.C.M.Machine.law (g.F.Front.session (g.F.Front.rules c.args.front.now)) g.G.Counted.state c.args.gears.items (g.F.Front.rules c.args.front.now) c.requires.unused
+    one_unused g.C.M.Machine.law (g.F.Front.session c.args.front.now) g.G.Counted.state c.args.gears.items (g.F.Front.rules c.args.front.now) c.requires.unused
 
 pub end_workers-passes-requires-clause-workers : goal.end_workers-passes-requires-clause-workers
 end_workers-passes-requires-clause-workers g c κs within =
     let made = c.start_workers-workers.result in
     let value = c.as_mut_slice.ensures.value in
     let many = c.serve_workers.ensures.many ∙ ap length value in
-    subst (AreWorkers c.in-Ok.shared) (sym (written_back made.len made.items c.serve_workers.new.workers many (let a = made.ok in omega (arith, a))))
-    (same_workers c.in-Ok.shared made.items c.serve_workers.new.workers (subst (λ l. EachDrained l c.serve_workers.new.workers) value c.serve_workers.ensures.each) many c.start_workers-workers.ensures.workers)
+    subst (AreWorkers c.in-Ok.shared c.args.front.now) (sym (written_back made.len made.items c.serve_workers.new.workers many (let a = made.ok in omega (arith, a))))
+    (same_workers c.in-Ok.shared c.args.front.now made.items c.serve_workers.new.workers (subst (λ l. EachDrained l c.serve_workers.new.workers) value c.serve_workers.ensures.each) many c.start_workers-workers.ensures.workers)
 
 pub returns-clause-one : goal.returns-clause-one
 returns-clause-one g c =
     let h = c.close_all.ensures in
-    one_of_all g.C.M.Machine.law g.F.Front.session (g.F.Front.rules c.args.front.now) c.in-Ok.shared.rules
+    one_of_all g.C.M.Machine.law (g.F.Front.session c.args.front.now) (g.F.Front.rules c.args.front.now) c.in-Ok.shared.rules
     (map g.G.Counted.state c.end_workers-passes.result.1.items) (map (λ p. p.seen) c.end_workers-passes.result.0.items) h.0
     (c.in-Ok.ensures.ok.0 ∙ c.requires.rules) c.end_workers-passes.ensures.accounts h.2 h.1
 

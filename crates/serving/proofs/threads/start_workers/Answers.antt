@@ -19,7 +19,7 @@ loop-pass-init g c =
       ap (λ l. map (λ worker. worker.gear) l ++ map g.G.Counted.state (into_iter_items c.into_iter-rest.result)) none ∙ ap (map g.G.Counted.state) c.into_iter-rest.ensures.rest,
       ap length none,
       (let a = ap length none in let b = ap length passes in let d = c.requires.room.1 in omega (arith, a, b, d)),
-      subst (ArePlaced c.args.shared.now) (sym none) (λ k w e. absurd cc),
+      subst (ArePlaced c.args.shared.now c.args.front.now) (sym none) (λ k w e. absurd cc),
       All-same (λ gear. IsUnused (g.G.Counted.state gear)) _ _ c.into_iter-rest.ensures.rest c.requires.unused,
       All-same (λ gear. (g.G.Counted.state gear).left ≤ 4294967295) _ _ c.into_iter-rest.ensures.rest c.requires.within,
       c.into_iter-rest.ensures.len ∙ sym (ap length c.into_iter-rest.ensures.rest ∙ sized),
@@ -67,10 +67,11 @@ loop-pass-preserved g c =
           ∙ made-next (λ worker. worker.gear) g.G.Counted.state c.loop-pass.workers.items c.new.result _ _ c.in-Some-next.gear _ i.3 c.in-Some-next.ensures.items (ap (λ w. w.gear) c.new.ensures),
       (let a = ap length pushed in let b = i.4 in omega (arith, a, b, size, done)),
       (let a = ap length pushed in let b = i.5 in let d = ap length c.in-Some.ensures.steps.0 in let e = c.push_reserved.ensures.capacity in omega (arith, a, b, d, e, size)),
-      subst (ArePlaced c.args.shared.now) (sym pushed)
-          (each-next (λ k w. (w.station.home ≡ c.args.shared.now) × (w.station.number ≡ k)) c.loop-pass.workers.items c.new.result i.6 (
+      subst (ArePlaced c.args.shared.now c.args.front.now) (sym pushed)
+          (each-next (λ k w. (w.station.home ≡ c.args.shared.now) × (w.station.number ≡ k) × (w.front ≡ c.args.front.now)) c.loop-pass.workers.items c.new.result i.6 (
             ap (λ w. w.station.home) c.new.ensures,
             ap (λ w. w.station.number) c.new.ensures ∙ (c.requires.passes.all.each (length c.loop-pass.yielded) c.in-Some.pass at).1 ∙ sym i.4,
+            ap (λ w. w.front) c.new.ensures,
           )),
       All-rest (λ gear. IsUnused (g.G.Counted.state gear)) c.in-Some-next.gear _ _ c.in-Some-next.ensures.items i.7,
       All-rest (λ gear. (g.G.Counted.state gear).left ≤ 4294967295) c.in-Some-next.gear _ _ c.in-Some-next.ensures.items i.8,

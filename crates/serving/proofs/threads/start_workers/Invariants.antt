@@ -12,7 +12,7 @@ invariant-loop-pass g l =
     × (map (λ worker. worker.gear) l.workers.items ++ map g.G.Counted.state (into_iter_items l.rest) ≡ map g.G.Counted.state l.fn.gears.items)
     × (length l.workers.items ≡ length l.yielded)
     × (length l.workers.items + length (into_iter_items l.pass-iterator) ≤ vec_capacity l.workers)
-    × ArePlaced l.shared l.workers.items
+    × ArePlaced l.shared l.front l.workers.items
     × All (λ gear. IsUnused (g.G.Counted.state gear)) (into_iter_items l.rest)
     × All (λ gear. (g.G.Counted.state gear).left ≤ 4294967295) (into_iter_items l.rest)
     × (into_iter_len l.rest ≡ length (into_iter_items l.rest))

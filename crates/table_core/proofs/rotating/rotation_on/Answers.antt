@@ -4,5 +4,5 @@ use Rattle.table_core.proofs.rotating.rotation_on.Goals as goal
 
 pub returns-in-None-new_key : goal.returns-in-None-new_key
 returns-in-None-new_key c =
-    let same : same_text c.in-Some.grant.now.key c.args.key.now ≡ true = search rules in
+    let same : same_text c.args.token.now.key c.args.key.now ≡ true = search rules in
     rw (c.in-Some.is, c.in-None-new_key.is, same) c.succeed.ensures

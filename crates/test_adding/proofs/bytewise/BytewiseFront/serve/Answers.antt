@@ -1,12 +1,31 @@
-use Rattle.histories.specs.Turns.{IsTurn}
-use Rattle.serving.proofs.LogLemmas.{serves-so}
-use Rattle.test_adding.specs.Adding.{adding}
-use Rattle.serving.specs.Connections.{Session}
-use Rattle.test_adding.specs.Bytewise.{byte_wire, byte_face, IsByteSession}
+use Rattle.serving.proofs.LogLemmas.{served-at-desk, same-desk}
+use Rattle.test_adding.specs.Bytewise.{byte_wire, IsByteTurn, IsByteSession}
 use Rattle.test_adding.proofs.bytewise.BytewiseFront.serve.Goals as goal
+
+pub serve_connection-requires-clause-room : goal.serve_connection-requires-clause-room
+serve_connection-requires-clause-room g c = record {
+  rules_are = c.requires.rules;
+  history = c.requires.room.0;
+  was_seen = c.requires.room.1;
+  short = c.requires.room.2;
+}
+
+pub returns-clause-rules : goal.returns-clause-rules
+returns-clause-rules g c =
+    (same-desk g.D.Desk.rules g.D.Desk.number g.D.Desk.home g.D.Desk.seen _ byte_wire (IsByteTurn c.args.self.now.start) _ _ _ _ _ _ c.serve_connection.ensures
+    c.requires.room.0 c.requires.room.1).0
+
+pub returns-clause-number : goal.returns-clause-number
+returns-clause-number g c =
+    (same-desk g.D.Desk.rules g.D.Desk.number g.D.Desk.home g.D.Desk.seen _ byte_wire (IsByteTurn c.args.self.now.start) _ _ _ _ _ _ c.serve_connection.ensures
+    c.requires.room.0 c.requires.room.1).1
+
+pub returns-clause-home : goal.returns-clause-home
+returns-clause-home g c =
+    (same-desk g.D.Desk.rules g.D.Desk.number g.D.Desk.home g.D.Desk.seen _ byte_wire (IsByteTurn c.args.self.now.start) _ _ _ _ _ _ c.serve_connection.ensures
+    c.requires.room.0 c.requires.room.1).2
 
 pub returns-clause-serves : goal.returns-clause-serves
 returns-clause-serves g c h seen =
-    serves-so (λ conn turns. Session byte_wire (IsTurn adding byte_face c.args.self.now.start) conn turns c.serve_connection.result)
-    (IsByteSession c.args.self.now.start)
-    (λ conn turns is. (c.serve_connection.result, is)) _ _ h _ _ _ (c.serve_connection.ensures.session h seen)
+    served-at-desk g.D.Desk.rules g.D.Desk.number g.D.Desk.home g.D.Desk.seen _ byte_wire (IsByteTurn c.args.self.now.start) _ _ _ _ _ _ c.serve_connection.ensures
+    (IsByteSession c.args.self.now.start) (λ turns is. (c.serve_connection.result, is)) h seen

@@ -1,6 +1,0 @@
-use Rattle.as_edge.proofs.Requests.{reads_fault}
-use Rattle.as_edge.proofs.authorization_server.AuthorizationServerServer.next_message.Goals as goal
-
-pub returns-in-Err-clause-reads : goal.returns-in-Err-clause-reads
-returns-in-Err-clause-reads g c = reads_fault c.args.held.now c.next_message.new.held (g.S.Device.told c.args.source.now) (g.S.Device.told c.next_message.new.source)
-    c.in-Err.fault c.in-Err.ensures.next c.no_message.result c.no_message.ensures

@@ -1,0 +1,4 @@
+pub mod SeenKept
+pub mod Keeping
+pub mod Putting
+pub mod Chains

@@ -1,0 +1,4 @@
+pub mod Caching
+pub mod Seen
+pub mod Steps
+pub mod Laws

@@ -1,0 +1,22 @@
+//! Laws of a cache. The functions do nothing; their contracts are the laws.
+ghost use Rattle.introspection_cache.specs.Laws.{CachedAllowMeans, FreshIsSilent, KeptAreFew, KeptCame};
+
+/// What it takes that a request is let through: a reply that came now or at most 30 seconds ago to the same question, and the signature of this request.
+pub fn cached_allow_means()
+    ensures { CachedAllowMeans }
+{}
+
+/// Where a fresh reply to the question of a request is kept, nothing is asked.
+pub fn fresh_is_silent()
+    ensures { FreshIsSilent }
+{}
+
+/// What is kept came from the link, at its moment, to its question.
+pub fn kept_came()
+    ensures { KeptCame }
+{}
+
+/// There are never more replies kept than the capacity.
+pub fn kept_are_few()
+    ensures { KeptAreFew }
+{}

@@ -1,0 +1,6 @@
+pub mod RotationBase
+pub mod Faults
+pub mod SecondSignature
+pub mod Rotated
+pub mod SignedRotation
+pub mod Laws
