@@ -20,3 +20,4 @@ pub mod LiveGrants
 pub mod LiveTokens
 pub mod WithinLimits
 pub mod DrawnCodes
+pub mod BoundKeys
