@@ -1,9 +1,8 @@
 -- A token that was rotated to a key is that key's.
-use Rattle.std.proofs.Common.{ℕ, ◌≡◌, ◌≢◌, ◌∙◌, ◌⊎◌, inl, inr, Bool, true, false, List, [], ◌∷◌, ◌++◌, reverse, refl, sym, ap, subst, arith, Option, Some, None}
+use Rattle.std.proofs.Common.{ℕ, ◌≡◌, ◌≢◌, ◌∙◌, inl, inr, Bool, true, false, List, [], ◌∷◌, ◌++◌, reverse, refl, sym, ap, subst, Option, Some, None}
 use Rattle.std.specs.Prelude.{◌&&◌, not, Contains, if◌then◌else◌}
 use Rattle.std.specs.List.{list_any}
 use Rattle.std.proofs.lemmas.Bool.{and_from, and_parts}
-use Rattle.std.proofs.lemmas.List.Elements.{Contains-append_cases, Contains-push_cases}
 use Rattle.std.proofs.lemmas.Option.{same_Some}
 use Rattle.std.proofs.lemmas.Slice.Eq.{bytes_eq-Decides}
 use Rattle.histories.specs.History.{Follows, Legal, notes_of, now}
@@ -31,6 +30,7 @@ use Rattle.gnap_laws.specs.BoundKeys.{RotatesTo, TellsKey, IsBoundTo}
 use Rattle.gnap_model.proofs.TrailNotes.{HasNote, note-append_left, note-append_right, note-reverse, first_noted, found_in, token_found, managed_issued}
 use Rattle.gnap_laws.proofs.Causes.{if_both, if_known}
 use Rattle.gnap_laws.proofs.Doors.{note_one}
+use Rattle.gnap_laws.proofs.Members.{contains_none, contains_cases}
 use Rattle.gnap_laws.proofs.AliveTokens.{not_replaced}
 use Rattle.gnap_laws.proofs.LiveTokens.{live_parts}
 use Rattle.gnap_laws.proofs.Opened.{HaveOrigins, issued_opened}
@@ -68,15 +68,11 @@ rotate_binds rules supply trail owner value key token =
 
 -- an entry of the history, with those before it and after it
 entry_split : (h : List Event) (e : Event) → Contains h e → (before : List Event) × (after : List Event) × (h ≡ before ++ e ∷ after)
-entry_split [] e h = absurd (let k = h.1 in omega arith)
-entry_split (x ∷ xs) e h = elim (Contains-append_cases (x ∷ []) xs e h) [
-  | inl here ↦ ([], xs, ap (λ (y : Event). y ∷ xs) (first (Contains-push_cases [] x e here)))
+entry_split [] e h = contains_none e h
+entry_split (x ∷ xs) e h = elim (contains_cases x e xs h) [
+  | inl here ↦ ([], xs, ap (λ (y : Event). y ∷ xs) here)
   | inr there ↦ let rest = entry_split xs e there in (x ∷ rest.0, rest.1, ap (λ (l : List Event). x ∷ l) rest.2)
 ]
-  where
-    first : Contains [] e ⊎ (x ≡ e) → x ≡ e
-    first (inl h) = absurd (let k = h.1 in omega arith)
-    first (inr same) = same
 
 -- After the rotation the token is noted as the key's.
 pub rotation_noted : (rules : Setup) (h : List Event) (rotation : Event) (token : TokenOut) (key : Text) → Legal grant_law rules h

@@ -12,6 +12,7 @@ pub mod Tells
 pub mod Active
 pub mod NewestFirst
 pub mod NoteCounts
+pub mod Members
 pub mod Room
 pub mod WrongReferences
 pub mod FreeCodes
