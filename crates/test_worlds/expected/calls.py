@@ -147,12 +147,12 @@ def active_form(reply, setup):
     token = reply.token
     form = {
         "access": reply.access, "active": True, "exp": token.until, "iat": token.issued,
-        "instance_id": token.grant.key, "iss": setup.base + "/gnap",
+        "instance_id": token.key, "iss": setup.base + "/gnap",
     }
     if token.ask.bearer:
         form["flags"] = ["bearer"]
     else:
-        form["key"] = token.grant.key
+        form["key"] = token.key
     return form
 
 

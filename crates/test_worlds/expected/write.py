@@ -31,7 +31,7 @@ def cases():
     for module in (http_cases, edge_cases, outside_cases, rights_cases, line_cases, mark_cases, marked_histories, written_cases, client_cases, resource_cases):
         yield from module.cases()
     yield from run_cases.cases(scripted_grants.RUNS + scripted_interactions.RUNS)
-    yield from map(run_cases.replay_case, generated_histories.runs() + stored_histories.runs())
+    yield from map(run_cases.replay_case, scripted_grants.REPLAYS + generated_histories.runs() + stored_histories.runs())
 
 
 def lines_of(values):
