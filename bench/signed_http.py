@@ -83,9 +83,9 @@ def first_reply(held):
 
 
 class Served:
-    """`gnap as` over the setup at a free port of this machine. The options are those of `subprocess.Popen`."""
+    """`gnap as` over the setup at a free port of this machine, behind the words of a program that runs it. The options are those of `subprocess.Popen`."""
 
-    def __init__(self, workers, quota, **options):
+    def __init__(self, workers, quota, under=(), **options):
         self.folder = tempfile.TemporaryDirectory()
         config = os.path.join(self.folder.name, "setup.json")
         with open(config, "w") as file:
@@ -95,7 +95,7 @@ class Served:
             self.address = probe.getsockname()
         listen = f"{self.address[0]}:{self.address[1]}"
         program = os.environ.get("GNAP", os.path.join(TOP, "gnap"))
-        self.process = subprocess.Popen([program, "as", config, listen, str(workers), str(quota)], **options)
+        self.process = subprocess.Popen([*under, program, "as", config, listen, str(workers), str(quota)], **options)
 
     def connect(self):
         conn = socket.create_connection(self.address, timeout=30)
