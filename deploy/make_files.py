@@ -67,6 +67,7 @@ class Setups:
         port = "" if ports["TLS"] == 443 else f":{ports['TLS']}"
         self.base = {part: f"https://{name}{port}" for part, name in zip(("as", "rs", "front"), names)}
         self.client = {"id": "print-shop", "secret": new_secret()}
+        self.new_key = {"id": "print-shop-2", "secret": new_secret()}
         self.server = {"id": "shelf", "secret": new_secret()}
         self.consent = {"id": "consent", "secret": new_secret()}
         self.read = {"type": "calendar", "actions": ["read"], "locations": [f"{self.base['rs']}/calendar"]}
@@ -76,6 +77,7 @@ class Setups:
         """That of `gnap as`."""
         keys = [
             {**self.client, "role": "client", "auto": [], "ask": ["photos", "mail", self.change]},
+            {**self.new_key, "role": "client", "auto": [], "ask": []},
             {**self.server, "role": "server", "serves": ["photos", "mail", "calendar"]},
             {**self.consent, "role": "front"},
         ]
@@ -85,7 +87,7 @@ class Setups:
         """That of `gnap rs`."""
         shown = {"/photos": ("photos", "12 pictures"), "/calendar": (self.read, "3 entries"), "/mail": ("mail", "2 letters")}
         routes = [{"method": "GET", "path": path, "right": right, "text": text} for path, (right, text) in shown.items()]
-        return {"base": self.base["rs"], "server": self.base["as"], **self.server, "keys": [self.client], "routes": routes}
+        return {"base": self.base["rs"], "server": self.base["as"], **self.server, "keys": [self.client, self.new_key], "routes": routes}
 
     def front(self) -> dict:
         """That of the consent front. The identifiers of its users are drawn, so that they tell nothing."""
@@ -107,6 +109,7 @@ class Setups:
             "connect": f"127.0.0.1:{self.ports['TLS']}",
             "trusted": str(self.folder / "certificate.pem"),
             **self.client,
+            "new_key": self.new_key,
             "wanted": [
                 {"label": "pictures", "access": ["photos", self.change]},
                 {"label": "letters", "access": ["mail"], "flags": ["bearer"]},

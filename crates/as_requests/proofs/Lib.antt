@@ -2,3 +2,4 @@ pub mod NewKeys
 pub mod WhoSigned
 pub mod Authorizations
 pub mod Askable
+pub mod BothKeys
