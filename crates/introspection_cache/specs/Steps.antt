@@ -41,5 +41,6 @@ KeepsAnswered capacity text now (Err fault) others answer kept = ((i : ℕ) → 
 pub data AnswersAnew (setup : RsSetup) (m : Message) (now i : ℕ) (wanted : List Right) (text : List ℕ) (capacity : ℕ) (before after : LinkState) (others : Kept)
     : Guarded → Kept → Type 0 where
   asked_anew : (reply : Result (List ℕ) LinkFault) → IsAsked setup now text before after reply → (answer : Guarded) → Judged setup m now i wanted reply answer
-      → (kept : Kept) → KeepsAnswered capacity text now reply others answer kept → AnswersAnew setup m now i wanted text capacity before after others answer kept
+      → (kept : Kept) → KeepsAnswered capacity text now reply others answer kept
+      → AnswersAnew setup m now i wanted text capacity before after others answer kept
   starved_before : after ≡ before → AnswersAnew setup m now i wanted text capacity before after others guarded.Memory others
