@@ -10,9 +10,10 @@ pub mod authorization;
 pub mod desk_calls;
 pub mod edge;
 pub mod routes;
-mod signers;
+pub mod signers;
 
 pub use authorization::presented_value;
 pub use desk_calls::{DirectAnswer, RequestStep, desk_call};
 pub use edge::Edge;
 pub use routes::{Purpose, Route};
+pub use signers::{Signer, find_signer};
