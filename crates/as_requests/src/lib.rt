@@ -15,9 +15,10 @@ pub mod edge;
 mod key_rotations;
 pub mod laws;
 pub mod routes;
-mod signers;
+pub mod signers;
 
 pub use authorization::presented_value;
 pub use desk_calls::{DirectAnswer, RequestStep, desk_call};
 pub use edge::Edge;
 pub use routes::{Purpose, Route};
+pub use signers::{Signer, find_signer};
