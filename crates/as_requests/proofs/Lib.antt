@@ -3,3 +3,4 @@ pub mod WhoSigned
 pub mod Authorizations
 pub mod Askable
 pub mod BothKeys
+pub mod DirectErrors

@@ -5,3 +5,4 @@ pub mod Signers
 pub mod KeyRotations
 pub mod DeskCalls
 pub mod Laws
+pub mod DirectErrors

@@ -1,5 +1,6 @@
-//! A law of requests. The function does nothing; its contract is the law.
+//! Laws of requests. The functions do nothing; their contracts are the laws.
 ghost use Rattle.as_requests.specs.Laws.{IsSignedByBoth};
+ghost use Rattle.as_requests.specs.DirectErrors.{DirectErrorsHaveCauses};
 
 use key_rotation::laws::rotation_laws;
 
@@ -10,3 +11,11 @@ pub fn signed_by_both()
 {
     rotation_laws();
 }
+
+/// An error that is answered at once, without the state, is the answer to a request for a call, and its code has its cause: `InvalidClient`, and for an
+/// introspection `InvalidResourceServer`, where nobody signed as the call needs it, the signer's key has another role, the body names another than the
+/// signer, or a rotation names a key that didn't sign too; `InvalidRequest` where the body isn't of its form; `InvalidFlag` where a flag stands twice. No other
+/// code is answered at once (RFC 9635, section 3.6; RFC 9767, section 3.5).
+pub fn direct_errors_have_causes()
+    ensures { DirectErrorsHaveCauses }
+{}
