@@ -1,17 +1,13 @@
-//! Requests that come in pieces, and the texts of replies.
-ghost use Rattle.std.specs.Prelude.{◌≡◌, ◌≤◌, true};
-ghost use Rattle.std.specs.List.{list_all};
-ghost use Rattle.http_edge.specs.Replies.{MayWrite, is_method_byte};
+//! Requests that come in pieces, and that end early.
+ghost use Rattle.std.specs.Prelude.{◌≤◌};
 
+use crate::texts::text;
 use bytes_and_lists::bytes::Bytes;
 use bytes_and_lists::memory::Mem;
 use bytes_and_lists::message::Message;
 use gnap_io::device::{Device, Failed, Source};
-use gnap_io::memory_devices::{MemSink, MemSource};
-use http_edge::{
-    EdgeFault, Held, HttpReply, ReplyFault, WriteFault, fault_reply, next_message, read_reply,
-    write_reply,
-};
+use gnap_io::memory_devices::MemSource;
+use http_edge::{EdgeFault, Held, next_message};
 use std::alloc::Global;
 use std::rt::HostRuntime;
 
@@ -76,22 +72,6 @@ fn answer_to(alloc: Global, text: &[u8], most: usize, bad_read: u64) -> Result<A
     }
 }
 
-// A front, a filler so many times, and a back.
-fn text(
-    alloc: Global,
-    front: &[u8],
-    filler: &[u8],
-    times: usize,
-    back: &[u8],
-) -> Result<Bytes, Mem> {
-    let mut bytes = Bytes::from_slice(alloc, front)?;
-    for _ in 0..times {
-        bytes.extend(filler)?;
-    }
-    bytes.extend(back)?;
-    Ok(bytes)
-}
-
 const GET: &[u8] = b"GET / HTTP/1.1\r\n";
 
 fn message(fields: usize, body: usize, last: bool, held: usize) -> Answer {
@@ -110,6 +90,21 @@ const LARGE: Answer = Answer::Fault(EdgeFault::TooLarge);
 const CODED: Answer = Answer::Fault(EdgeFault::Coded);
 
 const CUT: Answer = Answer::Fault(EdgeFault::Truncated);
+
+// A message with one field and no body, and one with a field and five bytes.
+const ONE_FIELD: Answer = Answer::Message {
+    fields: 1,
+    body: 0,
+    last: false,
+    held: 0,
+};
+
+const FIVE_BYTES: Answer = Answer::Message {
+    fields: 1,
+    body: 5,
+    last: false,
+    held: 0,
+};
 
 // A front, a filler so many times and a back, and what is answered.
 const ANSWERS: [(&[u8], &[u8], usize, &[u8], Answer); 61] = [
@@ -162,18 +157,7 @@ const ANSWERS: [(&[u8], &[u8], usize, &[u8], Answer); 61] = [
             held: 0,
         },
     ),
-    (
-        GET,
-        b"Connection: closed\r\n",
-        1,
-        b"\r\n",
-        Answer::Message {
-            fields: 1,
-            body: 0,
-            last: false,
-            held: 0,
-        },
-    ),
+    (GET, b"Connection: closed\r\n", 1, b"\r\n", ONE_FIELD),
     (GET, b"Content-Length: 5\r\n", 1, b"\r\nabcd", CUT),
     (b"GET  / HTTP/1.1\r\n\r\n", b"", 0, b"", BAD),
     (b"GET /\x01 HTTP/1.1\r\n\r\n", b"", 0, b"", BAD),
@@ -216,12 +200,7 @@ const ANSWERS: [(&[u8], &[u8], usize, &[u8], Answer); 61] = [
         b"x",
         16_361,
         b"\r\n\r\n",
-        Answer::Message {
-            fields: 1,
-            body: 0,
-            last: false,
-            held: 0,
-        },
+        ONE_FIELD,
     ),
     (b"GET / HTTP/1.1\r\nA: ", b"x", 16_362, b"\r\n\r\n", LARGE),
     (b"GET /", b"x", 16_384, b" HTTP/1.1\r\n\r\n", LARGE),
@@ -246,12 +225,7 @@ const ANSWERS: [(&[u8], &[u8], usize, &[u8], Answer); 61] = [
         b"x",
         16_360,
         b"\r\n\r\n",
-        Answer::Message {
-            fields: 1,
-            body: 0,
-            last: false,
-            held: 0,
-        },
+        ONE_FIELD,
     ),
     (b"GET / HTTP/1.1\r\nA: ", b"x", 16_363, b"\r\n\r\n", LARGE),
     (
@@ -269,41 +243,20 @@ const ANSWERS: [(&[u8], &[u8], usize, &[u8], Answer); 61] = [
     (GET, b"Content-Length: 0x5\r\n", 1, b"\r\nabcde", BAD),
     (GET, b"Content-Length: 5.0\r\n", 1, b"\r\nabcde", BAD),
     (GET, b"Content-Length:  \r\n", 1, b"\r\nabcde", BAD),
-    (
-        GET,
-        b"Content-Length: 05\r\n",
-        1,
-        b"\r\nabcde",
-        Answer::Message {
-            fields: 1,
-            body: 5,
-            last: false,
-            held: 0,
-        },
-    ),
+    (GET, b"Content-Length: 05\r\n", 1, b"\r\nabcde", FIVE_BYTES),
     (
         GET,
         b"Content-Length:   5\t\r\n",
         1,
         b"\r\nabcde",
-        Answer::Message {
-            fields: 1,
-            body: 5,
-            last: false,
-            held: 0,
-        },
+        FIVE_BYTES,
     ),
     (
         GET,
         b"Content-Length: 00000000000000000000000005\r\n",
         1,
         b"\r\nabcde",
-        Answer::Message {
-            fields: 1,
-            body: 5,
-            last: false,
-            held: 0,
-        },
+        FIVE_BYTES,
     ),
     (GET, b"Content-Length: 00065537\r\n", 1, b"\r\nabcde", LARGE),
     (
@@ -324,30 +277,8 @@ const ANSWERS: [(&[u8], &[u8], usize, &[u8], Answer); 61] = [
     (GET, b"A: b\x7f\r\n", 1, b"\r\n", BAD),
     (GET, b": b\r\n", 1, b"\r\n", BAD),
     (GET, b"A\r\n", 1, b"\r\n", BAD),
-    (
-        GET,
-        b"A: \xff\t\x80\r\n",
-        1,
-        b"\r\n",
-        Answer::Message {
-            fields: 1,
-            body: 0,
-            last: false,
-            held: 0,
-        },
-    ),
-    (
-        GET,
-        b"A:b\r\n",
-        1,
-        b"\r\n",
-        Answer::Message {
-            fields: 1,
-            body: 0,
-            last: false,
-            held: 0,
-        },
-    ),
+    (GET, b"A: \xff\t\x80\r\n", 1, b"\r\n", ONE_FIELD),
+    (GET, b"A:b\r\n", 1, b"\r\n", ONE_FIELD),
     (
         b"GET / HTTP/1.1\nA: b\n",
         b"B: c\r\n",
@@ -442,168 +373,4 @@ fn requests_are_read_however_they_are_cut(rt: HostRuntime) {
     assert!(rt; matches!(&wrong_answers(rt.alloc()), Ok(wrong) if wrong.is_empty()));
     assert!(rt; matches!(&wrong_ends(rt.alloc()), Ok(wrong) if wrong.is_empty()));
     assert!(rt; two_requests(rt.alloc()) == Ok(true));
-}
-
-// What is written of a reply, whose read gives its status and its body.
-fn printed(alloc: Global, reply: &HttpReply) -> Result<Option<Bytes>, Mem>
-    requires { MayWrite reply.now }
-{
-    let mut sink = MemSink::new(alloc, 20_000, Vec::new(alloc))?;
-    let written = write_reply(&mut sink, reply).is_ok();
-    let same_body = match (read_reply(alloc, sink.written()), &reply.body) {
-        (Err(ReplyFault::OutOfMemory), _) => return Err(Mem),
-        (Ok((status, body)), Some(expected)) => status == reply.status
-            && body.as_slice() == expected.as_slice(),
-        (Ok((status, body)), None) => status == reply.status && body.len() == 0,
-        (Err(ReplyFault::NotAReply), _) => false,
-    };
-    if written && same_body {
-        Ok(Some(Bytes::from_slice(alloc, sink.written())?))
-    } else {
-        Ok(None)
-    }
-}
-
-fn prints(alloc: Global, reply: &HttpReply, expected: &[u8]) -> Result<bool, Mem>
-    requires { MayWrite reply.now }
-{
-    match printed(alloc, reply)? {
-        Some(text) => Ok(text.as_slice() == expected),
-        None => Ok(false),
-    }
-}
-
-fn prints_fault(alloc: Global, fault: EdgeFault, expected: &[u8]) -> Result<bool, Mem> {
-    match fault_reply(fault) {
-        Some(reply) => prints(alloc, &reply, expected),
-        None => Ok(expected.is_empty()),
-    }
-}
-
-const ERROR: &[u8] = b"{\"error\":{\"code\":\"invalid_client\"}}";
-
-fn replies(alloc: Global) -> Result<bool, Mem> {
-    let refused = HttpReply::new(401, Some(Bytes::from_slice(alloc, ERROR)?), false);
-    let long = HttpReply::new(200, Some(text(alloc, b"", b"x", 9_000, b"")?), false);
-    let long_text = text(
-        alloc,
-        b"HTTP/1.1 200 OK\r\nContent-Type: application/json\r\nCache-Control: no-store\r\nContent-Length: 9000\r\n\r\n",
-        b"x",
-        9_000,
-        b"",
-    )?;
-    let methods = Bytes::from_slice(alloc, b"POST, OPTIONS")?;
-    Ok(
-        prints(
-            alloc,
-            &refused,
-            b"HTTP/1.1 401 Unauthorized\r\nContent-Type: application/json\r\nCache-Control: no-store\r\nWWW-Authenticate: GNAP\r\n\
-                Content-Length: 35\r\n\r\n{\"error\":{\"code\":\"invalid_client\"}}",
-        )? && prints(
-            alloc,
-            &HttpReply::new(204, None, false),
-            b"HTTP/1.1 204 No Content\r\nCache-Control: no-store\r\n\r\n",
-        )? && prints(
-            alloc,
-            &HttpReply::new(404, None, true),
-            b"HTTP/1.1 404 Not Found\r\nCache-Control: no-store\r\nConnection: close\r\nContent-Length: 0\r\n\r\n",
-        )? && prints(alloc, &long, long_text.as_slice())?
-            && is_not_allowed(alloc, methods)?,
-    )
-}
-
-fn fault_replies(alloc: Global) -> Result<bool, Mem> {
-    Ok(
-        prints_fault(
-            alloc,
-            EdgeFault::BadHead,
-            b"HTTP/1.1 400 Bad Request\r\nCache-Control: no-store\r\nConnection: close\r\nContent-Length: 0\r\n\r\n",
-        )? && prints_fault(
-            alloc,
-            EdgeFault::TooLarge,
-            b"HTTP/1.1 413 Payload Too Large\r\nCache-Control: no-store\r\nConnection: close\r\nContent-Length: 0\r\n\r\n",
-        )? && prints_fault(
-            alloc,
-            EdgeFault::Coded,
-            b"HTTP/1.1 501 Not Implemented\r\nCache-Control: no-store\r\nConnection: close\r\nContent-Length: 0\r\n\r\n",
-        )? && prints_fault(
-            alloc,
-            EdgeFault::OutOfMemory,
-            b"HTTP/1.1 503 Service Unavailable\r\nCache-Control: no-store\r\nConnection: close\r\nContent-Length: 0\r\n\r\n",
-        )? && prints_fault(alloc, EdgeFault::Truncated, b"")?,
-    )
-}
-
-fn is_not_allowed(alloc: Global, methods: Bytes) -> Result<bool, Mem>
-    requires { list_all is_method_byte methods ≡ true }
-{
-    prints(
-        alloc,
-        &HttpReply::not_allowed(methods, false),
-        b"HTTP/1.1 405 Method Not Allowed\r\nCache-Control: no-store\r\nAllow: POST, OPTIONS\r\nContent-Length: 0\r\n\r\n",
-    )
-}
-
-// Where the second write fails, what the first one took went out.
-fn is_cut(alloc: Global) -> Result<bool, Mem> {
-    let reply = HttpReply::new(200, Some(text(alloc, b"", b"x", 9_000, b"")?), false);
-    let mut sink = MemSink::new(alloc, 20_000, Vec::from_slice(alloc, &[2])?)?;
-    let fault = write_reply(&mut sink, &reply);
-    Ok(fault == Err(WriteFault) && sink.written().ends_with(b"\r\n\r\n"))
-}
-
-// Texts, and the status and the body that are read.
-const READ: [(&[u8], Option<(u16, &[u8])>); 14] = [
-    (
-        b"HTTP/1.1 200 OK\r\nDate: x\r\nContent-Length: 2\r\nVia: y\r\n\r\n{}",
-        Some((200, b"{}")),
-    ),
-    (b"HTTP/1.0 200\r\n\r\n{}", Some((200, b"{}"))),
-    (b"HTTP/1.1 204 No Content\r\n\r\n", Some((204, b""))),
-    (b"HTTP/1.1 204 No Content\r\n\r\n{}", None),
-    (b"HTTP/1.1 200 OK\r\nContent-Length: 2\r\n\r\n{", None),
-    (b"HTTP/1.1 200 OK\r\nContent-Length: 2\r\n\r\n{}x", None),
-    (
-        b"HTTP/1.1 200 OK\r\nContent-Length: 02\r\n\r\n{}",
-        Some((200, b"{}")),
-    ),
-    (b"HTTP/1.1 200 OK\r\nContent-Length: +2\r\n\r\n{}", None),
-    (
-        b"HTTP/1.1 200 OK\r\nContent-Length: 2\r\nContent-Length: 2\r\n\r\n{}",
-        None,
-    ),
-    (
-        b"HTTP/1.1 200 OK\r\nTransfer-Encoding: chunked\r\n\r\n0\r\n\r\n",
-        None,
-    ),
-    (b"HTTP/1.1 200 OK\r\nContent-Encoding: gzip\r\n\r\n{}", None),
-    (b"HTTP/2 200 OK\r\n\r\n", None),
-    (b"HTTP/1.1 200 OK\r\n", None),
-    (b"", None),
-];
-
-// The texts that are read otherwise than the table says.
-fn wrong_reads(alloc: Global) -> Result<Vec<usize>, Mem> {
-    let mut wrong = Vec::new(alloc);
-    for (place, (text, expected)) in READ.iter().enumerate() {
-        let right = match (read_reply(alloc, text), expected) {
-            (Err(ReplyFault::OutOfMemory), _) => return Err(Mem),
-            (Err(ReplyFault::NotAReply), None) => true,
-            (Ok((status, body)), Some((code, bytes))) => status == *code
-                && body.as_slice() == *bytes,
-            _ => false,
-        };
-        if !right {
-            wrong.push(place)?;
-        }
-    }
-    Ok(wrong)
-}
-
-#[test]
-fn replies_are_written_and_read(rt: HostRuntime) {
-    assert!(rt; replies(rt.alloc()) == Ok(true));
-    assert!(rt; fault_replies(rt.alloc()) == Ok(true));
-    assert!(rt; is_cut(rt.alloc()) == Ok(true));
-    assert!(rt; matches!(&wrong_reads(rt.alloc()), Ok(wrong) if wrong.is_empty()));
 }

@@ -23,14 +23,16 @@ fn are_the_same_again(alloc: Global, json: &[u8]) -> Option<bool> {
     Some(again.len() == rights.len() && covers(&again, &rights) && covers(&rights, &again))
 }
 
-/// The second is the first right of RFC 9635, section 8, with a location and no geolocation.
+// The second is the first right of RFC 9635, section 8, with a location and no geolocation.
+const RIGHTS: [&str; 3] = [
+    "[]",
+    "[{\"type\":\"photo-api\",\"actions\":[\"read\",\"print\"],\"locations\":[\"https://server.example.net/\"],\"datatypes\":[\"images\"]}]",
+    "[\"x\",{\"type\":\"t\",\"privileges\":[\"p\"],\"identifier\":\"i\",\"y\":1}]",
+];
+
 #[test]
 fn rights_are_the_same_again(rt: HostRuntime) -> Result<(), Fail> {
-    for json in [
-        "[]",
-        "[{\"type\":\"photo-api\",\"actions\":[\"read\",\"print\"],\"locations\":[\"https://server.example.net/\"],\"datatypes\":[\"images\"]}]",
-        "[\"x\",{\"type\":\"t\",\"privileges\":[\"p\"],\"identifier\":\"i\",\"y\":1}]",
-    ] {
+    for json in RIGHTS {
         let same = are_the_same_again(rt.alloc(), json.as_bytes());
         assert_eq!(rt; same, Some(true), "{json}");
     }

@@ -52,15 +52,18 @@ fn two_cover(alloc: Global, actions: &str, locations: &str) -> Result<bool, Mem>
     Ok(covers(&granted, &wanted))
 }
 
+// Actions and locations, and whether they are covered.
+const COVERED: [(&str, &str, bool); 5] = [
+    ("r", "ab", true),
+    ("w", "a", true),
+    ("w", "b", false),
+    ("", "", false),
+    ("r", "", false),
+];
+
 #[test]
 fn covers_by_the_union_of_the_granted_rights(rt: HostRuntime) -> Result<(), Fail> {
-    for (actions, locations, wanted) in [
-        ("r", "ab", true),
-        ("w", "a", true),
-        ("w", "b", false),
-        ("", "", false),
-        ("r", "", false),
-    ] {
+    for (actions, locations, wanted) in COVERED {
         let found = two_cover(rt.alloc(), actions, locations)
             .ok()
             .ok_or("memory")?;
@@ -91,6 +94,36 @@ fn printed(alloc: Global, json: &[u8]) -> Option<String> {
     }
 }
 
+// JSON texts, and whether each is wrong.
+const READ: [(&str, bool); 9] = [
+    ("[\"\"]", true),
+    ("[{\"type\":\"t\",\"actions\":[\"a\"],\"x\":1}]", false),
+    ("[{\"type\":\"t\",\"actions\":[]}]", true),
+    ("[{\"type\":\"t\",\"privileges\":\"a\"}]", true),
+    ("[{\"type\":\"t\",\"identifier\":[\"a\"]}]", true),
+    ("[{\"actions\":[\"a\"]}]", true),
+    ("[1]", true),
+    ("\"photos\"", true),
+    ("[]", false),
+];
+
+#[test]
+fn rights_are_read_or_wrong(rt: HostRuntime) -> Result<(), Fail> {
+    for (json, wrong) in READ {
+        let found = read(rt.alloc(), json.as_bytes()).ok_or("a value")?;
+        assert_eq!(rt; matches!(found, Err(RightsFault::Wrong)), wrong);
+    }
+    Ok(())
+}
+
+// A list of these two names.
+fn names(alloc: Global, first: &[u8], second: &[u8]) -> Result<Names, Mem> {
+    let mut names = Seq::new(alloc);
+    names.push(text(alloc, first)?)?;
+    names.push(text(alloc, second)?)?;
+    Ok(names)
+}
+
 #[test]
 fn reads_references_and_prints_them(rt: HostRuntime) -> Result<(), Fail> {
     let alloc = rt.alloc();
@@ -98,34 +131,12 @@ fn reads_references_and_prints_them(rt: HostRuntime) -> Result<(), Fail> {
     let shown = printed(alloc, json).ok_or("rights")?;
     assert!(rt; shown.as_str() == "[\"photos\",\"a\u{e9}\\\"\"]");
     let photos = read(alloc, json).ok_or("a value")?.ok().ok_or("rights")?;
-    let mut names = Seq::new(alloc);
-    names
-        .push(text(alloc, b"mail").ok().ok_or("memory")?)
-        .ok()
-        .ok_or("memory")?;
-    names
-        .push(text(alloc, b"photos").ok().ok_or("memory")?)
-        .ok()
-        .ok_or("memory")?;
+    let names = names(alloc, b"mail", b"photos").ok().ok_or("memory")?;
     let served = served_part(alloc, &photos, &names).ok().ok_or("memory")?;
     assert_eq!(rt; served.len(), 1);
     assert!(rt; covers(&photos, &served) && !covers(&served, &photos));
     for right in served.as_slice() {
         assert!(rt; serves(&names, right));
-    }
-    for (json, wrong) in [
-        ("[\"\"]", true),
-        ("[{\"type\":\"t\",\"actions\":[\"a\"],\"x\":1}]", false),
-        ("[{\"type\":\"t\",\"actions\":[]}]", true),
-        ("[{\"type\":\"t\",\"privileges\":\"a\"}]", true),
-        ("[{\"type\":\"t\",\"identifier\":[\"a\"]}]", true),
-        ("[{\"actions\":[\"a\"]}]", true),
-        ("[1]", true),
-        ("\"photos\"", true),
-        ("[]", false),
-    ] {
-        let found = read(alloc, json.as_bytes()).ok_or("a value")?;
-        assert_eq!(rt; matches!(found, Err(RightsFault::Wrong)), wrong);
     }
     Ok(())
 }

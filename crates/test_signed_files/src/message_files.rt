@@ -85,8 +85,10 @@ fn verified(alloc: Global, now: u64, text: &[u8], bad_read: u64) -> Result<Bytes
     verify_file(alloc, &setup, now, &mut source)
 }
 
-// What was answered: a text, or the name of a fault.
-fn is_answer(answer: &Result<Bytes, FileFault>, wanted: Result<&[u8], &[u8]>) -> bool {
+// What is answered: a text, or the name of a fault.
+type Wanted = Result<&'static [u8], &'static [u8]>;
+
+fn is_answer(answer: &Result<Bytes, FileFault>, wanted: Wanted) -> bool {
     match (answer, wanted) {
         (Ok(text), Ok(wanted)) => text.as_slice() == wanted,
         (Err(FileFault::Refused(name)), Err(wanted)) => *name == wanted,
@@ -94,55 +96,59 @@ fn is_answer(answer: &Result<Bytes, FileFault>, wanted: Result<&[u8], &[u8]>) ->
     }
 }
 
+// The id of a key, when it signs, a message, and what is answered.
+const SIGNINGS: [(&[u8], u64, &[u8], Wanted); 8] = [
+    (b"c1", 1000, PLAIN, Ok(SIGNED)),
+    (b"c1", 7, WITH_VALUE, Ok(VALUE_SIGNED)),
+    (b"c9", 1000, PLAIN, Err(b"UnknownKey")),
+    (b"c1", 1000, SIGNED, Err(b"HasSignature")),
+    (b"c9", 1000, SIGNED, Err(b"UnknownKey")),
+    (b"c9", 1000, b"", Err(b"Truncated")),
+    (b"c9", 1000, b"GET / HTTP/1.1\r\n\r\nx", Err(b"BadHead")),
+    (b"", 1000, b"GET / HTTP/1.1\r\n\r\n", Err(b"UnknownKey")),
+];
+
 #[test]
 fn messages_are_signed_or_refused(rt: HostRuntime) -> Result<(), Fail> {
-    let cases: [(&[u8], u64, &[u8], Result<&[u8], &[u8]>); 8] = [
-        (b"c1", 1000, PLAIN, Ok(SIGNED)),
-        (b"c1", 7, WITH_VALUE, Ok(VALUE_SIGNED)),
-        (b"c9", 1000, PLAIN, Err(b"UnknownKey")),
-        (b"c1", 1000, SIGNED, Err(b"HasSignature")),
-        (b"c9", 1000, SIGNED, Err(b"UnknownKey")),
-        (b"c9", 1000, b"", Err(b"Truncated")),
-        (b"c9", 1000, b"GET / HTTP/1.1\r\n\r\nx", Err(b"BadHead")),
-        (b"", 1000, b"GET / HTTP/1.1\r\n\r\n", Err(b"UnknownKey")),
-    ];
-    for (id, created, text, wanted) in cases {
+    for (id, created, text, wanted) in SIGNINGS {
         let answer = signed(rt.alloc(), id, created, text);
         assert!(rt; is_answer(&answer, wanted));
     }
     Ok(())
 }
 
+// When it is verified, a message, and what is answered.
+const VERIFYINGS: [(u64, &[u8], Wanted); 17] = [
+    (1000, SIGNED, Ok(b"key c1\n")),
+    (1300, SIGNED, Ok(b"key c1\n")),
+    (700, SIGNED, Ok(b"key c1\n")),
+    (1301, SIGNED, Err(b"Created")),
+    (699, SIGNED, Err(b"Created")),
+    (7, VALUE_SIGNED, Ok(b"key c1\n")),
+    (1000, CHANGED, Err(b"Differs")),
+    (1000, OTHER_BODY, Err(b"Digest")),
+    (1000, UNCOVERED, Err(b"Uncovered")),
+    (1000, TAGGED_TWICE, Err(b"SeveralTags")),
+    (1000, NO_KEY, Err(b"UnknownKey")),
+    (1000, PLAIN, Err(b"NoField")),
+    (1000, b"", Err(b"Truncated")),
+    (1000, b"GET / HTTP/1.1\r\nA:", Err(b"Truncated")),
+    (1000, b"GET  / HTTP/1.1\r\n\r\n", Err(b"BadHead")),
+    (
+        1000,
+        b"GET / HTTP/1.1\r\nContent-Encoding: gzip\r\n\r\n",
+        Err(b"Coded"),
+    ),
+    (
+        1000,
+        b"GET / HTTP/1.1\r\nContent-Length: 65537\r\n\r\n",
+        Err(b"TooLarge"),
+    ),
+];
+
 #[test]
 fn signatures_are_accepted_or_refused(rt: HostRuntime) -> Result<(), Fail> {
-    let cases: [(u64, &[u8], Result<&[u8], &[u8]>); 17] = [
-        (1000, SIGNED, Ok(b"key c1\n")),
-        (1300, SIGNED, Ok(b"key c1\n")),
-        (700, SIGNED, Ok(b"key c1\n")),
-        (1301, SIGNED, Err(b"Created")),
-        (699, SIGNED, Err(b"Created")),
-        (7, VALUE_SIGNED, Ok(b"key c1\n")),
-        (1000, CHANGED, Err(b"Differs")),
-        (1000, OTHER_BODY, Err(b"Digest")),
-        (1000, UNCOVERED, Err(b"Uncovered")),
-        (1000, TAGGED_TWICE, Err(b"SeveralTags")),
-        (1000, NO_KEY, Err(b"UnknownKey")),
-        (1000, PLAIN, Err(b"NoField")),
-        (1000, b"", Err(b"Truncated")),
-        (1000, b"GET / HTTP/1.1\r\nA:", Err(b"Truncated")),
-        (1000, b"GET  / HTTP/1.1\r\n\r\n", Err(b"BadHead")),
-        (
-            1000,
-            b"GET / HTTP/1.1\r\nContent-Encoding: gzip\r\n\r\n",
-            Err(b"Coded"),
-        ),
-        (
-            1000,
-            b"GET / HTTP/1.1\r\nContent-Length: 65537\r\n\r\n",
-            Err(b"TooLarge"),
-        ),
-    ];
-    for (now, text, wanted) in cases {
+    for (now, text, wanted) in VERIFYINGS {
         let answer = verified(rt.alloc(), now, text, 0);
         assert!(rt; is_answer(&answer, wanted));
     }

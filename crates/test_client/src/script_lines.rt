@@ -32,6 +32,34 @@ const SENT: [&[u8]; 2] = [
 const BUSY: &[u8] =
     b"HTTP/1.1 503 Service Unavailable\r\nCache-Control: no-store\r\nConnection: close\r\nContent-Length: 0\r\n\r\n";
 
+// Lines with their numbers, and what is told.
+const LINES: [(u64, &[u8], &str); 8] = [
+    (1, BEGIN, "begin LinkFault\n"),
+    (2, AGAIN, "begin NotInGrammar\n"),
+    (3, b"{\"at\":1000,\"do\":\"poll\"}", "poll WrongState\n"),
+    (
+        4,
+        b"{\"at\":1000,\"do\":\"use\",\"token\":0,\"method\":\"get\",\"path\":\"/\"}",
+        "bad line\n",
+    ),
+    (
+        5,
+        b"{\"at\":1000,\"nonce\":\"a b\",\"do\":\"poll\"}",
+        "bad line\n",
+    ),
+    (
+        6,
+        b"{\"at\":1000,\"nonce\":\"\",\"do\":\"poll\"}",
+        "bad line\n",
+    ),
+    (
+        7,
+        b"{\"at\":1000,\"nonce\":7,\"do\":\"poll\"}",
+        "bad line\n",
+    ),
+    (8, b"", "bad line\n"),
+];
+
 // The first exchange fails, and the second gives the fixed 503.
 #[test]
 fn faults_are_printed(rt: HostRuntime) -> Result<(), Fail> {
@@ -42,37 +70,7 @@ fn faults_are_printed(rt: HostRuntime) -> Result<(), Fail> {
     let mut client = Client::new(alloc, config);
     let busy = Bytes::from_slice(alloc, BUSY)?;
     let mut link = MemLink::new(vec![in alloc; busy]?, vec![in alloc; 1]?);
-    let lines = [
-        (1, BEGIN, "begin LinkFault\n"),
-        (2, AGAIN, "begin NotInGrammar\n"),
-        (
-            3,
-            b"{\"at\":1000,\"do\":\"poll\"}".as_slice(),
-            "poll WrongState\n",
-        ),
-        (
-            4,
-            b"{\"at\":1000,\"do\":\"use\",\"token\":0,\"method\":\"get\",\"path\":\"/\"}".as_slice(),
-            "bad line\n",
-        ),
-        (
-            5,
-            b"{\"at\":1000,\"nonce\":\"a b\",\"do\":\"poll\"}".as_slice(),
-            "bad line\n",
-        ),
-        (
-            6,
-            b"{\"at\":1000,\"nonce\":\"\",\"do\":\"poll\"}".as_slice(),
-            "bad line\n",
-        ),
-        (
-            7,
-            b"{\"at\":1000,\"nonce\":7,\"do\":\"poll\"}".as_slice(),
-            "bad line\n",
-        ),
-        (8, b"".as_slice(), "bad line\n"),
-    ];
-    for (number, line, expected) in lines {
+    for (number, line, expected) in LINES {
         match script_line(alloc, &mut client, &mut link, number, line) {
             Some(said) => {
                 assert_eq!(rt; said.text.as_slice(), expected.as_bytes());

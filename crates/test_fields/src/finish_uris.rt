@@ -2,16 +2,18 @@
 use interaction::{UriFault, finish_uri, interaction_hash, push_body, uri_fits};
 use std::test::Fail;
 
-// The example of RFC 9635, section 4.2.3, and its SHA-512 as Python's hashlib gives it.
+// Whether the hash is the long one, and the example of RFC 9635, section 4.2.3, and its SHA-512 as Python's hashlib gives it.
+const HASHES: [(bool, &str); 2] = [
+    (false, "x-gguKWTj8rQf7d7i3w3UhzvuJ5bpOlKyAlVpLxBffY"),
+    (
+        true,
+        "454VR2f6OAHg3PDng-iAbfPEeBCI70VP0KcpleQZBC5TfJRbNOgz0RGVWI_gLaQXwRFst3CyzWPS_IPRDZ39fw",
+    ),
+];
+
 #[test]
 fn hash_is_the_published_one(rt: HostRuntime) -> Result<(), Fail> {
-    for (long, expected) in [
-        (false, "x-gguKWTj8rQf7d7i3w3UhzvuJ5bpOlKyAlVpLxBffY"),
-        (
-            true,
-            "454VR2f6OAHg3PDng-iAbfPEeBCI70VP0KcpleQZBC5TfJRbNOgz0RGVWI_gLaQXwRFst3CyzWPS_IPRDZ39fw",
-        ),
-    ] {
+    for (long, expected) in HASHES {
         let hash = interaction_hash(
             rt.alloc(),
             long,
@@ -25,18 +27,21 @@ fn hash_is_the_published_one(rt: HostRuntime) -> Result<(), Fail> {
     Ok(())
 }
 
+// A finish URI, and what the hash and the reference of `pairs_stand_behind_the_query` make of it.
+const FINISHED: [(&str, &str); 2] = [
+    (
+        "https://client.example/cb?x=1",
+        "https://client.example/cb?x=1&hash=x-gguKWTj8rQf7d7i3w3UhzvuJ5bpOlKyAlVpLxBffY&interact_ref=4IFWWIKYB2PQ6U56NL1",
+    ),
+    (
+        "http://a",
+        "http://a/?hash=x-gguKWTj8rQf7d7i3w3UhzvuJ5bpOlKyAlVpLxBffY&interact_ref=4IFWWIKYB2PQ6U56NL1",
+    ),
+];
+
 #[test]
 fn pairs_stand_behind_the_query(rt: HostRuntime) -> Result<(), Fail> {
-    for (uri, expected) in [
-        (
-            "https://client.example/cb?x=1",
-            "https://client.example/cb?x=1&hash=x-gguKWTj8rQf7d7i3w3UhzvuJ5bpOlKyAlVpLxBffY&interact_ref=4IFWWIKYB2PQ6U56NL1",
-        ),
-        (
-            "http://a",
-            "http://a/?hash=x-gguKWTj8rQf7d7i3w3UhzvuJ5bpOlKyAlVpLxBffY&interact_ref=4IFWWIKYB2PQ6U56NL1",
-        ),
-    ] {
+    for (uri, expected) in FINISHED {
         let Ok(text) = finish_uri(
             rt.alloc(),
             uri.as_bytes(),
@@ -52,20 +57,23 @@ fn pairs_stand_behind_the_query(rt: HostRuntime) -> Result<(), Fail> {
     Ok(())
 }
 
+// Texts, and whether each is a finish URI.
+const URIS: [(&str, bool); 10] = [
+    ("http://a", true),
+    ("HTTPS://A/ b", true),
+    (" https://client.example/cb\n", true),
+    ("https:a", true),
+    ("ftp://a/b", false),
+    ("https://a/b#c", false),
+    ("https://a/b#", false),
+    ("nothing", false),
+    ("http://", false),
+    ("", false),
+];
+
 #[test]
 fn finish_uris_are_of_the_web_and_have_no_fragment(rt: HostRuntime) -> Result<(), Fail> {
-    for (text, fits) in [
-        ("http://a", true),
-        ("HTTPS://A/ b", true),
-        (" https://client.example/cb\n", true),
-        ("https:a", true),
-        ("ftp://a/b", false),
-        ("https://a/b#c", false),
-        ("https://a/b#", false),
-        ("nothing", false),
-        ("http://", false),
-        ("", false),
-    ] {
+    for (text, fits) in URIS {
         assert_eq!(rt; uri_fits(rt.alloc(), text.as_bytes())?, fits, "{text}");
     }
     assert_eq!(rt; uri_fits(rt.alloc(), b"https://a/\xff")?, false);
