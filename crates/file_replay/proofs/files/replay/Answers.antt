@@ -3,10 +3,10 @@ use Rattle.histories.specs.Histories.{legal-nil}
 use Rattle.grant_machine.specs.Gnap.{gnap}
 use Rattle.command_inputs.specs.declared.ended.Ended.TheVariants.{TooLong}
 use Rattle.command_inputs.specs.declared.line_end.LineEnd.TheVariants as line_ends
-use Rattle.call_replay.proofs.Files.{whole_replayed, last_replayed, long_replayed, failed_replayed, full_replayed, starved_replayed, took_all, alone_at}
+use Rattle.file_replay.proofs.Files.{whole_replayed, last_replayed, long_replayed, failed_replayed, full_replayed, starved_replayed, took_all, alone_at}
 use Rattle.command_inputs.proofs.Inputs.{leaves_taken, leaves_more}
 use Rattle.command_inputs.proofs.Reading.{came-none}
-use Rattle.call_replay.proofs.replaying.replay.Goals as goal
+use Rattle.file_replay.proofs.files.replay.Goals as goal
 
 pub returns-in-Whole-clause-replays : goal.returns-in-Whole-clause-replays
 returns-in-Whole-clause-replays g c = λ rest known.
