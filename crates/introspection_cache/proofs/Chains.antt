@@ -1,33 +1,29 @@
 -- Requests that were guarded with a cache, one after another.
-use Rattle.std.proofs.Common.{◌≡◌, ◌≢◌, ◌∙◌, ◌⊎◌, inl, inr, ◌+◌, ◌-◌, ◌<◌, ◌≤◌, ℕ, zero, suc, Bool, true, false, cond, List, [], ◌∷◌, length, take, Contains}
+use Rattle.std.proofs.Common.{◌≡◌, ◌∙◌, ◌⊎◌, inl, inr, ◌+◌, ◌-◌, ◌<◌, ◌≤◌, ℕ, zero, suc, Bool, true, false, cond, List, [], ◌∷◌, length, take, Contains}
 use Rattle.std.proofs.Common.{refl, sym, ap, subst, arith}
-use Rattle.std.specs.Prelude.{Option, Some, None, Result, Ok, Err, slice_get, nat_le, nat_lt, ◌&&◌, if◌then◌else◌}
+use Rattle.std.specs.Prelude.{Option, Some, None, Result, Ok, slice_get, nat_le, nat_lt, ◌&&◌, if◌then◌else◌}
 use Rattle.std.specs.Map.{lookup, lookup_entry, remove_entry}
 use Rattle.std.specs.Option.{option_map_or}
 use Rattle.std.specs.Str.{bytes_eq}
 use Rattle.std.proofs.lemmas.Bool.Decides.{nat_tests}
 use Rattle.std.proofs.lemmas.Slice.Eq.{bytes_eq-Decides}
-use Rattle.lru.specs.LruCache.{promoted}
 use Rattle.lru.proofs.CallerLemmas.{Contains-take, Contains-lookup, Contains-remove_entry, Contains-promoted}
 use Rattle.lru.proofs.Splits.{Contains-head, Contains-tail, Contains-cons, Contains-nil}
 use Rattle.bytes_and_lists.specs.declared.message.Message.{Message}
 use Rattle.gnap_io.specs.Links.{Exchange}
-use Rattle.gnap_io.specs.declared.link.LinkFault.{LinkFault}
-use Rattle.gnap_model.specs.declared.rights.Right.{Right}
 use Rattle.reply_readers.specs.declared.judgement.Judgement.TheVariants.{Active}
 use Rattle.signed_requests.specs.declared.unsigned.Scheme.{Scheme}
 use Rattle.resource_server.specs.declared.setup.Route.{Route}
 use Rattle.resource_server.specs.declared.setup.RsSetup.{RsSetup}
 use Rattle.resource_server.specs.declared.guarded.Guarded.{Guarded}
 use Rattle.resource_server.specs.declared.guarded.Guarded.TheVariants as guarded
-use Rattle.resource_server.specs.Routing.{question_of}
 use Rattle.resource_server.specs.Introspecting.{question_text}
 use Rattle.resource_server.specs.Guarding.{SaysOfToken, Judged, Guards, asked, at_once as refused_guard, starved as starved_guard}
 use Rattle.resource_server.specs.Laws.{Presents, AllowedByReply, IsIntrospected, IsAllowed}
 use Rattle.resource_server.proofs.Allowing.{IsRefusal, refusal, allow_means_law}
 use Rattle.resource_server.proofs.Asking.{has_request}
 use Rattle.introspection_cache.specs.declared.kept_reply.KeptReply.{KeptReply}
-use Rattle.introspection_cache.specs.Caching.{Kept, Cache, is_fresh, if_fresh, fresh_to, to_others, may_keep, with_reply, Keeps, allowed, not_allowed, Caches}
+use Rattle.introspection_cache.specs.Caching.{Kept, Cache, is_fresh, if_fresh, fresh_to, to_others, may_keep, Keeps, allowed, not_allowed, Caches}
 use Rattle.introspection_cache.specs.Caching.{at_once, starved, again, anew, new_cache}
 use Rattle.introspection_cache.specs.Laws.{CachedStep, Chained, CameIn, KeptCame, IsKept, CachedAllowMeans, AnswersByKept, CachedIsGuard, FreshIsSilent}
 use Rattle.introspection_cache.specs.Laws.{KeptAreFew}

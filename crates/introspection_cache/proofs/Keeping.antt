@@ -1,9 +1,8 @@
 -- What is kept of a reply, step by step.
-use Rattle.std.proofs.Common.{◌≡◌, ◌≢◌, ◌∙◌, ℕ, List, [], ◌∷◌, refl, sym, ap, subst}
-use Rattle.std.specs.Prelude.{Option, Some, None, Result, Ok, Err}
+use Rattle.std.proofs.Common.{◌≡◌, ◌≢◌, ◌∙◌, ℕ, List, refl, sym, subst}
+use Rattle.std.specs.Prelude.{Option, Some, None, Ok, Err}
 use Rattle.bytes_and_lists.specs.declared.message.Message.{Message}
 use Rattle.gnap_io.specs.Links.{LinkState}
-use Rattle.gnap_io.specs.declared.link.LinkFault.{LinkFault}
 use Rattle.gnap_io.specs.declared.link.LinkFault.TheVariants as link_faults
 use Rattle.gnap_model.specs.declared.rights.Right.{Right}
 use Rattle.reply_readers.specs.declared.judgement.Judgement.{Judgement}
@@ -12,9 +11,8 @@ use Rattle.resource_server.specs.declared.setup.RsSetup.{RsSetup}
 use Rattle.resource_server.specs.declared.guarded.Guarded.{Guarded}
 use Rattle.resource_server.specs.declared.guarded.Guarded.TheVariants as guarded
 use Rattle.resource_server.specs.declared.guarded.Why.{Why}
-use Rattle.resource_server.specs.declared.guarded.Why.TheVariants as why
 use Rattle.resource_server.specs.Introspecting.{IsAsked}
-use Rattle.resource_server.specs.Guarding.{SaysOfToken, SaysNothing, answer_of, Judged, said, said_nothing, failed, no_room, no_room_after}
+use Rattle.resource_server.specs.Guarding.{SaysOfToken, answer_of, Judged, said, failed, no_room, no_room_after}
 use Rattle.introspection_cache.specs.declared.kept_reply.KeptReply.{KeptReply}
 use Rattle.introspection_cache.specs.Caching.{Kept, with_reply}
 use Rattle.introspection_cache.specs.Steps.{exp_of, KeepsReply, put_first, no_room_for_it, not_let_through, KeepsJudged, through_by_it, not_through}

@@ -1,6 +1,6 @@
 -- What a request comes to with a cache, put together.
-use Rattle.std.proofs.Common.{◌≡◌, ◌≢◌, ◌∙◌, ℕ, Bool, List, [], ◌∷◌, refl, sym, ap, subst}
-use Rattle.std.specs.Prelude.{Option, Some, None, Result, Ok, Err, slice_get}
+use Rattle.std.proofs.Common.{◌≡◌, ◌≢◌, ◌∙◌, ℕ, List, [], ◌∷◌, sym, ap, subst}
+use Rattle.std.specs.Prelude.{Some, None, Result, Ok, Err, slice_get}
 use Rattle.std.specs.Str.{bytes_eq}
 use Rattle.std.specs.Global.{Vec}
 use Rattle.lru.specs.LruCache.{promoted}
@@ -17,8 +17,8 @@ use Rattle.resource_server.specs.declared.setup.RsSetup.{RsSetup}
 use Rattle.resource_server.specs.declared.guarded.Guarded.{Guarded}
 use Rattle.resource_server.specs.declared.guarded.Guarded.TheVariants as guarded
 use Rattle.resource_server.specs.Routing.{question_of}
-use Rattle.resource_server.specs.Introspecting.{introspection_text, question_text, introspection_bytes, IsAsked}
-use Rattle.resource_server.specs.Guarding.{SaysOfToken, exchanges_of, Judged, Guards, asked, GuardsOver, AddsExchanges}
+use Rattle.resource_server.specs.Introspecting.{introspection_text, question_text}
+use Rattle.resource_server.specs.Guarding.{SaysOfToken, exchanges_of, Judged, asked, GuardsOver, AddsExchanges}
 use Rattle.resource_server.specs.Guarding.{starved as starved_guard}
 use Rattle.resource_server.specs.Laws.{Presents}
 use Rattle.resource_server.proofs.Putting.{none_asked, exchanged}

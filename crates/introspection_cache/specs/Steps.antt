@@ -1,6 +1,6 @@
 -- The steps on the way to an answer.
-use Rattle.std.specs.Prelude.{◌≡◌, ◌≢◌, ℕ, List, [], ◌∷◌, Option, Some, None, Result, Ok, Err, length}
-use Rattle.gnap_io.specs.Links.{LinkState, Exchange}
+use Rattle.std.specs.Prelude.{◌≡◌, ◌≢◌, ℕ, List, Option, Some, None, Result, Ok, Err}
+use Rattle.gnap_io.specs.Links.{LinkState}
 use Rattle.bytes_and_lists.specs.declared.message.Message.{Message}
 use Rattle.gnap_io.specs.declared.link.LinkFault.{LinkFault}
 use Rattle.gnap_model.specs.declared.rights.Right.{Right}
