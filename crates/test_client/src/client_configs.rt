@@ -3,7 +3,8 @@ use bytes_and_lists::bytes::Bytes;
 use gnap_client::{Client, read_client_config};
 use std::test::Fail;
 
-const CONFIG: &[u8] =
+/// A configuration of the client `c1`.
+pub(crate) const CONFIG: &[u8] =
     b"{\"server\":\"https://as.example\",\"resource\":\"https://rs.example\",\"id\":\"c1\",\"secret\":\"c2VjcmV0LWtleS1vZi1jMQ==\"}";
 
 #[test]

@@ -1,12 +1,10 @@
 //! A script's lines over a link in memory. The digest and the signatures were computed by another implementation.
+use crate::client_configs::CONFIG;
 use bytes_and_lists::bytes::Bytes;
 use client_scripts::turns::script_line;
 use gnap_client::{Client, read_client_config};
 use gnap_io::memory_link::MemLink;
 use std::test::Fail;
-
-const CONFIG: &[u8] =
-    b"{\"server\":\"https://as.example\",\"resource\":\"https://rs.example\",\"id\":\"c1\",\"secret\":\"c2VjcmV0LWtleS1vZi1jMQ==\"}";
 
 const BEGIN: &[u8] =
     b"{\"at\":1000,\"do\":\"begin\",\"body\":{\"access_token\":{\"access\":[\"photos\"]},\"client\":\"c1\"}}";
