@@ -1,5 +1,5 @@
 #!/usr/bin/env bash
-# A whole deployment on this machine: nginx with TLS before `gnap as`, two `gnap rs` and the consent front, and a client in Python.
+# A whole deployment on this machine: nginx with TLS before `gnap as`, `gnap sets`, two `gnap rs` and the consent front, and a client in Python.
 #
 #     deploy/try.sh [--new-key]                  prints a link; decide in your browser, and see what the client got. With --new-key it rotates
 #                                                bound tokens to a second key of its own
@@ -109,6 +109,8 @@ openssl req -x509 -newkey ec -pkeyopt ec_paramgen_curve:P-256 -noenc -days 7 -su
 
 start as "$gnap" as "$work/as.json" "127.0.0.1:$AS" "$WORKERS" "$QUOTA"
 listens as "$AS"
+start sets "$gnap" sets "$work/as.json" "127.0.0.1:$SETS" "$SET_WORKERS" "$QUOTA"
+listens sets "$SETS"
 start rs1 "$gnap" rs "$work/rs.json" "127.0.0.1:$RS1" "127.0.0.1:$INNER" "$QUOTA"
 listens rs1 "$RS1"
 start rs2 "$gnap" rs "$work/rs.json" "127.0.0.1:$RS2" "127.0.0.1:$INNER" "$QUOTA"
@@ -117,6 +119,8 @@ start front "$python" -m front "$work/front.json"
 listens front "$FRONT"
 start nginx nginx -e "$work/logs/nginx-error.log" -p "$work" -c "$work/nginx.conf"
 listens nginx "$TLS"
+
+run "$python" resource_set.py "$work" "$INNER"
 
 if [ -n "$headless" ]; then
     run "$python" -m tour "$work" "$pictures" $quick

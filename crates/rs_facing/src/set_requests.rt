@@ -198,10 +198,11 @@ fn method_step(
     signed_step(alloc, edge, route, message, moment)
 }
 
-/// What the message asks of the server of resource sets at this moment, in seconds since 1970: the first of these that applies. `NotFound` where no route has
-/// its path; `NotAllowed` where its method isn't `POST`; `Error` with `InvalidResourceServer` where `message_signature::verify` passes no signature with the
-/// setup's base, its keys and the tag `gnap`, or where the signer's role may not ask this; with `InvalidRequest` where the body isn't of its form
-/// (`gnap_objects::read_registration`, `read_resolution`); with `InvalidResourceServer` where a registration names another server than its signer; else the call.
+/// What the message asks of the server of resource sets at this moment, in seconds since 1970: the first of these that applies. `NotFound` where no route
+/// has its path; `NotAllowed` where its method isn't `POST`; `Error` with `InvalidResourceServer` where `message_signature::verify` passes no signature with
+/// the setup's base, its keys and the tag `gnap`, or where the signer's role may not ask this; with `InvalidRequest` where the body isn't of its form
+/// (`gnap_objects::read_registration`, `read_resolution`); with `InvalidResourceServer` where a registration names another server than its signer; else
+/// the call.
 ///
 /// A body goes through unread until the signature passed. No nonce is asked for: a registration that is sent again changes nothing. Err only where memory ran
 /// out, and nothing is changed then.
