@@ -94,10 +94,10 @@ body_refused Begin key value NoBody code e = told Begin key NoBody InvalidReques
 body_refused Begin key value (ObjectBody d) code e = read_cases (grant_body_of false d)
     (λ fault is. told Begin key (ObjectBody d) InvalidRequest code (subst (λ r. begin_by key r ≡ Refused code) is e) (fault, is))
     (λ read is. begin_refused key code (calls.Begin key read.request None) (is_text key read.request.client) read.repeats_flag
-        (subst (λ r. begin_by key r ≡ Refused code) is e)
-        (λ named twice same. told Begin key (ObjectBody d) InvalidFlag code same (d, refl, reads_as (grant_body_of false d) read _ is (named, twice)))
-        (λ other same. told Begin key (ObjectBody d) InvalidClient code same
-            ((λ kind. cc), (d, refl, reads_as (grant_body_of false d) read _ is other))))
+    (subst (λ r. begin_by key r ≡ Refused code) is e)
+    (λ named twice same. told Begin key (ObjectBody d) InvalidFlag code same (d, refl, reads_as (grant_body_of false d) read _ is (named, twice)))
+    (λ other same. told Begin key (ObjectBody d) InvalidClient code same
+    ((λ kind. cc), (d, refl, reads_as (grant_body_of false d) read _ is other))))
 body_refused Begin key value NoObject code e = told Begin key NoObject InvalidRequest code e tt
 body_refused Continue key value NoBody code e =
     let found = fault_refused (continue_by key value) (λ fault. refl) (λ x code e. cc) (continuation_of None) (continuation_of None) code refl e in
@@ -110,8 +110,8 @@ body_refused Modify key value NoBody code e = told Modify key NoBody InvalidRequ
 body_refused Modify key value (ObjectBody d) code e = read_cases (grant_body_of true d)
     (λ fault is. told Modify key (ObjectBody d) InvalidRequest code (subst (λ r. modify_by key value r ≡ Refused code) is e) (fault, is))
     (λ read is.
-        let twice = modify_refused code (calls.Modify key value read.request) read.repeats_flag (subst (λ r. modify_by key value r ≡ Refused code) is e) in
-        told Modify key (ObjectBody d) InvalidFlag code twice.1 (d, refl, reads_as (grant_body_of true d) read _ is twice.0))
+    let twice = modify_refused code (calls.Modify key value read.request) read.repeats_flag (subst (λ r. modify_by key value r ≡ Refused code) is e) in
+    told Modify key (ObjectBody d) InvalidFlag code twice.1 (d, refl, reads_as (grant_body_of true d) read _ is twice.0))
 body_refused Modify key value NoObject code e = told Modify key NoObject InvalidRequest code e tt
 body_refused Cancel key value body code e = absurd cc
 body_refused Rotate key value NoBody code e =
@@ -126,9 +126,9 @@ body_refused Introspect key value NoBody code e = told Introspect key NoBody Inv
 body_refused Introspect key value (ObjectBody d) code e = read_cases (introspection_of d)
     (λ fault is. told Introspect key (ObjectBody d) InvalidRequest code (subst (λ r. introspect_by key r ≡ Refused code) is e) (fault, is))
     (λ read is.
-        let other = introspect_refused code (calls.Introspect key read.value read.binding read.wanted) (same_text read.server key)
-            (subst (λ r. introspect_by key r ≡ Refused code) is e) in
-        told Introspect key (ObjectBody d) InvalidResourceServer code other.1 (refl, (d, refl, reads_as (introspection_of d) read _ is other.0)))
+    let other = introspect_refused code (calls.Introspect key read.value read.binding read.wanted) (same_text read.server key)
+    (subst (λ r. introspect_by key r ≡ Refused code) is e) in
+    told Introspect key (ObjectBody d) InvalidResourceServer code other.1 (refl, (d, refl, reads_as (introspection_of d) read _ is other.0)))
 body_refused Introspect key value NoObject code e = told Introspect key NoObject InvalidRequest code e tt
 body_refused Look key value NoBody code e = told Look key NoBody InvalidRequest code e tt
 body_refused Look key value (ObjectBody d) code e =
@@ -273,9 +273,11 @@ module _ (setup : Setup) (m : Message) (moment : ℕ) where
       by_purpose route path None is e = absurd cc
       by_purpose route path (Some purpose.Discovery) is e = absurd cc
       by_purpose route path (Some purpose.RsDiscovery) is e = absurd cc
-      by_purpose route path (Some (purpose.Calls kind)) is e =
-          (kind, record { route = route; path_is = path; method_is = is },
-          rotation_refused kind code (signed_step setup kind m (signer setup (needs_mark kind) m moment)) refl e)
+      by_purpose route path (Some (purpose.Calls kind)) is e = (
+        kind,
+        record { route = route; path_is = path; method_is = is },
+        rotation_refused kind code (signed_step setup kind m (signer setup (needs_mark kind) m moment)) refl e,
+      )
 
       by_route : (route : Option Route) → route_at (path_of m.target) ≡ route → route_step setup m moment route ≡ Direct (direct.Error code)
           → (kind : CallKind) × IsFor m kind × Cause kind code
