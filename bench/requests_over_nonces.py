@@ -9,7 +9,7 @@ are sent on one connection, and 600 on another, each once the reply to the one b
 the first byte that is read to the last that is written. Printed are those of each N, and how many nonces a second were taken before.
 
 The program is crates/gnap/out/gnap, or the one that GNAP names: one that knows no nonces takes the same requests. It can't be the script ./gnap, since
-valgrind doesn't follow that to the program. What is sent before the count takes valgrind about 3 minutes for 600,000.
+valgrind doesn't follow that to the program. Under valgrind some 400 polls a second are taken on a busy machine, so 600,000 take long.
 """
 
 import glob
@@ -88,6 +88,8 @@ def measured(many):
             start = time.time()
             fill(served, many)
             speed = many / max(time.time() - start, 0.001)
+            # It listens by now, so callgrind hears what it is told.
+            begin(served, 1)
             subprocess.run(["callgrind_control", "-i", "on", str(served.process.pid)], check=True, capture_output=True)
             counts = []
             for number, times in enumerate((FEW, MANY), 1):
