@@ -8,7 +8,6 @@ use bytes_and_lists::memory::{Duplicate, Mem};
 use gnap_model::calls::Call;
 use gnap_objects::read_setup;
 use std::alloc::Global;
-use std::test::Fail;
 
 const SETUP: &str =
     "{\"base\":\"https://as.example\",\"front\":\"https://front.example\",\"keys\":[{\"ask\":[],\"auto\":[\"photos\"],\"id\":\"c1\",\
@@ -258,18 +257,26 @@ fn text_of(alloc: Global, step: &RequestStep) -> Result<Bytes, Mem> {
     }
 }
 
-fn answer_to(alloc: Global, edge: &Edge, row: &Row) -> Result<Bytes, Mem> {
+// Whether the row's request is answered as the row says.
+fn is_answered(alloc: Global, edge: &Edge, row: &Row) -> Result<bool, Mem> {
     let request = message(alloc, &row.body, row.signatures)?;
-    text_of(alloc, &desk_call(alloc, &request, edge, 1002)?)
+    let answer = text_of(alloc, &desk_call(alloc, &request, edge, 1002)?)?;
+    Ok(answer.as_slice() == row.answer.as_bytes())
+}
+
+// What the first row says whose request is answered otherwise.
+fn first_wrong(alloc: Global, rows: &[Row]) -> Result<Option<&'static str>, Mem> {
+    let edge = edge(alloc)?;
+    for row in rows {
+        if !is_answered(alloc, &edge, row)? {
+            return Ok(Some(row.says));
+        }
+    }
+    Ok(None)
 }
 
 #[test]
-fn a_key_that_is_named_has_to_sign(rt: HostRuntime) -> Result<(), Fail> {
-    let edge = edge(rt.alloc())?;
-    for row in &ROWS {
-        let answer = answer_to(rt.alloc(), &edge, row)?;
-        let says = row.says;
-        assert_eq!(rt; answer.as_slice(), row.answer.as_bytes(), "{says}");
-    }
-    Ok(())
+fn a_key_that_is_named_has_to_sign(rt: HostRuntime) {
+    let wrong = first_wrong(rt.alloc(), &ROWS);
+    assert_eq!(rt; wrong, Ok(None));
 }
