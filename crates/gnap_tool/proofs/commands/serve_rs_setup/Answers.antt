@@ -1,5 +1,5 @@
 use Rattle.gnap_tool.proofs.ServedResources.{unserved_used, with_cache}
-use Rattle.gnap_tool.proofs.commands.serve_cached.Goals as goal
+use Rattle.gnap_tool.proofs.commands.serve_rs_setup.Goals as goal
 
 pub returns-in-Ok-clause-served : goal.returns-in-Ok-clause-served
 returns-in-Ok-clause-served g c = with_cache c.args.setup.now c.args.listen.now c.args.server.now c.args.quota c.args.cache c.in-Some.capacity c.in-Ok.guard
