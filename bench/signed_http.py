@@ -27,11 +27,12 @@ SETUP = json.dumps({"base": BASE, "front": "https://front.example", "keys": [
 ]})
 
 
-def signed_request(method, path, key, body, value=None, created=None, nonce=None):
-    """The bytes of a request that a key of the setup signs, with a body, with a presented value, or without, and with a nonce where there is one."""
+def signed_request(method, path, key, body, value=None, created=None, nonce=None, base=BASE):
+    """The bytes of a request that a key of the setup signs, with a body, with a presented value, or without, and with a nonce where there is one; to the server
+    with this base."""
     created = int(time.time()) if created is None else created
-    covered = [("@method", method), ("@target-uri", BASE + path)]
-    head = [f"{method} {path} HTTP/1.1", "Host: as.example"]
+    covered = [("@method", method), ("@target-uri", base + path)]
+    head = [f"{method} {path} HTTP/1.1", "Host: " + base.removeprefix("https://")]
     if body:
         digest = f"sha-256=:{text_of(hashlib.sha256(body).digest())}:"
         covered.append(("content-digest", digest))

@@ -1,16 +1,116 @@
-"""Writes ../stdin, three tables, and ../stdout, what must come of each line.
+"""Writes ../stdin, four tables, and ../stdout, what must come of each line.
 
 fields.txt and signatures.txt hold two of them: each line, and behind it what must come of it in lines that begin with a tab. The third is that
-of marks (signature_marks.py).
+of marks (signature_marks.py), and the fourth a table of JSON texts; what each reader gives of them is told here by docs/FORMATS.md, without the program.
 
 Run it anew where a rule or a case changes: python3 crates/test_tables/expected/write.py
 """
 
+import re
+import sys
 from pathlib import Path
 
-import signature_marks
-
 HERE = Path(__file__).resolve().parent
+sys.path.insert(0, str(HERE.parent.parent / "test_worlds" / "expected"))
+
+import json_forms
+import signature_marks
+import object_cases
+from json_forms import Fault, KeyFault, NotJson
+
+
+def written_out(text):
+    """`<N|piece>` is N times the piece, in each of which `#` is its place."""
+
+    def run(found):
+        return "".join(found[2].replace("#", str(place)) for place in range(int(found[1])))
+
+    return re.sub(r"<(\d+)\|([^>]*)>", run, text)
+
+
+def quoted(text):
+    return "none" if text is None else f'"{text}"'
+
+
+def counted(rights):
+    return "none" if rights is None else str(len(rights))
+
+
+def shown_modes(modes):
+    if modes is None:
+        return "none"
+    shown = "ways" + "".join(f" {way}" for way in ("redirect", "user_code", "user_code_uri") if getattr(modes, way))
+    if modes.finish:
+        method, hash_method = "push" if modes.finish.push else "redirect", "sha-512" if modes.finish.long else "sha-256"
+        shown += f" then {method} {quoted(modes.finish.uri)} {quoted(modes.finish.nonce)} {hash_method}"
+    return shown
+
+
+def of_grant(body, modify=False):
+    request = json_forms.read_grant(body, modify)
+    if request.repeats_flag:
+        raise Fault("Flag", "flags")
+    named = "by object" if request.by_object else "by id"
+    subject = "opaque" if request.subject else "none"
+    asks = (f": {len(ask.rights)} {quoted(ask.label)} {'bearer' if ask.bearer else 'bound'}" for ask in request.asks)
+    return (f"client {quoted(request.client)} {named}; subject {subject}; user {quoted(request.user)}; interact {shown_modes(request.modes)}; "
+            f"{'one' if request.single else 'array'}" + "".join(asks))
+
+
+def of_introspection(body):
+    value, binding, server, wanted = json_forms.read_introspect(body)
+    return f"{quoted(value)} {binding or 'none'} {quoted(server)} {counted(wanted)}"
+
+
+def of_decision(body):
+    handle, verdict, rights, subject = json_forms.read_decide(body)
+    return f"{quoted(handle)} {verdict} {counted(rights)} {quoted(subject)}"
+
+
+READERS = {
+    "grant": of_grant,
+    "modify": lambda body: of_grant(body, True),
+    "introspect": of_introspection,
+    "continue": lambda body: quoted(json_forms.read_continue(body)),
+    "rotate": lambda body: quoted(json_forms.read_rotate(body)),
+    "look": lambda body: quoted(json_forms.text_at(body, "handle")),
+    "find_code": lambda body: quoted(json_forms.read_code(body)),
+    "decide": of_decision,
+}
+
+
+def of_setup(text):
+    setup = json_forms.read_setup(text)
+    return f"{quoted(setup.base)} {quoted(setup.front)} {len(setup.keys)}"
+
+
+def of_body(reader, text):
+    body = json_forms.read_json(text)
+    if not isinstance(body, dict) or json_forms.has_bad_number(body):
+        raise NotJson
+    return READERS[reader](body)
+
+
+def of_text(reader, text):
+    return of_setup(text) if reader == "setup" else of_body(reader, text)
+
+
+def of_nothing(reader):
+    if reader not in ("continue", "rotate"):
+        raise NotJson
+    return READERS[reader]({})
+
+
+def answer(line):
+    reader, space, text = line.partition(" ")
+    try:
+        return of_text(reader, written_out(text).encode()) if space else of_nothing(reader)
+    except NotJson:
+        return "no object"
+    except KeyFault as fault:
+        return f"key {fault.place}: {fault}"
+    except Fault as fault:
+        return str(fault)
 
 
 def held(name):
@@ -22,12 +122,14 @@ def held(name):
 
 
 def rows():
-    """Each line of the three tables, with the lines that must come of it."""
+    """Each line of the four tables, with the lines that must come of it."""
     for table, name in (("field", "fields.txt"), ("signature", "signatures.txt")):
         for line, answers in held(name):
             yield f"{table} {line}", answers
     for line, answers in signature_marks.rows():
         yield f"mark {line}", answers
+    for line in object_cases.lines():
+        yield f"object {line}", [answer(line)]
 
 
 def main():

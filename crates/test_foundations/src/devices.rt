@@ -1,0 +1,461 @@
+//! Devices and worlds in memory and of the system, and lists.
+ghost use Rattle.std.specs.Prelude.{IfOk};
+ghost use Rattle.gnap_io.specs.Gears.{IsUnused};
+ghost use Rattle.gnap_io.specs.MemoryForms.{IsUnusedConn, gear_state};
+
+use bytes_and_lists::bytes::Bytes;
+use bytes_and_lists::memory::{Duplicate, Mem};
+use bytes_and_lists::message::{Field, Message};
+use bytes_and_lists::seq::Seq;
+use gnap_io::adapters::Stream;
+use gnap_io::device::{Failed, Sink, Source, write_all};
+use gnap_io::gear::{Clock, Door, Draws};
+use gnap_io::link::Link;
+use gnap_io::memory_conn::MemConn;
+use gnap_io::memory_devices::{MemSink, MemSource};
+use gnap_io::memory_gear::MemGear;
+use gnap_io::memory_link::MemLink;
+use gnap_io::memory_world::MemWorld;
+use gnap_io::real_gear::RealGear;
+use gnap_io::real_link::RealLink;
+use gnap_io::real_world::RealWorld;
+use gnap_io::shared_listener::SharedListener;
+use gnap_io::transcript::Transcript;
+use gnap_io::world::{World, WorldFault};
+use std::alloc::Global;
+use std::io::{Read, Write};
+use std::net::{Net, Shutdown, SocketAddr, TcpListener, TcpStream};
+use std::random::RandomSource;
+use std::rt::{Files, HostRuntime};
+use std::sync::Arc;
+use std::thread::Threads;
+use std::{rt, thread};
+
+fn source(alloc: Global, text: &[u8], bad: &[u64]) -> Result<MemSource, Mem> {
+    Ok(MemSource::new(
+        Bytes::from_slice(alloc, text)?,
+        Vec::from_slice(alloc, bad)?,
+    ))
+}
+
+// The sums of a file's bytes read by fours, each read that fails counting as 1,000.
+fn reads(alloc: Global, world: &mut MemWorld, name: &[u8]) -> Result<Vec<u64>, Mem> {
+    let mut sums = Vec::new(alloc);
+    match world.open_file(&Bytes::from_slice(alloc, name)?) {
+        Err(WorldFault::Failed) => sums.push(1)?,
+        Err(WorldFault::OutOfMemory) => sums.push(2)?,
+        Ok(mut file) => {
+            for _ in 0..5u64 {
+                let mut buf = [0u8; 4];
+                match file.read(&mut buf) {
+                    Err(_) => sums.push(1000)?,
+                    Ok(count) => sums.push(count as u64 * 100 + buf[0] as u64)?,
+                }
+            }
+            world.close_file(file);
+        }
+    }
+    Ok(sums)
+}
+
+fn told(alloc: Global) -> Result<bool, Mem> {
+    let mut files = Vec::new(alloc);
+    files.push((
+        Bytes::from_slice(alloc, b"a")?,
+        source(alloc, b"\x01\x02\x03\x04\x05\x06", &[2])?,
+    ))?;
+    files.push((Bytes::from_slice(alloc, b"b")?, source(alloc, b"", &[])?))?;
+    let mut world = MemWorld::new(
+        files,
+        Vec::new(alloc),
+        Vec::new(alloc),
+        Vec::from_slice(alloc, &[4])?,
+    );
+    Ok(
+        reads(alloc, &mut world, b"a")?.as_slice() == [401, 1000, 205, 0, 0].as_slice()
+            && reads(alloc, &mut world, b"b")?.as_slice() == [0, 0, 0, 0, 0].as_slice()
+            && reads(alloc, &mut world, b"c")?.as_slice() == [1].as_slice()
+            && reads(alloc, &mut world, b"a")?.as_slice() == [1].as_slice()
+            && reads(alloc, &mut world, b"a")?.as_slice() == [401, 1000, 205, 0, 0].as_slice(),
+    )
+}
+
+// A source of two bytes and five times a third, whose second read fails, and one of more bytes than any memory has.
+fn filled(alloc: Global) -> Result<bool, Mem> {
+    let front = Bytes::from_slice(alloc, b"ab")?;
+    let mut source = MemSource::filled(front, b'x', 5, Vec::from_slice(alloc, &[2])?);
+    let rows: [(Result<usize, Failed>, &[u8]); 4] = [
+        (Ok(4), b"abxx"),
+        (Err(Failed), b"...."),
+        (Ok(3), b"xxx."),
+        (Ok(0), b"...."),
+    ];
+    for (answer, bytes) in rows {
+        let mut buf = *b"....";
+        if source.read(&mut buf) != answer || buf.as_slice() != bytes {
+            return Ok(false);
+        }
+    }
+    let mut vast = MemSource::filled(Bytes::new(alloc), 7, u64::MAX, Vec::new(alloc));
+    let mut buf = [0; 3];
+    Ok(vast.read(&mut buf) == Ok(3) && buf == [7; 3])
+}
+
+#[test]
+fn a_source_is_filled_with_one_byte(rt: HostRuntime) {
+    assert!(rt; filled(rt.alloc()) == Ok(true));
+}
+
+fn written(alloc: Global) -> Result<bool, Mem> {
+    let mut out = MemSink::new(alloc, 5, Vec::from_slice(alloc, &[2])?)?;
+    let first = write_all(&mut out, b"abc").is_ok();
+    let second = write_all(&mut out, b"x").is_err();
+    let third = out.write(b"defg");
+    let fourth = write_all(&mut out, b"h").is_err();
+    Ok(first && second && third == Ok(2) && fourth && out.written() == b"abcde".as_slice())
+}
+
+fn copied(alloc: Global) -> Result<bool, Mem> {
+    let mut fields = Seq::new(alloc);
+    fields.push(Field {
+        name: Bytes::from_slice(alloc, b"host")?,
+        value: Bytes::from_slice(alloc, b"as.example")?,
+    })?;
+    let mut body = Bytes::new(alloc);
+    body.push(b'{')?;
+    body.extend(b"}")?;
+    let message = Message {
+        method: Bytes::from_slice(alloc, b"POST")?,
+        target: Bytes::from_slice(alloc, b"/gnap")?,
+        fields,
+        body,
+        last: true,
+    };
+    let again = message.copy()?;
+    Ok(
+        again.fields.len() == 1
+            && again.fields.at(0).value.as_slice() == b"as.example".as_slice()
+            && again.body.as_slice() == b"{}".as_slice()
+            && *again.body.at(1) == b'}'
+            && again.last,
+    )
+}
+
+#[test]
+fn files_in_memory_tell_their_bytes_and_fail_by_number(rt: HostRuntime) {
+    assert!(rt; told(rt.alloc()) == Ok(true));
+}
+
+#[test]
+fn a_sink_in_memory_keeps_what_went_out(rt: HostRuntime) {
+    assert!(rt; written(rt.alloc()) == Ok(true));
+}
+
+#[test]
+fn copies_are_equal(rt: HostRuntime) {
+    assert!(rt; copied(rt.alloc()) == Ok(true));
+}
+
+// A connection with these bytes to read and room for four.
+fn conn(alloc: Global, text: &[u8]) -> Result<MemConn, Mem>
+    ensures { IfOk result IsUnusedConn }
+{
+    MemConn::new(
+        alloc,
+        Bytes::from_slice(alloc, text)?,
+        4,
+        Vec::new(alloc),
+        Vec::new(alloc),
+    )
+}
+
+// A gear with two connections, of the first bytes 7 and 8, and one draw, whose accepts of these numbers fail.
+fn gear(alloc: Global, bad_accepts: &[u64]) -> Result<MemGear, Mem>
+    ensures { IfOk result (λ gear. IsUnused (gear_state gear)) }
+{
+    let mut conns = Vec::new(alloc);
+    conns.push(conn(alloc, b"\x07")?)?;
+    conns.push(conn(alloc, b"\x08")?)?;
+    let mut draws = Vec::new(alloc);
+    draws.push([9; 48])?;
+    MemGear::new(
+        conns,
+        Vec::new(alloc),
+        draws,
+        Vec::from_slice(alloc, bad_accepts)?,
+    )
+}
+
+// What four accepts gave: the first byte of a connection, 0 for none, 100 for a fault. Each connection is given back.
+fn accepts(gear: &mut MemGear) -> [u8; 4] {
+    let mut got = [0; 4];
+    for place in 0..4 {
+        match gear.accept() {
+            Err(Failed) => got[place] = 100,
+            Ok(None) => {}
+            Ok(Some(mut conn)) => {
+                let mut buf = [0; 1];
+                let _ = conn.read(&mut buf);
+                got[place] = buf[0];
+                gear.leave(conn);
+            }
+        }
+    }
+    got
+}
+
+fn gears(alloc: Global) -> Result<bool, Mem> {
+    for (bad, want) in [
+        (&[][..], [7, 8, 0, 0]),
+        (&[1], [100, 7, 8, 0]),
+        (&[2, 3], [7, 100, 100, 8]),
+    ] {
+        let mut gear = gear(alloc, bad)?;
+        let drawn = (gear.draw()[0], gear.draw()[47]);
+        if accepts(&mut gear) != want
+            || gear.now() != 0
+            || drawn != (9, 0)
+            || gear.served().len() != 2
+        {
+            return Ok(false);
+        }
+    }
+    Ok(true)
+}
+
+#[test]
+fn gears_in_memory_give_what_they_have(rt: HostRuntime) {
+    assert!(rt; gears(rt.alloc()) == Ok(true));
+}
+
+// A gear at the address "a": two are asked for, then too small a quota, then as it is, then once more.
+fn gears_handed_out(alloc: Global) -> Result<[bool; 4], Mem> {
+    let mut group = Vec::new(alloc);
+    group.push(gear(alloc, &[])?)?;
+    let mut groups = Vec::new(alloc);
+    groups.push((Bytes::from_slice(alloc, b"a")?, group))?;
+    let mut world = MemWorld::new(Vec::new(alloc), groups, Vec::new(alloc), Vec::new(alloc));
+    let a = Bytes::from_slice(alloc, b"a")?;
+    let mut given = [false; 4];
+    for (place, n, quota) in [(0, 2, 9), (1, 1, 1), (2, 1, 2), (3, 1, 2)] {
+        if let Ok(gears) = world.start_gears(&a, n, quota) {
+            world.stop_gears(gears);
+            given[place] = true;
+        }
+    }
+    Ok(given)
+}
+
+// A link with one reply, whose first exchange fails.
+fn link_asked(alloc: Global) -> Result<[usize; 3], Mem> {
+    let mut replies = Vec::new(alloc);
+    replies.push(Bytes::from_slice(alloc, b"yes")?)?;
+    let mut link = MemLink::new(replies, Vec::from_slice(alloc, &[1])?);
+    let mut lengths = [9; 3];
+    for length in &mut lengths {
+        if let Ok(reply) = link.exchange(b"?") {
+            *length = reply.len();
+        }
+    }
+    Ok(lengths)
+}
+
+#[test]
+fn a_world_in_memory_gives_gears_and_links_once(rt: HostRuntime) {
+    assert!(rt; gears_handed_out(rt.alloc()) == Ok([false, false, true, false]));
+    assert!(rt; link_asked(rt.alloc()) == Ok([9, 3, 9]));
+}
+
+// A file of the system that has bytes, one that is always empty, and one that is never there.
+fn of_the_system<
+    R: Files
+        + Net<Listener = TcpListener, Stream = TcpStream>
+        + rt::Clock
+        + RandomSource
+        + Eprint
+        + Sync,
+>(rt: &R, alloc: Global) -> Result<bool, Mem> {
+    let mut world = RealWorld::new(rt, alloc);
+    let missing = world
+        .open_file(&Bytes::from_slice(alloc, b"/no/such/file")?)
+        .is_err();
+    let mut counts = Vec::new(alloc);
+    for name in [b"/dev/zero", b"/dev/null"] {
+        let Ok(mut file) = world.open_file(&Bytes::from_slice(alloc, name)?) else {
+            return Ok(false);
+        };
+        for _ in 0..2u64 {
+            let mut buf = [1; 4];
+            counts.push(file.read(&mut buf))?;
+        }
+        world.close_file(file);
+    }
+    Ok(missing && counts.as_slice() == [Ok(4), Ok(4), Ok(0), Ok(0)].as_slice())
+}
+
+#[test]
+fn the_system_gives_files(rt: HostRuntime) {
+    assert!(rt; of_the_system(&rt, rt.alloc()) == Ok(true));
+}
+
+// Whether a read behind each piece that the peer sends gives just that piece.
+fn gives_pieces<S: Source>(conn: &mut S, peer: &mut TcpStream, pieces: &[&[u8]]) -> Option<bool> {
+    let mut buf = [0; 64];
+    for piece in pieces {
+        peer.write_all(piece).ok()?;
+        let count = conn.read(&mut buf).ok()?;
+        if &buf[..count] != *piece {
+            return Some(false);
+        }
+    }
+    Some(true)
+}
+
+// Whether the peer gets this reply and then the end.
+fn gets(peer: &mut TcpStream, reply: &[u8]) -> Option<bool> {
+    let mut buf = [0; 64];
+    let count = peer.read(&mut buf).ok()?;
+    let whole = &buf[..count] == reply;
+    Some(whole && peer.read(&mut buf).ok()? == 0)
+}
+
+// Whether a connection gives what its peer sends in these pieces, and then the end. The peer leaves then, or waits for a reply and gets it.
+fn is_served<R: rt::Clock + Eprint + Sync>(
+    gear: &mut RealGear<'_, R>,
+    mut peer: TcpStream,
+    pieces: &[&[u8]],
+    leaves: bool,
+) -> Option<bool> {
+    let mut conn = gear.accept().ok()??;
+    let given = gives_pieces(&mut conn, &mut peer, pieces)?;
+    let mut buf = [0; 8];
+    if leaves {
+        drop(peer);
+        let ended = conn.read(&mut buf).ok()? == 0;
+        gear.leave(conn);
+        return Some(given && ended);
+    }
+    peer.shutdown(Shutdown::Write).ok()?;
+    let ended = conn.read(&mut buf).ok()? == 0;
+    write_all(&mut conn, b"reply").ok()?;
+    gear.leave(conn);
+    Some(given && ended && gets(&mut peer, b"reply")?)
+}
+
+// A request in three pieces, two requests in one piece, and a peer that leaves in the middle of a head, over a socket.
+fn over_a_socket<R: Net<Listener = TcpListener, Stream = TcpStream> + rt::Clock + Eprint + Sync>(
+    rt: &R,
+    alloc: Global,
+) -> Option<bool> {
+    let listener = TcpListener::bind(rt, "127.0.0.1:0").ok()?;
+    let port = listener.local_addr().ok()?;
+    let shared = Arc::new(alloc, SharedListener::new(listener)).ok()?;
+    let mut gear = RealGear::new(rt, shared, [7; 32], 0, 3);
+    let rows: [(&[&[u8]], bool); 3] = [
+        (&[b"GET /a HT", b"TP/1.1\r\n", b"\r\n"], false),
+        (&[b"GET /a HTTP/1.1\r\n\r\nGET /b HTTP/1.1\r\n\r\n"], false),
+        (&[b"GET /a HTTP/1.1\r\nHo"], true),
+    ];
+    for (pieces, leaves) in rows {
+        let peer = TcpStream::connect(rt, port).ok()?;
+        if !is_served(&mut gear, peer, pieces, leaves)? {
+            return Some(false);
+        }
+    }
+    let used_up = matches!(gear.accept(), Ok(None));
+    Some(used_up && gear.now() <= gear.now())
+}
+
+#[test]
+fn a_real_gear_serves_a_socket(rt: HostRuntime) {
+    assert!(rt; over_a_socket(&rt, rt.alloc()) == Some(true));
+}
+
+// Whether a gear gives so many connections, and then none.
+fn gives_just<R: Net<Stream = TcpStream> + rt::Clock + Eprint + Sync>(
+    rt: &R,
+    gear: &mut RealGear<'_, R>,
+    address: SocketAddr,
+    quota: u32,
+) -> Option<bool> {
+    for _ in 0..quota {
+        let peer = TcpStream::connect(rt, address).ok()?;
+        let conn = gear.accept().ok()??;
+        drop(peer);
+        gear.leave(conn);
+    }
+    Some(matches!(gear.accept(), Ok(None)))
+}
+
+// Whether two gears of the system each give their quota, and no more.
+fn gears_give_their_quota<
+    R: Files
+        + Net<Listener = TcpListener, Stream = TcpStream>
+        + rt::Clock
+        + RandomSource
+        + Eprint
+        + Sync,
+>(rt: &R, alloc: Global) -> Option<bool> {
+    // A port that was free a moment ago.
+    let address = TcpListener::bind(rt, "127.0.0.1:0")
+        .ok()?
+        .local_addr()
+        .ok()?;
+    let name = format!(in alloc; "{address}").ok()?;
+    let name = Bytes::from_slice(alloc, name.as_bytes()).ok()?;
+    let mut world = RealWorld::new(rt, alloc);
+    let mut gears = world.start_gears(&name, 2, 3).ok()?;
+    for gear in &mut gears {
+        if !gives_just(rt, gear, address, 3)? {
+            return Some(false);
+        }
+    }
+    world.stop_gears(gears);
+    Some(true)
+}
+
+#[test]
+fn each_gear_of_the_system_gives_its_quota(rt: HostRuntime) {
+    assert!(rt; gears_give_their_quota(&rt, rt.alloc()) == Some(true));
+}
+
+// Whether the first connection that comes brings this request, and gets this reply.
+fn answers(listener: TcpListener, request: &[u8], reply: &[u8]) -> bool {
+    let Ok((mut conn, _)) = listener.accept() else {
+        return false;
+    };
+    let mut buf = [0; 64];
+    let Ok(count) = conn.read(&mut buf) else {
+        return false;
+    };
+    &buf[..count] == request && conn.write_all(reply).is_ok()
+}
+
+// Whether a link gets its peer's reply, and fails once nobody listens.
+fn asks_its_peer<R: Net<Listener = TcpListener, Stream = TcpStream> + rt::Clock + Eprint + Threads>(
+    rt: &R,
+    alloc: Global,
+) -> Option<bool> {
+    let listener = TcpListener::bind(rt, "127.0.0.1:0").ok()?;
+    let address = format!(in alloc; "{}", listener.local_addr().ok()?).ok()?;
+    let address = Bytes::from_slice(alloc, address.as_bytes()).ok()?;
+    let peer = thread::spawn(rt, || answers(listener, b"ask", b"reply")).ok()?;
+    let mut link = RealLink::new(rt, alloc, address);
+    let reply = link.exchange(b"ask").ok()?;
+    let answered = peer.join(rt) && reply.as_slice() == b"reply".as_slice();
+    Some(answered && link.exchange(b"ask").is_err())
+}
+
+#[test]
+fn a_real_link_asks_a_socket(rt: HostRuntime) {
+    assert!(rt; asks_its_peer(&rt, rt.alloc()) == Some(true));
+}
+
+// Takes what may go to another thread, and what threads may share.
+fn crosses<T: Send + Sync + Drop>(_value: T) {}
+
+#[test]
+fn a_device_of_the_system_crosses_threads(rt: HostRuntime) {
+    crosses(Stream::new(Vec::<u8>::new(rt.alloc())));
+    assert!(rt; size_of::<Transcript>() == 0);
+}
