@@ -11,13 +11,15 @@ use std::test::Fail;
 use structured_fields::{Member, read_dictionary};
 
 // The text that the second signature of the message signs (RFC 9421, section 2.5), by the rules of docs/SIGNATURES.md.
-const SIGNED_TEXT: &str = r#""@method": POST
-"@target-uri": https://as.example/token
-"content-digest": sha-256=:pFiaIJZh9GLNTAoqcW+jrnQfACwNB4pusYF/q4pSj7I=:
-"authorization": GNAP AAAAAAAAAAIAAAAAAAAAAAAAAAAAAAAA
-"signature";key="sig1": :8UirXX6V40SzLneUwLgbjdhtmoo1y8ztVxLh3EFiBeo=:
-"signature-input";key="sig1": ("@method" "@target-uri" "content-digest" "authorization");created=1002;keyid="c1";nonce="n7";tag="gnap"
-"@signature-params": ("@method" "@target-uri" "content-digest" "authorization" "signature";key="sig1" "signature-input";key="sig1");created=1002;keyid="c2";tag="gnap-rotate""#;
+const SIGNED_TEXT: &str = "\"@method\": POST\n\
+    \"@target-uri\": https://as.example/token\n\
+    \"content-digest\": sha-256=:pFiaIJZh9GLNTAoqcW+jrnQfACwNB4pusYF/q4pSj7I=:\n\
+    \"authorization\": GNAP AAAAAAAAAAIAAAAAAAAAAAAAAAAAAAAA\n\
+    \"signature\";key=\"sig1\": :8UirXX6V40SzLneUwLgbjdhtmoo1y8ztVxLh3EFiBeo=:\n\
+    \"signature-input\";key=\"sig1\": (\"@method\" \"@target-uri\" \"content-digest\" \
+    \"authorization\");created=1002;keyid=\"c1\";nonce=\"n7\";tag=\"gnap\"\n\
+    \"@signature-params\": (\"@method\" \"@target-uri\" \"content-digest\" \"authorization\" \
+    \"signature\";key=\"sig1\" \"signature-input\";key=\"sig1\");created=1002;keyid=\"c2\";tag=\"gnap-rotate\"";
 
 const BASE: &[u8] = b"https://as.example";
 
