@@ -58,8 +58,8 @@ fn server(alloc: Global, setup: &str) -> Result<AuthorizationServer, Mem> {
     }
 }
 
-/// How many of the last replies, of so many, are this one.
-pub(crate) fn last_replies(written: &[u8], reply: &[u8], most: u64) -> u64 {
+// How many of the last replies, of so many, are this one.
+fn last_replies(written: &[u8], reply: &[u8], most: u64) -> u64 {
     let mut left = written;
     let mut count: u64 = 0;
     for _ in 0..most {

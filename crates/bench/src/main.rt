@@ -2,16 +2,14 @@
 //!
 //!     bench TASK TIMES
 //!
-//! measures one, done so often, and prints the nanoseconds of one, the mean. The tasks are `covering`, `requests`, `introspections`, `cached`, `full_cache`,
-//! `grants` and `adding`; a module of each name, for `full_cache` that of `cached`, says what is done and printed. Without words each is done a few times, and
-//! no time is printed.
+//! measures one, done so often, and prints the nanoseconds of one, the mean. The tasks are `covering`, `requests`, `introspections`, `grants` and `adding`;
+//! a module of each name says what is done and printed. Without words each is done a few times, and no time is printed.
 //!
 //! Standard input has the lines of two tasks, also where one of them is measured alone: four of the requests, and behind them those of the introspections.
 //! For another task alone it isn't read.
 #![tactic(auto)]
 
 mod adding;
-mod cached;
 mod connections;
 mod covering;
 mod grants;
@@ -34,18 +32,14 @@ enum Task {
     Covering,
     Requests,
     Introspections,
-    Cached,
-    FullCache,
     Grants,
     Adding,
 }
 
-const TASKS: [Task; 7] = [
+const TASKS: [Task; 5] = [
     Task::Covering,
     Task::Requests,
     Task::Introspections,
-    Task::Cached,
-    Task::FullCache,
     Task::Grants,
     Task::Adding,
 ];
@@ -56,8 +50,6 @@ impl Task {
             "covering" => Some(Task::Covering),
             "requests" => Some(Task::Requests),
             "introspections" => Some(Task::Introspections),
-            "cached" => Some(Task::Cached),
-            "full_cache" => Some(Task::FullCache),
             "grants" => Some(Task::Grants),
             "adding" => Some(Task::Adding),
             _ => None,
@@ -67,7 +59,7 @@ impl Task {
     fn takes_lines(self) -> bool {
         match self {
             Task::Requests | Task::Introspections => true,
-            Task::Covering | Task::Cached | Task::FullCache | Task::Grants | Task::Adding => false,
+            Task::Covering | Task::Grants | Task::Adding => false,
         }
     }
 
@@ -83,8 +75,6 @@ impl Task {
             Task::Covering => covering::measure(rt, asked),
             Task::Requests => requests::measure(rt, requests, asked),
             Task::Introspections => introspections::measure(rt, introspections, asked),
-            Task::Cached => cached::measure(rt, 15, asked),
-            Task::FullCache => cached::measure(rt, 16_383, asked),
             Task::Grants => grants::measure(rt, asked),
             Task::Adding => adding::measure(rt, asked),
         }
@@ -115,9 +105,7 @@ impl Order {
 fn main(rt: HostRuntime) -> io::Result<()> {
     let words: Vec<String> = env::args(&rt)?.skip(1).collect(rt.alloc())?;
     let Some(order) = Order::told_by(words.as_slice()) else {
-        return println!(rt;
-            "usage: bench [covering|requests|introspections|cached|full_cache|grants|adding TIMES]"
-        );
+        return println!(rt; "usage: bench [covering|requests|introspections|grants|adding TIMES]");
     };
     match order {
         Order::Each => {
