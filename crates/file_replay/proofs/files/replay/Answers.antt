@@ -3,7 +3,7 @@ use Rattle.histories.specs.Histories.{legal-nil}
 use Rattle.grant_machine.specs.Gnap.{gnap}
 use Rattle.command_inputs.specs.declared.ended.Ended.TheVariants.{TooLong}
 use Rattle.command_inputs.specs.declared.line_end.LineEnd.TheVariants as line_ends
-use Rattle.file_replay.proofs.Files.{whole_replayed, last_replayed, long_replayed, failed_replayed, full_replayed, starved_replayed, took_all, alone_at}
+use Rattle.file_replay.proofs.ReplayedFiles.{whole_replayed, last_replayed, long_replayed, failed_replayed, full_replayed, starved_replayed, took_all, alone_at}
 use Rattle.command_inputs.proofs.Inputs.{leaves_taken, leaves_more}
 use Rattle.command_inputs.proofs.Reading.{came-none}
 use Rattle.file_replay.proofs.files.replay.Goals as goal

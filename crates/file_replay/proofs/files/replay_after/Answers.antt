@@ -7,7 +7,7 @@ use Rattle.grant_machine.specs.Gnap.{gnap}
 use Rattle.command_inputs.specs.declared.ended.Ended.{Ended}
 use Rattle.call_replay.specs.Replaying.{Turns, Replays, IsLoneHistory}
 use Rattle.command_inputs.specs.Reading.{held_by}
-use Rattle.file_replay.proofs.Files.{gives_refusal, gives_starved, refusal_reads, refusal_writes, refusal_at}
+use Rattle.file_replay.proofs.ReplayedFiles.{gives_refusal, gives_starved, refusal_reads, refusal_writes, refusal_at}
 use Rattle.call_replay.proofs.Going.{none-had, replays-weaker}
 use Rattle.command_inputs.proofs.LineRuns.{runs-starved}
 use Rattle.file_replay.proofs.files.replay_after.Goals as goal
