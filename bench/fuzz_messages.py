@@ -42,7 +42,7 @@ HEAD = re.compile(
     rb"\r\n")
 CODES = {"invalid_client", "invalid_request", "invalid_flag", "invalid_access", "invalid_continuation", "too_many_attempts", "too_fast",
          "invalid_interaction", "user_denied", "unknown_user", "request_denied", "unknown_interaction", "invalid_rotation",
-         "key_rotation_not_supported", "invalid_resource_server"}
+         "invalid_resource_server"}
 PIECES = [b"\r\n", b"\n", b"\r", b"\0", b" ", b"\t", b":", b",", b";", b"=", b'"', b"%", b"?1", b"@1", b"\xff", b"HTTP/1.0", b"Content-Length: 5\r\n",
           b"Transfer-Encoding: chunked\r\n", b"Connection: close\r\n", b"Content-Encoding: gzip\r\n", b"sig1=();tag=\"gnap\", ", b"0", b"18446744073709551616",
           b"-1", b"1.5", b"{", b"}", b"[", b"]", b"\\u0000", b"null", b'"access":["photos"],', b"a" * 300, b"[" * 200, b"A: b\r\n" * 70]

@@ -9,8 +9,9 @@ anew for each number, from 1 on, until a run asks for less memory than that.
 A replay of a grant, introspections, a rotation and a cancellation has to end with 0 and all answers, or with 6 and whole answers from the first on. At
 `gnap as` with one worker the same is asked over HTTP, each request on a connection of its own. It may end with 6 before it listens. Else the refusal may
 show once, as a 503 in place of a reply, or as a connection that brings nothing; that request is sent again, and has to be answered as ever, or as one whose
-first entry stands (docs/HTTP.md). The requests behind it have to be answered as ever. Printed is how many refusals had which outcome, and each difference;
-the status is 1 where there was one. The program is ./gnap, or the one that GNAP names.
+first entry stands (docs/HTTP.md). A grant request is sent again by the same bytes, and once more when it was answered: they act once. The requests behind it
+have to be answered as ever. Printed is how many refusals had which outcome, and each difference; the status is 1 where there was one. The program is ./gnap,
+or the one that GNAP names.
 """
 
 import collections
@@ -20,7 +21,7 @@ import subprocess
 import sys
 import tempfile
 
-from signed_http import SETUP, TOP, Served, first_reply, fresh_nonce, signed_request
+from signed_http import SETUP, TOP, Served, first_reply, fresh_nonce, grant_request, signed_request
 
 SHIM = r"""
 #include <fcntl.h>
@@ -42,6 +43,8 @@ void *malloc(size_t size) { return is_refused() ? NULL : __libc_malloc(size); }
 void *realloc(void *old, size_t size) { return is_refused() ? NULL : __libc_realloc(old, size); }
 """
 MOST = 20_000
+# The connections of a run: ten requests, one that is sent again, and a second grant request where the entry of the first one stands without a reply.
+CONNECTIONS = 13
 
 
 class Difference(Exception):
@@ -113,10 +116,12 @@ class Run:
     def __init__(self, served):
         self.served = served
         self.refused = 0
+        self.connections = 0
 
     def sent(self, request):
         """The status and the body of what comes, None where nothing does."""
         with self.served.first_connection() as conn:
+            self.connections += 1
             conn.sendall(request())
             held = bytearray()
             while (reply := first_reply(held)) is None:
@@ -133,9 +138,9 @@ class Run:
             return reply
         self.refused += 1
         reply = self.sent(request)
-        if self.refused > 1 or reply is None or reply[0] not in (200, 204, 400):
+        if self.refused > 1 or reply is None or reply[0] not in (200, 204, 400, 401):
             raise Difference(f"{reply} after want of memory")
-        if reply[0] == 400 and json.loads(reply[1])["error"]["code"] not in again:
+        if reply[0] in (400, 401) and json.loads(reply[1])["error"]["code"] not in again:
             raise Difference(f"{reply} after want of memory")
         return reply
 
@@ -147,10 +152,17 @@ class Run:
         return json.loads(text)["active"]
 
     def granted(self):
-        body = json.dumps({"access_token": {"access": ["photos"]}, "client": "c1"}).encode()
-        status, text = self.answer(lambda: signed_request("POST", "/gnap", "c1", body, nonce=fresh_nonce()))
+        """A grant, by bytes that act once."""
+        request = grant_request()
+        before = self.refused
+        status, text = self.answer(lambda: request, ["invalid_client"])
+        if status == 401 and self.refused > before:
+            return self.granted()
         if status != 200:
             raise Difference(f"a grant request is answered {status}")
+        status, _ = self.answer(lambda: request, ["invalid_client"])
+        if status != 401:
+            raise Difference(f"a grant request that was answered is answered {status} when it comes again")
         return json.loads(text)
 
     def put_through(self):
@@ -174,7 +186,7 @@ class Run:
 def served_runs(refusing):
     found, differences = collections.Counter(), []
     for number in range(1, MOST):
-        served = Served(1, 9, env=refusing.environment(number), stderr=subprocess.DEVNULL)
+        served = Served(1, CONNECTIONS, env=refusing.environment(number), stderr=subprocess.DEVNULL)
         run = Run(served)
         try:
             run.put_through()
@@ -186,9 +198,9 @@ def served_runs(refusing):
             outcome = f"status {served.process.wait(10)}"
             if served.process.returncode != 6:
                 differences.append(f"as {number}: {outcome}")
-        # One connection more ends the program where none was sent again.
+        # The connections that are left end the program.
         try:
-            if run.refused == 0 and served.process.poll() is None:
+            while run.connections < CONNECTIONS and served.process.poll() is None:
                 run.sent(lambda: b"GET /x HTTP/1.1\r\n\r\n")
             served.process.wait(10)
         except (SystemExit, OSError, subprocess.TimeoutExpired):

@@ -27,11 +27,12 @@ SETUP = json.dumps({"base": BASE, "front": "https://front.example", "keys": [
 ]})
 
 
-def signed_request(method, path, key, body, value=None, created=None, nonce=None):
-    """The bytes of a request that a key of the setup signs, with a body, with a presented value, or without, and with a nonce where there is one."""
+def signed_request(method, path, key, body, value=None, created=None, nonce=None, base=BASE):
+    """The bytes of a request that a key of the setup signs, with a body, with a presented value, or without, and with a nonce where there is one; to the server
+    with this base."""
     created = int(time.time()) if created is None else created
-    covered = [("@method", method), ("@target-uri", BASE + path)]
-    head = [f"{method} {path} HTTP/1.1", "Host: as.example"]
+    covered = [("@method", method), ("@target-uri", base + path)]
+    head = [f"{method} {path} HTTP/1.1", "Host: " + base.removeprefix("https://")]
     if body:
         digest = f"sha-256=:{text_of(hashlib.sha256(body).digest())}:"
         covered.append(("content-digest", digest))
@@ -83,9 +84,9 @@ def first_reply(held):
 
 
 class Served:
-    """`gnap as` over the setup at a free port of this machine. The options are those of `subprocess.Popen`."""
+    """`gnap as` over the setup at a free port of this machine, behind the words of a program that runs it. The options are those of `subprocess.Popen`."""
 
-    def __init__(self, workers, quota, **options):
+    def __init__(self, workers, quota, under=(), **options):
         self.folder = tempfile.TemporaryDirectory()
         config = os.path.join(self.folder.name, "setup.json")
         with open(config, "w") as file:
@@ -95,7 +96,7 @@ class Served:
             self.address = probe.getsockname()
         listen = f"{self.address[0]}:{self.address[1]}"
         program = os.environ.get("GNAP", os.path.join(TOP, "gnap"))
-        self.process = subprocess.Popen([program, "as", config, listen, str(workers), str(quota)], **options)
+        self.process = subprocess.Popen([*under, program, "as", config, listen, str(workers), str(quota)], **options)
 
     def connect(self):
         conn = socket.create_connection(self.address, timeout=30)

@@ -110,12 +110,18 @@ class Checked:
         paths = self.description["paths"].items()
         return {(method.upper(), path): operation for path, methods in paths for method, operation in methods.items()}
 
-    def call(self, method: str, path: str, body: object = None, value: str | None = None, key: str | None = "c1", expect: object = 200) -> Reply:
-        """Makes a call, which is answered by the status or the error code that is expected, and checks all that is described of it."""
+    def call(
+        self, method: str, path: str, body: object = None, value: str | None = None, key: str | None = "c1", expect: object = 200, again: str = ""
+    ) -> Reply:
+        """Makes a call, which is answered by the status or the error code that is expected, and checks all that is described of it.
+
+        `again` is a key that signs too.
+        """
         operation = self.operations()[method, path]
         data = None if body is None else body if isinstance(body, bytes) else json.dumps(body).encode()
         credential = None if value is None else f"GNAP {value}"
-        fields = Signer(key, SECRETS[key]).fields(method, BASE + path, data, credential) if key else {}
+        new_key = Signer(again, SECRETS[again]) if again else None
+        fields = Signer(key, SECRETS[key]).fields(method, BASE + path, data, credential, new_key) if key else {}
         reply = self.server.send(method, path, fields, data)
         what = f"{operation['operationId']} {body}: {reply.status} {reply.body}"
         code = reply.body["error"]["code"] if reply.body and "error" in reply.body else ""
@@ -216,14 +222,19 @@ def requests_and_tokens(checked: Checked) -> None:
     checked.refuse("POST", "/gnap", malformed_requests())
     value, manage = begun.body["access_token"]["value"], begun.body["access_token"]["manage"]["access_token"]["value"]
     introspections(checked, value, several.body["access_token"][1]["value"])
-    checked.call("POST", "/token", {"key": "c2"}, manage, expect="key_rotation_not_supported")
+    checked.call("POST", "/token", {"key": "c2"}, manage, expect="invalid_client")
+    checked.call("POST", "/token", {"key": "c2"}, manage, expect="invalid_client", again="r1")
+    checked.call("POST", "/token", {"key": "r1"}, manage, expect="invalid_rotation", again="r1")
     checked.call("POST", "/token", {}, NOTHING, expect="invalid_rotation")
     checked.call("POST", "/token", None, manage, "c2", "invalid_client")
     checked.refuse("POST", "/token", [{"key": 7}, {"key": ""}, [], b"{"], manage)
     rotated = checked.call("POST", "/token", None, manage)
     manage = rotated.body["access_token"]["manage"]["access_token"]["value"]
     checked.call("DELETE", "/token", None, manage, "c2", "invalid_client")
-    checked.call("DELETE", "/token", None, manage, expect=204)
+    moved = checked.call("POST", "/token", {"key": "c2"}, manage, again="c2")
+    manage = moved.body["access_token"]["manage"]["access_token"]["value"]
+    checked.call("DELETE", "/token", None, manage, "c1", "invalid_client")
+    checked.call("DELETE", "/token", None, manage, "c2", expect=204)
     checked.call("DELETE", "/token", None, NOTHING, expect="invalid_request")
     modifications(checked, begun.onward)
 

@@ -4,8 +4,8 @@
     python3 make_files.py FOLDER --names as.example.org rs.example.org front.example.org [--ports AS=8401 ..] [--address 0.0.0.0] [--logs FOLDER]
 
 Without names it is for a try on this machine: names that end in .localhost, and free ports. All files can be read by their owner alone, and
-none that is there is overwritten. It prints the ports and the numbers of `gnap as` as words of a shell:
-AS=.. INNER=.. FRONT=.. RS1=.. RS2=.. TLS=.. WORKERS=.. QUOTA=..
+none that is there is overwritten. It prints the ports and the numbers of `gnap as` and `gnap sets` as words of a shell:
+AS=.. INNER=.. FRONT=.. SETS=.. RS1=.. RS2=.. TLS=.. WORKERS=.. SET_WORKERS=.. QUOTA=..
 """
 
 import argparse
@@ -21,14 +21,14 @@ import sys
 from pathlib import Path
 
 HERE = Path(__file__).resolve().parent
-# The ports that are taken under names of one's own. INNER is the way of `gnap rs` and the front to `gnap as`, TLS that of everybody else.
-USUAL_PORTS = {"AS": 8401, "INNER": 8402, "FRONT": 8403, "RS1": 8411, "RS2": 8412, "TLS": 443}
+# The ports that are taken under names of one's own. INNER is the way of `gnap rs` and the front to `gnap as` and `gnap sets`, TLS that of everybody else.
+USUAL_PORTS = {"AS": 8401, "INNER": 8402, "FRONT": 8403, "SETS": 8404, "RS1": 8411, "RS2": 8412, "TLS": 443}
 # Ports below those that the system gives to connections that go out.
 PORTS = range(20000, 32000)
 # More workers than connections that nginx opens (deploy/nginx/gnap.conf), and the largest quota that there is.
-NUMBERS = {"WORKERS": 64, "QUOTA": 1000000}
+NUMBERS = {"WORKERS": 64, "SET_WORKERS": 8, "QUOTA": 1000000}
 PROGRAM = "/usr/local/bin/gnap"
-UNITS = ("gnap-as.service", "gnap-rs@.service", "gnap-front.service")
+UNITS = ("gnap-as.service", "gnap-sets.service", "gnap-rs@.service", "gnap-front.service")
 
 
 def free_ports(names: list[str]) -> dict[str, int]:
@@ -67,15 +67,17 @@ class Setups:
         port = "" if ports["TLS"] == 443 else f":{ports['TLS']}"
         self.base = {part: f"https://{name}{port}" for part, name in zip(("as", "rs", "front"), names)}
         self.client = {"id": "print-shop", "secret": new_secret()}
+        self.new_key = {"id": "print-shop-2", "secret": new_secret()}
         self.server = {"id": "shelf", "secret": new_secret()}
         self.consent = {"id": "consent", "secret": new_secret()}
         self.read = {"type": "calendar", "actions": ["read"], "locations": [f"{self.base['rs']}/calendar"]}
         self.change = {**self.read, "actions": ["read", "write"]}
 
     def authorization_server(self) -> dict:
-        """That of `gnap as`."""
+        """That of `gnap as` and `gnap sets`."""
         keys = [
             {**self.client, "role": "client", "auto": [], "ask": ["photos", "mail", self.change]},
+            {**self.new_key, "role": "client", "auto": [], "ask": []},
             {**self.server, "role": "server", "serves": ["photos", "mail", "calendar"]},
             {**self.consent, "role": "front"},
         ]
@@ -85,7 +87,7 @@ class Setups:
         """That of `gnap rs`."""
         shown = {"/photos": ("photos", "12 pictures"), "/calendar": (self.read, "3 entries"), "/mail": ("mail", "2 letters")}
         routes = [{"method": "GET", "path": path, "right": right, "text": text} for path, (right, text) in shown.items()]
-        return {"base": self.base["rs"], "server": self.base["as"], **self.server, "keys": [self.client], "routes": routes}
+        return {"base": self.base["rs"], "server": self.base["as"], **self.server, "keys": [self.client, self.new_key], "routes": routes}
 
     def front(self) -> dict:
         """That of the consent front. The identifiers of its users are drawn, so that they tell nothing."""
@@ -107,6 +109,7 @@ class Setups:
             "connect": f"127.0.0.1:{self.ports['TLS']}",
             "trusted": str(self.folder / "certificate.pem"),
             **self.client,
+            "new_key": self.new_key,
             "wanted": [
                 {"label": "pictures", "access": ["photos", self.change]},
                 {"label": "letters", "access": ["mail"], "flags": ["bearer"]},

@@ -1,7 +1,8 @@
 #!/usr/bin/env bash
-# A whole deployment on this machine: nginx with TLS before `gnap as`, two `gnap rs` and the consent front, and a client in Python.
+# A whole deployment on this machine: nginx with TLS before `gnap as`, `gnap sets`, two `gnap rs` and the consent front, and a client in Python.
 #
-#     deploy/try.sh                              prints a link; decide in your browser, and see what the client got
+#     deploy/try.sh [--new-key]                  prints a link; decide in your browser, and see what the client got. With --new-key it rotates
+#                                                bound tokens to a second key of its own
 #     deploy/try.sh --headless [FOLDER] [--quick]   has Chromium decide as a person would, checks what came of it, and leaves pictures of the
 #                                                pages in the folder. It waits ten minutes for a request to expire; --quick leaves that out
 #
@@ -12,11 +13,13 @@ python=/usr/bin/python3
 PATH=$PATH:/usr/sbin
 
 headless=
+new_key=
 quick=
 pictures=
 for word in "$@"; do
     case $word in
     --headless) headless=yes ;;
+    --new-key) new_key=--new-key ;;
     --quick) quick=--quick ;;
     -*)
         sed -n '2,/^set/s/^# \{0,1\}//p' "$0" >&2
@@ -106,6 +109,8 @@ openssl req -x509 -newkey ec -pkeyopt ec_paramgen_curve:P-256 -noenc -days 7 -su
 
 start as "$gnap" as "$work/as.json" "127.0.0.1:$AS" "$WORKERS" "$QUOTA"
 listens as "$AS"
+start sets "$gnap" sets "$work/as.json" "127.0.0.1:$SETS" "$SET_WORKERS" "$QUOTA"
+listens sets "$SETS"
 start rs1 "$gnap" rs "$work/rs.json" "127.0.0.1:$RS1" "127.0.0.1:$INNER" "$QUOTA"
 listens rs1 "$RS1"
 start rs2 "$gnap" rs "$work/rs.json" "127.0.0.1:$RS2" "127.0.0.1:$INNER" "$QUOTA"
@@ -115,11 +120,13 @@ listens front "$FRONT"
 start nginx nginx -e "$work/logs/nginx-error.log" -p "$work" -c "$work/nginx.conf"
 listens nginx "$TLS"
 
+run "$python" resource_set.py "$work" "$INNER"
+
 if [ -n "$headless" ]; then
     run "$python" -m tour "$work" "$pictures" $quick
 else
     browser=
     [ -n "${DISPLAY:-}${WAYLAND_DISPLAY:-}" ] || browser=--no-browser
     echo "Everything runs. The certificate is this script's own, so your browser warns of it once."
-    run "$python" -m client "$work/client.json" $browser
+    run "$python" -m client "$work/client.json" $browser $new_key
 fi

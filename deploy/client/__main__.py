@@ -1,6 +1,8 @@
 """Shows a whole grant: asks, sends the user to the page, and uses, rotates and revokes what the user granted.
 
-    python3 -m client CONFIG [--no-browser]
+    python3 -m client CONFIG [--no-browser] [--new-key]
+
+With --new-key, tokens that are bound to the key are rotated to the new key of the configuration, which both sign.
 """
 
 import argparse
@@ -23,9 +25,10 @@ def connections_of(config: dict) -> Connections:
     return Connections(config["trusted"], (host, int(port)))
 
 
-def client_of(config: dict) -> GnapClient:
-    """The client of a configuration."""
-    signer = Signer(config["id"], base64.b64decode(config["secret"]))
+def client_of(config: dict, key: dict | None = None) -> GnapClient:
+    """The client of a configuration, with its key or with this one."""
+    key = key or config
+    signer = Signer(key["id"], base64.b64decode(key["secret"]))
     return GnapClient(config["server"], signer, connections_of(config))
 
 
@@ -53,9 +56,21 @@ def use(client: GnapClient, resource: str, token: Token) -> None:
         print(f"  GET {path}: {reply.status} {text}")
 
 
-def walk(client: GnapClient, resource: str, wanted: object, browser: bool) -> None:
+def rotate(client: GnapClient, successor: GnapClient | None, token: Token) -> tuple[GnapClient, Token]:
+    """The token for which this one is exchanged, and the client whose it is: the successor, where there is one and the token is bound to a key."""
+    if successor is None or token.bearer:
+        rotated = client.rotate(token)
+        print("  rotated. The old one:")
+        return client, rotated
+    rotated = client.move(token, successor)
+    print("  rotated to the new key. The old one:")
+    return successor, rotated
+
+
+def walk(client: GnapClient, config: dict, browser: bool, successor: GnapClient | None) -> None:
     """The whole grant."""
-    grant = ask_user(client, wanted, browser)
+    resource = config["resource"]
+    grant = ask_user(client, config["wanted"], browser)
     print("The user came back, and the hash is right.")
     print(f"The user: {grant.user or 'not told'}")
     if not grant.tokens:
@@ -63,14 +78,13 @@ def walk(client: GnapClient, resource: str, wanted: object, browser: bool) -> No
     for token in grant.tokens:
         print(f"Token {token.label!r} for {_names(token.access)}, {token.seconds} seconds{', bearer' if token.bearer else ''}:")
         use(client, resource, token)
-        rotated = client.rotate(token)
-        print("  rotated. The old one:")
+        owner, rotated = rotate(client, successor, token)
         use(client, resource, token)
         print("  The new one:")
-        use(client, resource, rotated)
-        client.revoke(rotated)
+        use(owner, resource, rotated)
+        owner.revoke(rotated)
         print("  revoked:")
-        use(client, resource, rotated)
+        use(owner, resource, rotated)
     client.cancel(grant)
     print("The grant is given back.")
 
@@ -80,10 +94,12 @@ def main() -> int:
     parser = argparse.ArgumentParser(prog="client", description="Shows a whole grant.")
     parser.add_argument("config", type=Path)
     parser.add_argument("--no-browser", action="store_true", help="only print the link")
+    parser.add_argument("--new-key", action="store_true", help="rotate bound tokens to the new key of the configuration")
     words = parser.parse_args()
     config = json.loads(words.config.read_text())
+    successor = client_of(config, config["new_key"]) if words.new_key else None
     try:
-        walk(client_of(config), config["resource"], config["wanted"], not words.no_browser)
+        walk(client_of(config), config, not words.no_browser, successor)
     except Refused as refused:
         print(f"The server refused: {refused.code}")
         return 1

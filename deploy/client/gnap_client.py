@@ -1,4 +1,4 @@
-"""A GNAP client (RFC 9635) whose key is a shared secret: begins a grant, continues it, uses, rotates and revokes its tokens."""
+"""A GNAP client (RFC 9635) whose key is a shared secret: begins a grant, continues it, uses, rotates and revokes its tokens, and moves them to another key."""
 
 import base64
 import hashlib
@@ -78,10 +78,10 @@ class GnapClient:
         self._signer = signer
         self._connections = connections
 
-    def _call(self, method: str, uri: str, body: dict | None, value: str | None = None) -> Reply:
+    def _call(self, method: str, uri: str, body: dict | None, value: str | None = None, new_key: Signer | None = None) -> Reply:
         data = None if body is None else json.dumps(body).encode()
         credential = None if value is None else f"GNAP {value}"
-        fields = self._signer.fields(method, uri, data, credential)
+        fields = self._signer.fields(method, uri, data, credential, new_key)
         reply = self._connections.send(method, uri, fields, data)
         if reply.status not in (200, 204):
             raise Refused(reply)
@@ -152,6 +152,15 @@ class GnapClient:
     def rotate(self, token: Token) -> Token:
         """Exchanges a token for one with the same rights. The old one is worth nothing afterwards."""
         reply = self._call("POST", token.manage_uri, None, token.manage_value)
+        return _read_token(reply.body["access_token"])
+
+    def move(self, token: Token, to: "GnapClient") -> Token:
+        """Exchanges a token for one that is bound to the key of another client, which signs too (RFC 9635, section 6.1.1).
+
+        The new token is that client's to use, rotate and revoke. The grant stays with this one.
+        """
+        new_key = to._signer
+        reply = self._call("POST", token.manage_uri, {"key": new_key.key_id}, token.manage_value, new_key)
         return _read_token(reply.body["access_token"])
 
     def revoke(self, token: Token) -> None:

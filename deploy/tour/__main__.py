@@ -27,6 +27,7 @@ def go_around(tour: Tour, quick: bool) -> None:
         visits.part_of_another,
         visits.taken_back,
         visits.somebody_else,
+        visits.moved_to_a_new_key,
         guards.hostile_texts,
         guards.forms_and_cookies,
         guards.other_site,

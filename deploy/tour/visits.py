@@ -4,6 +4,7 @@ import subprocess
 import sys
 import time
 
+from client.__main__ import client_of
 from client.coming_back import ComingBack
 from client.gnap_client import Grant, WrongHash
 from tour.checks import Tour, form_token
@@ -248,6 +249,26 @@ def somebody_else(tour: Tour) -> None:
     tour.browser.click("button[value=unknown]")
     tour.shows("the page says what was chosen", "You said that you aren't the one")
     tour.is_refused("the client is told", "unknown_user", lambda: tour.client.poll(grant))
+
+
+def moved_to_a_new_key(tour: Tour) -> None:
+    """The client moves a token to its second key:"""
+    grant = tour.begin({"access": ["photos"]}, ["redirect"])
+    tour.browser.go(grant.interact["redirect"])
+    tour.browser.click(ALLOW_ALL)
+    tour.shows("the user allows it", "You allowed it")
+    tour.client.poll(grant)
+    tour.remember(grant)
+    second = client_of(tour.config, tour.config["new_key"])
+    moved = tour.client.move(grant.tokens[0], second)
+    tour.secrets |= {moved.value, moved.manage_value}
+    photos = f"{tour.config['resource']}/photos"
+    tour.check("the new key opens the photos", second.use(moved, "GET", photos).status == 200)
+    tour.check("and the old one doesn't", tour.client.use(moved, "GET", photos).status == 401)
+    tour.is_refused("nor does it rotate the token", "invalid_client", lambda: tour.client.rotate(moved))
+    second.revoke(moved)
+    tour.check("the new key gave it back", second.use(moved, "GET", photos).status == 401)
+    tour.client.cancel(grant)
 
 
 def begin_expiring(tour: Tour) -> Grant:

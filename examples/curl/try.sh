@@ -1,8 +1,8 @@
 #!/usr/bin/env bash
 # A client made of curl and openssl, as docs/CLIENTS.md tells it, and the servers of setup.json and rs.json on this machine. It asks for `mail`; the user
-# grants it by the front f1; the client checks the hash, continues, uses its token at the resource server, exchanges it, gives it back, and cancels the
-# grant. Then it asks again, with a user code, and polls. The very bytes of this request, sent once more on another connection, are refused. What came of
-# each request has to be what stands at the end of this file.
+# grants it by the front f1; the client checks the hash, continues, uses its token at the resource server, exchanges it, moves it to its second key c2, uses
+# it with that key, gives it back, and cancels the grant. Then it asks again, with a user code, and polls. The very bytes of this request, sent once more on
+# another connection, are refused. What came of each request has to be what stands at the end of this file.
 set -eu
 here=$(cd "$(dirname "$0")" && pwd)
 gnap=${GNAP:-$here/../../gnap}
@@ -21,16 +21,24 @@ secret() {
     sed -n "s/.*\"id\":\"$1\"[^}]*\"secret\":\"\([^\"]*\)\".*/\1/p" "$here/setup.json" | openssl base64 -d -A | od -An -v -tx1 | tr -d ' \n'
 }
 
-# Adds to what is signed: the name of a component, and its value.
+# Adds to what is signed: the name of a component, its value, and its parameters, where it has some.
 cover() {
-    printf '"%s": %s\n' "$1" "$2" >>"$work/base"
-    list="$list${list:+ }\"$1\""
+    printf '"%s"%s: %s\n' "$1" "${3:-}" "$2" >>"$work/covered"
+    list="$list${list:+ }\"$1\"${3:-}"
+}
+
+# sign_with KEY LABEL MORE: signs what is covered, with MORE behind the other parameters.
+sign_with() {
+    params="($list);created=$(date +%s);keyid=\"$1\";$3"
+    { cat "$work/covered" && printf '"@signature-params": %s' "$params"; } >"$work/base"
+    signature=$(openssl dgst -sha256 -mac HMAC -macopt "hexkey:$(secret "$1")" -binary "$work/base" | openssl base64 -A)
+    printf 'Signature-Input: %s=%s\nSignature: %s=:%s:\n' "$2" "$params" "$2" "$signature" >>"$work/fields"
 }
 
 # sign KEY METHOD URI BODY VALUE: puts the fields of this request into a file. BODY and VALUE may be empty.
 sign() {
     list=
-    : >"$work/base"
+    : >"$work/covered"
     : >"$work/fields"
     cover @method "$2"
     cover @target-uri "$3"
@@ -43,10 +51,14 @@ sign() {
         cover authorization "GNAP $5"
         echo "Authorization: GNAP $5" >>"$work/fields"
     fi
-    params="($list);created=$(date +%s);keyid=\"$1\";nonce=\"$(openssl rand -hex 16)\";tag=\"gnap\""
-    printf '"@signature-params": %s' "$params" >>"$work/base"
-    signature=$(openssl dgst -sha256 -mac HMAC -macopt "hexkey:$(secret "$1")" -binary "$work/base" | openssl base64 -A)
-    printf 'Signature-Input: sig1=%s\nSignature: sig1=:%s:\n' "$params" "$signature" >>"$work/fields"
+    sign_with "$1" sig1 "nonce=\"$(openssl rand -hex 16)\";tag=\"gnap\""
+}
+
+# sign_again KEY: puts behind them the signature of a new key, over the one that is there.
+sign_again() {
+    cover signature ":$signature:" ';key="sig1"'
+    cover signature-input "$params" ';key="sig1"'
+    sign_with "$1" sig2 'tag="gnap-rotate"'
 }
 
 # send METHOD URI BODY: sends it with these fields to the server on this machine, without TLS, and prints what came of it.
@@ -85,9 +97,9 @@ serve() {
     done
     pids="$pids $server"
 }
-serve as "$here/setup.json" 1 16
+serve as "$here/setup.json" 1 18
 as_port=$port
-serve rs "$here/rs.json" "127.0.0.1:$as_port" 1
+serve rs "$here/rs.json" "127.0.0.1:$as_port" 2
 rs_port=$port
 
 : >"$work/fields"
@@ -109,7 +121,14 @@ value=$(member "$onward")
 manage=$(member "$managed")
 call GET $rs/mail '' "$(member "$token")"
 call POST $as/token '' "$manage"
-call DELETE $as/token '' "$(member "$managed")"
+manage=$(member "$managed")
+to_c2='{"key":"c2"}'
+sign c1 POST $as/token "$to_c2" "$manage"
+sign_again c2
+send POST $as/token "$to_c2"
+manage=$(member "$managed")
+call GET $rs/mail '' "$(member "$token")" c2
+call DELETE $as/token '' "$manage" c2
 call DELETE $as/continue '' "$value"
 call POST $as/continue '' "$value"
 
@@ -135,6 +154,8 @@ POST https://as.example/front/decide 200
 POST https://as.example/continue 200
 GET https://rs.example/mail 200
 POST https://as.example/token 200
+POST https://as.example/token 200
+GET https://rs.example/mail 200
 DELETE https://as.example/token 204
 DELETE https://as.example/continue 204
 POST https://as.example/continue 401

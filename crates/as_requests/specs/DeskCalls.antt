@@ -1,10 +1,11 @@
 -- What a request asks of the authorization server: a call of its machine, or an answer that needs no state.
-use Rattle.std.specs.Prelude.{◌≢◌, ℕ, List, [], ◌∷◌, Option, Some, None, Result, Ok, Err}
+use Rattle.std.specs.Prelude.{◌≢◌, ℕ, if◌then◌else◌, List, [], ◌∷◌, Option, Some, None, Result, Ok, Err}
 use Rattle.bytes_and_lists.specs.declared.message.Message.{Message}
 use Rattle.serde_json.specs.Data.{Data}
 use Rattle.structured_fields.specs.Named.{value_at}
 use Rattle.json_objects.specs.declared.body.BodyFault.{BodyFault}
 use Rattle.json_objects.specs.Bodies.{body_of}
+use Rattle.gnap_model.specs.declared.objects.ErrorCode.TheVariants.{InvalidClient}
 use Rattle.gnap_model.specs.declared.objects.Setup.{Setup}
 use Rattle.gnap_objects.specs.declared.call_reading.CallKind.{CallKind}
 use Rattle.gnap_objects.specs.declared.call_reading.CallOrRefusal.{CallOrRefusal}
@@ -21,6 +22,7 @@ use Rattle.as_requests.specs.declared.desk_calls.RequestStep.{RequestStep}
 use Rattle.as_requests.specs.declared.desk_calls.RequestStep.TheVariants.{Direct, Ask}
 use Rattle.as_requests.specs.declared.signers.Signer.{Signer}
 use Rattle.as_requests.specs.Signers.{needs_mark, signer}
+use Rattle.as_requests.specs.KeyRotations.{named_key, is_signed_by_named}
 use Rattle.as_requests.specs.Routes.{path_of, route_at, methods_of}
 use Rattle.as_requests.specs.Presented.{presented_value}
 
@@ -43,11 +45,18 @@ abbrev pub signed_step : Setup → CallKind → Message → Option Signer → Re
 signed_step setup kind m None = step_of None (stranger kind)
 signed_step setup kind m (Some signer) = step_of signer.mark (call_of setup kind signer.key (presented_value m) (message_body m.body))
 
+-- A rotation that names a key is asked where that key signed too (RFC 9635, section 6.1.1). All that is refused without it stays so.
+abbrev pub rotation_step : Setup → Message → ℕ → RequestStep → RequestStep
+rotation_step setup m moment (Direct answer) = Direct answer
+rotation_step setup m moment (Ask signed) =
+    if is_signed_by_named setup m moment (named_key signed.call) then Ask signed else Direct (direct.Error InvalidClient)
+
 abbrev pub method_step : Setup → Message → ℕ → Route → Option Purpose → RequestStep
 method_step setup m moment route None = Direct (direct.NotAllowed route)
 method_step setup m moment route (Some purpose.Discovery) = Direct direct.Discovery
 method_step setup m moment route (Some purpose.RsDiscovery) = Direct direct.RsDiscovery
-method_step setup m moment route (Some (purpose.Calls kind)) = signed_step setup kind m (signer setup (needs_mark kind) m moment)
+method_step setup m moment route (Some (purpose.Calls kind)) =
+    rotation_step setup m moment (signed_step setup kind m (signer setup (needs_mark kind) m moment))
 
 abbrev pub route_step : Setup → Message → ℕ → Option Route → RequestStep
 route_step setup m moment None = Direct direct.NotFound

@@ -2,4 +2,7 @@ pub mod Rings
 pub mod Routes
 pub mod Presented
 pub mod Signers
+pub mod KeyRotations
 pub mod DeskCalls
+pub mod Laws
+pub mod DirectErrors

@@ -4,10 +4,11 @@ ghost use Rattle.grant_machine.specs.Gnap.{MarkFits};
 ghost use Rattle.gnap_objects.specs.CallReading.{IsTaken, call_of};
 ghost use Rattle.as_requests.specs.Signers.{needs_mark, signer};
 ghost use Rattle.as_requests.specs.Presented.{presented_value};
-ghost use Rattle.as_requests.specs.DeskCalls.{message_body, step_of, signed_step, route_step, desk_call, IsAskable};
+ghost use Rattle.as_requests.specs.DeskCalls.{message_body, step_of, signed_step, rotation_step, route_step, desk_call, IsAskable};
 
 use crate::authorization::presented_value;
 use crate::edge::Edge;
+use crate::key_rotations::is_signed_by_named;
 use crate::routes::{Purpose, Route, path_of};
 use crate::signers::{Signer, find_signer, needs_mark};
 use bytes_and_lists::memory::Mem;
@@ -102,6 +103,31 @@ fn signed_step(
     }
 }
 
+// The step, where it doesn't ask a rotation that names a key, or that key signed too.
+fn rotation_step(
+    alloc: Global,
+    edge: &Edge,
+    message: &Message,
+    moment: u64,
+    step: RequestStep,
+) -> Result<RequestStep, Mem>
+    requires { IsAskable step }
+    ensures step { IfOk result (λ s. s ≡ rotation_step edge.now message.now moment step) }
+    ensures askable { IfOk result IsAskable }
+{
+    match step {
+        RequestStep::Direct(answer) => Ok(RequestStep::Direct(answer)),
+        RequestStep::Ask(signed) => {
+            if is_signed_by_named(alloc, edge, message, moment, &signed.call)? {
+                Ok(RequestStep::Ask(signed))
+            } else {
+                let refusal = DirectAnswer::Error(ErrorCode::InvalidClient);
+                Ok(RequestStep::Direct(refusal))
+            }
+        }
+    }
+}
+
 // What the message asks of the route.
 fn route_step(
     alloc: Global,
@@ -117,15 +143,20 @@ fn route_step(
         None => Ok(RequestStep::Direct(DirectAnswer::NotAllowed(route))),
         Some(Purpose::Discovery) => Ok(RequestStep::Direct(DirectAnswer::Discovery)),
         Some(Purpose::RsDiscovery) => Ok(RequestStep::Direct(DirectAnswer::RsDiscovery)),
-        Some(Purpose::Calls(kind)) => signed_step(alloc, edge, kind, message, moment),
+        Some(Purpose::Calls(kind)) => {
+            let step = signed_step(alloc, edge, kind, message, moment)?;
+            rotation_step(alloc, edge, message, moment, step)
+        }
     }
 }
 
 /// What the message asks of the authorization server at this moment, in seconds since 1970: the first of these that applies. `NotFound` where no route has
 /// its path; `NotAllowed` where the route hasn't its method; a discovery, for which nobody has to sign; `Error` with `InvalidClient`, for an introspection
 /// with `InvalidResourceServer`, where `message_signature::verify` passes no signature with the setup's base, its keys and the tag `gnap`, or where the
-/// signature has no mark (`message_signature::mark_of`) and the call isn't an introspection, or where the signer's role isn't that of the call; and from there
-/// on what `gnap_objects::read_call` answers of the signer, the presented value and the body. A call other than an introspection has the signature's mark.
+/// signature has no mark (`message_signature::mark_of`) and the call isn't an introspection, or where the signer's role isn't that of the call; the error that
+/// `gnap_objects::read_call` answers of the signer, the presented value and the body; `InvalidClient` where the call is a rotation that names a key, and
+/// `key_rotation::verify_rotation` doesn't answer that key as the one that made the second signature (RFC 9635, section 6.1.1); and else the call that was
+/// read. A call other than an introspection has the signature's mark.
 ///
 /// A body goes through unread until the signature passed. Err only where memory ran out, and nothing is changed then.
 #[tactic(auto, unfolding(crate::specs::DeskCalls::desk_call))]

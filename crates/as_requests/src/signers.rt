@@ -11,12 +11,12 @@ use message_signature::{SigFault, SignatureMark, verify, verify_marked};
 use signed_calls::signed::Mark;
 use std::alloc::Global;
 
-// Who signed a request, as the machine is told of it.
+/// Who signed a request.
 #[derive(Drop)]
-pub(crate) struct Signer {
-    // The id of the key.
+pub struct Signer {
+    /// The id of the key.
     pub key: Bytes,
-    // The mark of the signature. An introspection has none.
+    /// The mark of the signature. Where none is needed there is none.
     pub mark: Option<Mark>,
 }
 
@@ -88,7 +88,7 @@ fn unmarked_signer(
 }
 
 /// Who signed the message, with a mark where one is needed. None where no signature passes, and where it hasn't the mark that is needed.
-pub(crate) fn find_signer(
+pub fn find_signer(
     alloc: Global,
     edge: &Edge,
     needed: bool,

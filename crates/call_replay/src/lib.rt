@@ -1,7 +1,7 @@
 //! The calls of a file's lines, made at a desk, and their replies printed.
 //!
-//! The contract of `replay` says: the printed lines are what the grant machine's definitions answer to the calls of the file's lines, from one legal
-//! history, or direct answers that need no state, in order (`specs/Replays`); or the first line is no setup, and nothing was printed.
+//! The contract of `replay_lines` says: the printed lines are what the grant machine's definitions answer to the calls of the lines, by what the desk has
+//! seen, or direct answers that need no state, in order (`specs/Replaying`). What a whole file comes to is `specs/Replays`.
 #![tactic(auto)]
 
 mod answering;
@@ -10,4 +10,4 @@ mod line_marks;
 mod replaying;
 mod reply_lines;
 
-pub use replaying::{replay, replay_lines};
+pub use replaying::replay_lines;

@@ -9,6 +9,7 @@ use Rattle.gnap_model.specs.Actions.Action.{Refuse, RefuseAndFinalize}
 use Rattle.gnap_model.specs.Standing.{opening_in, is_live}
 use Rattle.gnap_model.specs.Continue.{with_grant, continue_round}
 use Rattle.gnap_model.specs.Manage.{on_grant, rotate_key}
+use Rattle.gnap_model.specs.declared.objects.Setup.{Setup}
 use Rattle.gnap_model.specs.declared.objects.ErrorCode.{ErrorCode}
 use Rattle.gnap_model.specs.declared.objects.ErrorCode.TheVariants.{InvalidContinuation, InvalidInteraction, InvalidRotation}
 use Rattle.gnap_model.specs.declared.notes.Note.{Note}
@@ -43,10 +44,10 @@ pub on_grant_as : (code : ErrorCode) (trail : List Note) (key : Text) (t : Token
 on_grant_as code trail key t act found action is acts = ap (λ (o : Option OpeningNote). on_found code (with_owner act t.key key) o) (sym is) ∙ acts
 
 -- A live token is rotated as its grant says.
-pub rotates_as : (trail : List Note) (now : ℕ) (key : Text) (t : TokenNote) (new_key : Option Text) (found : Option OpeningNote) (action : Action)
-    → is_live trail now t ≡ true → found ≡ first_of (opening_in t.grant) trail → on_found InvalidRotation (with_owner (rotate_key new_key t) t.key key) found ≡ action
-    → (if is_live trail now t then on_grant InvalidRotation trail key t (rotate_key new_key t) else Refuse InvalidRotation) ≡ action
-rotates_as trail now key t new_key found action live is acts = rw live (on_grant_as InvalidRotation trail key t (rotate_key new_key t) found action is acts)
+pub rotates_as : (rules : Setup) (trail : List Note) (now : ℕ) (key : Text) (t : TokenNote) (new_key : Option Text) (found : Option OpeningNote) (action : Action)
+    → is_live trail now t ≡ true → found ≡ first_of (opening_in t.grant) trail → on_found InvalidRotation (with_owner (rotate_key rules new_key t) t.key key) found ≡ action
+    → (if is_live trail now t then on_grant InvalidRotation trail key t (rotate_key rules new_key t) else Refuse InvalidRotation) ≡ action
+rotates_as rules trail now key t new_key found action live is acts = rw live (on_grant_as InvalidRotation trail key t (rotate_key rules new_key t) found action is acts)
 
 -- A round without a decision, whose time for it is over, ends its grant.
 pub ran_out : (trail : List Note) (now : ℕ) (o : OpeningNote) (reference : Option Text) (decision : Option DecisionNote) (round : RoundNote)

@@ -17,22 +17,24 @@ use bytes_and_lists::memory::{Duplicate, Mem};
 use bytes_and_lists::seq::Seq;
 use gnap_model::calls::Reply;
 use gnap_model::notes::{Note, OpeningNote, TokenNote, Why};
-use gnap_model::objects::ErrorCode;
+use gnap_model::objects::{ErrorCode, Setup};
+use grant_rules::keys::can_bind;
 use grant_rules::tokens::token_out;
 use std::alloc::Global;
 
-/// The token gets a successor, with its key, its label, its rights and its flag (RFC 9635, section 6.1).
+/// The token gets a successor, which is bound to this key, with its label, its rights and its flag (RFC 9635, section 6.1).
 fn replace(
     alloc: Global,
     drawing: &Drawing,
     opening: &OpeningNote,
     token: &TokenNote,
+    key: &Bytes,
 ) -> Result<NotedReply, Mem>
-    ensures { IfOk result (IsAnswer (outcome_of (supply drawing.now) (RotateToken opening.now token.now token.now.key))) }
+    ensures { IfOk result (IsAnswer (outcome_of (supply drawing.now) (RotateToken opening.now token.now key.now))) }
 {
     let label = token.label.copy()?;
     let rights = token.rights.copy()?;
-    let successor = token_with(drawing, opening, &token.key, label, rights, token.bearer, 0)?;
+    let successor = token_with(drawing, opening, key, label, rights, token.bearer, 0)?;
     let reply = Reply::Rotated {
         token: token_out(&successor, drawing.moment)?,
     };
@@ -45,16 +47,40 @@ fn replace(
     Ok(NotedReply { reply, notes })
 }
 
-/// A live token of the key gets a successor, unless a new key is named.
+/// A live token gets a successor, by the key that is named (RFC 9635, section 6.1.1).
+fn replace_by(
+    alloc: Global,
+    rules: &Setup,
+    drawing: &Drawing,
+    opening: &OpeningNote,
+    token: &TokenNote,
+    new_key: &Option<Bytes>,
+) -> Result<NotedReply, Mem>
+    ensures { IfOk result (IsAnswer (outcome_of (supply drawing.now) (rotate_key rules.now new_key.now token.now opening.now))) }
+{
+    match new_key {
+        None => replace(alloc, drawing, opening, token, &token.key),
+        Some(named) => {
+            if can_bind(rules, token.bearer, named.as_slice()) {
+                replace(alloc, drawing, opening, token, named)
+            } else {
+                Ok(refuse(alloc, ErrorCode::InvalidRotation))
+            }
+        }
+    }
+}
+
+/// A live token of the key gets a successor.
 fn rotate_token(
     alloc: Global,
+    rules: &Setup,
     drawing: &Drawing,
     key: &Bytes,
     token: &TokenNote,
     new_key: &Option<Bytes>,
 ) -> Result<NotedReply, Mem>
     ensures { IfOk result (IsAnswer (outcome_of (supply drawing.now) (if token_is_live (trail drawing.now) drawing.now.moment token.now
-        then on_grant InvalidRotation (trail drawing.now) key.now token.now (rotate_key new_key.now token.now) else Refuse InvalidRotation))) }
+        then on_grant InvalidRotation (trail drawing.now) key.now token.now (rotate_key rules.now new_key.now token.now) else Refuse InvalidRotation))) }
 {
     let notes = drawing.notes.as_slice();
     if !is_live(notes, token, drawing.moment) {
@@ -63,10 +89,7 @@ fn rotate_token(
     let grant = opening_of(notes, token.grant);
     let owner = token.key.as_slice();
     match of_owner(grant, owner, key.as_slice(), ErrorCode::InvalidRotation) {
-        Ok(opening) => match new_key {
-            Some(_) => Ok(refuse(alloc, ErrorCode::KeyRotationNotSupported)),
-            None => replace(alloc, drawing, opening, token),
-        },
+        Ok(opening) => replace_by(alloc, rules, drawing, opening, token, new_key),
         Err(code) => Ok(refuse(alloc, code)),
     }
 }
@@ -74,16 +97,18 @@ fn rotate_token(
 /// Answers a rotation (RFC 9635, section 6.1).
 pub fn rotate(
     alloc: Global,
+    rules: &Setup,
     drawing: &Drawing,
     key: &Bytes,
     value: &Bytes,
     new_key: &Option<Bytes>,
 ) -> Result<NotedReply, Mem>
-    ensures { IfOk result (IsAnswer (outcome_of (supply drawing.now) (rotated (trail drawing.now) drawing.now.moment key.now value.now new_key.now))) }
+    ensures { IfOk result (IsAnswer (outcome_of (supply drawing.now)
+        (rotated rules.now (trail drawing.now) drawing.now.moment key.now value.now new_key.now))) }
 {
     let notes = drawing.notes.as_slice();
     match managed_token(notes, drawing.moment, value.as_slice()) {
-        Some(token) => rotate_token(alloc, drawing, key, token, new_key),
+        Some(token) => rotate_token(alloc, rules, drawing, key, token, new_key),
         None => Ok(refuse(alloc, ErrorCode::InvalidRotation)),
     }
 }

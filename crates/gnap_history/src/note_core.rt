@@ -79,7 +79,7 @@ fn answer_call(
             key,
             value,
             new_key,
-        } => rotate(alloc, drawing, key, value, new_key),
+        } => rotate(alloc, rules, drawing, key, value, new_key),
         Call::Revoke { key, value } => revoke(alloc, drawing, key, value),
         Call::Introspect {
             server,

@@ -20,7 +20,7 @@ use Rattle.gnap_model.specs.Actions.Action.{Refuse, ShowToken, ShowInactive, Ope
 use Rattle.gnap_model.specs.Begin.{pass_limit, is_past, begin_by, ask_user, opening, show_token}
 use Rattle.gnap_model.specs.Continue.{with_grant, decided_asks, collect_by, collect_or_renew, is_wrong, is_early, continue_round, continue_at}
 use Rattle.gnap_model.specs.Change.{tokens_of, other_live_tokens, modify_by}
-use Rattle.gnap_model.specs.Manage.{rotate_key}
+use Rattle.gnap_model.specs.Manage.{can_bind, rotate_key}
 use Rattle.gnap_model.specs.Front.{rights_or, may_decide}
 use Rattle.gnap_model.specs.Answer.{action_of, supply_at}
 use Rattle.gnap_model.specs.Legal.{IsNext}
@@ -131,9 +131,10 @@ with_cause : (trail : List Note) (now : ℕ) (call : Call) (act : OpeningNote �
 with_cause trail now call act key v named p e h =
     found_cause trail now call InvalidContinuation (with_key act key) named refl (λ o is. owner_cause trail now call act o.key key o (h o (v, p, e ∙ is)))
 
-rotate_key_cause : (trail : List Note) (now : ℕ) (call : Call) (new_key : Option Text) (t : TokenNote) (o : OpeningNote) → Cause trail now call (RotateToken o t t.key) → Cause trail now call (rotate_key new_key t o)
-rotate_key_cause trail now call (Some k) t o h = refl
-rotate_key_cause trail now call None t o h = h
+rotate_key_cause : (rules : Setup) (trail : List Note) (now : ℕ) (call : Call) (new_key : Option Text) (t : TokenNote) (o : OpeningNote)
+    → ((key : Text) → Cause trail now call (RotateToken o t key)) → Cause trail now call (rotate_key rules new_key t o)
+rotate_key_cause rules trail now call (Some k) t o h = if_both (Cause trail now call) (can_bind rules t.bearer k) (RotateToken o t k) (Refuse InvalidRotation) (h k) refl
+rotate_key_cause rules trail now call None t o h = h t.key
 
 pub cause_of : (rules : Setup) (supply : Supply) (trail : List Note) (call : Call) → Cause trail supply.now call (action_of rules supply trail call)
 cause_of rules supply trail (Begin key request not_after) =
@@ -160,8 +161,8 @@ cause_of rules supply trail (Cancel key value) =
 cause_of rules supply trail (Rotate key value new_key) = found_cause trail supply.now (Rotate key value new_key) InvalidRotation _ (managed_token trail supply.now value) refl
     (λ t e. if_known (Cause trail supply.now (Rotate key value new_key)) (is_live trail supply.now t) _ (Refuse InvalidRotation)
     (λ live. found_cause trail supply.now (Rotate key value new_key) InvalidRotation _ (first_of (opening_in t.grant) trail) refl
-    (λ o is. owner_cause trail supply.now (Rotate key value new_key) (rotate_key new_key t) t.key key o (rotate_key_cause trail supply.now (Rotate key value new_key) new_key t o
-    (refl, (value, refl, e), live, is, (λ place from v same. let s : value ≡ v = cc same in ap from s))))) (λ dead. refl))
+    (λ o is. owner_cause trail supply.now (Rotate key value new_key) (rotate_key rules new_key t) t.key key o (rotate_key_cause rules trail supply.now (Rotate key value new_key) new_key t o
+    (λ bound. (refl, (value, refl, e), live, is, (λ place from v same. let s : value ≡ v = cc same in ap from s)))))) (λ dead. refl))
 cause_of rules supply trail (Revoke key value) = found_cause trail supply.now (Revoke key value) InvalidRequest _ (managed_token trail supply.now value) refl
     (λ t e. found_cause trail supply.now (Revoke key value) InvalidRequest _ (first_of (opening_in t.grant) trail) refl
     (λ o is. owner_cause trail supply.now (Revoke key value) (λ o. RevokeToken t (list_any (is_retirement t.serial) trail)) t.key key o (refl, (value, refl, e), refl)))

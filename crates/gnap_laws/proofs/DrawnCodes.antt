@@ -1,11 +1,10 @@
 -- The user code that an entry draws is that of no live interaction.
-use Rattle.std.proofs.Common.{ℕ, ◌≡◌, ◌≤◌, ◌<◌, ◌⊎◌, inl, inr, Bool, true, false, List, [], ◌∷◌, ◌++◌, length, map, refl, sym, ◌∙◌, ap, subst, arith, Option, Some, None}
+use Rattle.std.proofs.Common.{ℕ, ◌≡◌, ◌≤◌, ◌<◌, inl, inr, Bool, true, false, List, [], ◌∷◌, ◌++◌, length, map, refl, sym, ◌∙◌, ap, subst, arith, Option, Some, None}
 use Rattle.std.specs.Option.{option_or}
 use Rattle.std.specs.Prelude.{◌*◌, not, is_some, slice_index, if◌then◌else◌, Contains}
 use Rattle.std.specs.List.{list_any, filter_map, cons_option}
 use Rattle.std.proofs.lemmas.Bool.{or_parts}
 use Rattle.std.proofs.lemmas.Cmp.{nat_list_eq_equiv}
-use Rattle.std.proofs.lemmas.List.Elements.{Contains-append_cases, Contains-push_cases}
 use Rattle.std.proofs.lemmas.List.Sums.{count_by-le-length}
 use Rattle.gnap_model.specs.Common.{Text, same_text, first_of, some_if, is_text}
 use Rattle.gnap_model.specs.Limits.{live_limit}
@@ -20,6 +19,7 @@ use Rattle.gnap_model.specs.Actions.Action.{OpenAtOnce, OpenAsking, TakeDecision
 use Rattle.gnap_model.proofs.TrailNotes.{HasNote, EachNote, each-append, each_of}
 use Rattle.gnap_model.proofs.LookUps.{some_if_some}
 use Rattle.gnap_laws.proofs.NoteCounts.{count_weaker, length-filter_map}
+use Rattle.gnap_laws.proofs.Members.{contains_none, contains_cases}
 use Rattle.gnap_laws.proofs.FreeCodes.{free_code_free}
 
 -- ---- few codes are taken
@@ -112,15 +112,11 @@ action_free supply _ few = tt
 -- ---- an entry
 
 contained_has : (ns : List Note) (n : Note) → Contains ns n → HasNote ns n
-contained_has [] n h = absurd (let k = h.1 in omega arith)
-contained_has (m ∷ ns) n h = elim (Contains-append_cases (m ∷ []) ns n h) [
-  | inl here ↦ inl (first (Contains-push_cases [] m n here))
+contained_has [] n h = contains_none n h
+contained_has (m ∷ ns) n h = elim (contains_cases m n ns h) [
+  | inl here ↦ inl (sym here)
   | inr rest ↦ inr (contained_has ns n rest)
 ]
-  where
-    first : Contains [] n ⊎ (m ≡ n) → n ≡ m
-    first (inl h) = absurd (let k = h.1 in omega arith)
-    first (inr e) = sym e
 
 -- The code of a round that an action begins is that of no live interaction, where no more grants are live than may be.
 pub drawn_free : (supply : Supply) (trail : List Note) (action : Action) (round : RoundNote) (code : Text) → supply.taken ≡ live_codes trail supply.now → live_grants trail supply.now ≤ live_limit

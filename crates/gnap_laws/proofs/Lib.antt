@@ -12,6 +12,7 @@ pub mod Tells
 pub mod Active
 pub mod NewestFirst
 pub mod NoteCounts
+pub mod Members
 pub mod Room
 pub mod WrongReferences
 pub mod FreeCodes
@@ -20,3 +21,4 @@ pub mod LiveGrants
 pub mod LiveTokens
 pub mod WithinLimits
 pub mod DrawnCodes
+pub mod BoundKeys

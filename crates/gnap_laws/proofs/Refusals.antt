@@ -10,7 +10,7 @@ use Rattle.gnap_laws.specs.Types.{Right, Modes, GrantRequest, Verdict, Binding, 
 use Rattle.gnap_model.specs.Rights.{covers}
 use Rattle.gnap_model.specs.Asked.{asked_rights, has_start}
 use Rattle.gnap_model.specs.declared.objects.Verdict.TheVariants.{Grant, Deny, Unknown}
-use Rattle.gnap_model.specs.Keys.{key_of, server_names}
+use Rattle.gnap_model.specs.Keys.{key_of, is_client, server_names}
 use Rattle.gnap_model.specs.declared.calls.Call.TheVariants.{Begin, Introspect, Lapse, Look, FindCode, Decide, Continue, Modify, Cancel, Rotate, Revoke}
 use Rattle.gnap_model.specs.declared.calls.Reply.TheVariants.{Error}
 use Rattle.gnap_model.specs.declared.objects.ErrorCode.TheVariants.{InvalidRequest, InvalidClient, InvalidInteraction, InvalidRotation, InvalidContinuation, RequestDenied, UnknownInteraction, TooFast, TooManyAttempts, InvalidAccess}
@@ -20,11 +20,11 @@ use Rattle.gnap_model.specs.Standing.GrantState.{IsPending, IsApproved, IsFinali
 use Rattle.gnap_model.specs.Judging.{Settled, settle, suits, serves_all}
 use Rattle.gnap_model.specs.Judging.Settled.{AtOnce, ByAsking, Never}
 use Rattle.gnap_model.specs.Actions.{Action, Supply, outcome_of, on_found, with_owner}
-use Rattle.gnap_model.specs.Actions.Action.{Refuse, ShowToken, ShowInactive, OpenAtOnce, OpenAsking, TakeDecision, RenewDoor, CollectDecision, WrongReference, LastWrongReference, RefuseAndFinalize, ModifyAtOnce, ModifyAsking, CancelGrant, RevokeToken}
+use Rattle.gnap_model.specs.Actions.Action.{Refuse, ShowToken, ShowInactive, OpenAtOnce, OpenAsking, TakeDecision, RenewDoor, CollectDecision, WrongReference, LastWrongReference, RefuseAndFinalize, ModifyAtOnce, ModifyAsking, CancelGrant, RotateToken, RevokeToken}
 use Rattle.gnap_model.specs.Begin.{pass_limit, is_past, begin_by, ask_user, opening, show_token}
 use Rattle.gnap_model.specs.Continue.{decided_asks, collect_by, collect_or_renew, is_wrong, is_early, is_before, continue_round, continue_at}
 use Rattle.gnap_model.specs.Change.{tokens_of, other_live_tokens, modify_by}
-use Rattle.gnap_model.specs.Manage.{rotate_key}
+use Rattle.gnap_model.specs.Manage.{can_bind, rotate_key}
 use Rattle.gnap_model.specs.Front.{rights_or, may_decide}
 use Rattle.gnap_laws.specs.Refusals.{HasCause, IsOwner, NamesRound, caller}
 use Rattle.gnap_model.specs.Answer.{action_of}
@@ -216,10 +216,16 @@ continue_why rules trail now key value reference o IsFinalized origins limits na
 
 -- ---- management
 
+unbound : (bearer client : Bool) → (not bearer && client) ≡ false → (bearer ≡ true) ⊎ (client ≡ false)
+unbound true client e = inl refl
+unbound false client e = inr e
+
 rotate_why : (rules : Setup) (trail : List Note) (now : ℕ) (key value : Text) (new_key : Option Text) (t : TokenNote) (o : OpeningNote)
     → managed_token trail now value ≡ Some t → is_live trail now t ≡ true → t.key ≡ key
-    → Explained rules trail now (Rotate key value new_key) (rotate_key new_key t o)
-rotate_why rules trail now key value (Some new_key) t o managed live same = (t, managed, live, same, refl)
+    → Explained rules trail now (Rotate key value new_key) (rotate_key rules new_key t o)
+rotate_why rules trail now key value (Some named) t o managed live same =
+    if_known (Explained rules trail now (Rotate key value (Some named))) (can_bind rules t.bearer named) (RotateToken o t named) (Refuse InvalidRotation)
+    (λ yes. tt) (λ no. inr (inr (t, named, managed, live, same, refl, unbound t.bearer (is_client (key_of rules named)) no)))
 rotate_why rules trail now key value None t o managed live same = tt
 
 show_why : (rules : Setup) (trail : List Note) (now : ℕ) (call : Call) (names : List Text) (binding : Option Binding) (wanted : Option (List Right)) (t : Option TokenNote)
@@ -280,9 +286,9 @@ explained rules supply trail (Rotate key value new_key) origins limits =
     (λ t managed. let opens = issued_opened trail t origins (managed_issued trail supply.now value t managed).0 in
     if_known (Explained rules trail supply.now (Rotate key value new_key)) (is_live trail supply.now t) _ (Refuse InvalidRotation)
     (λ live. found_why rules trail supply.now (Rotate key value new_key) InvalidRotation _ (first_of (opening_in t.grant) trail) (there (first_of (opening_in t.grant) trail) opens.0 opens.1)
-    (λ o found. owner_why rules trail supply.now (Rotate key value new_key) (rotate_key new_key t) t.key o (t, managed, refl)
+    (λ o found. owner_why rules trail supply.now (Rotate key value new_key) (rotate_key rules new_key t) t.key o (t, managed, refl)
     (λ same. rotate_why rules trail supply.now key value new_key t o managed live same)))
-    (λ dead. inr (t, managed, dead)))
+    (λ dead. inr (inl (t, managed, dead))))
 explained rules supply trail (Revoke key value) origins limits =
     found_why rules trail supply.now (Revoke key value) InvalidRequest _ (managed_token trail supply.now value) (λ none. none)
     (λ t managed. let opens = issued_opened trail t origins (managed_issued trail supply.now value t managed).0 in

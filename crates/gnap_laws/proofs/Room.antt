@@ -9,7 +9,7 @@ use Rattle.gnap_model.specs.Limits.{live_limit, wrong_limit}
 use Rattle.gnap_model.specs.Keys.{key_of, server_names}
 use Rattle.gnap_model.specs.Asked.{asked_rights}
 use Rattle.gnap_model.specs.declared.objects.Verdict.TheVariants.{Grant, Deny, Unknown}
-use Rattle.gnap_model.specs.declared.objects.ErrorCode.TheVariants.{InvalidClient, RequestDenied, TooManyAttempts}
+use Rattle.gnap_model.specs.declared.objects.ErrorCode.TheVariants.{InvalidClient, InvalidRotation, RequestDenied, TooManyAttempts}
 use Rattle.gnap_model.specs.declared.calls.Call.TheVariants.{Begin, Introspect, Lapse, Look, FindCode, Decide, Continue, Modify, Cancel, Rotate, Revoke}
 use Rattle.gnap_model.specs.Notes.{Event, trail_of, now_at}
 use Rattle.gnap_model.specs.Standing.{GrantState, grant_state, named_grant, live_grants, live_token, live_tokens, managed_token, is_live, is_retirement, opening_in, decision_of, terms_of, wrongs_of, consent_of, round_by_handle, round_by_code}
@@ -17,11 +17,11 @@ use Rattle.gnap_model.specs.Standing.GrantState.{IsPending, IsApproved, IsFinali
 use Rattle.gnap_model.specs.Judging.{Settled, settle, suits, serves_all}
 use Rattle.gnap_model.specs.Judging.Settled.{AtOnce, ByAsking, Never}
 use Rattle.gnap_model.specs.Actions.{Action, Supply, on_found, with_owner}
-use Rattle.gnap_model.specs.Actions.Action.{Refuse, ShowToken, ShowInactive, OpenAtOnce, OpenAsking, ShowHandle, TakeDecision, RenewDoor, CollectDecision, WrongReference, LastWrongReference, RefuseAndFinalize, ModifyAtOnce, ModifyAsking, CancelGrant, RevokeToken}
+use Rattle.gnap_model.specs.Actions.Action.{Refuse, ShowToken, ShowInactive, OpenAtOnce, OpenAsking, ShowHandle, TakeDecision, RenewDoor, CollectDecision, WrongReference, LastWrongReference, RefuseAndFinalize, ModifyAtOnce, ModifyAsking, CancelGrant, RotateToken, RevokeToken}
 use Rattle.gnap_model.specs.Begin.{pass_limit, is_past, begin_by, ask_user, opening, show_token}
 use Rattle.gnap_model.specs.Continue.{decided_asks, collect_by, collect_or_renew, is_wrong, is_early, continue_round, continue_at}
 use Rattle.gnap_model.specs.Change.{tokens_of, other_live_tokens, modify_by}
-use Rattle.gnap_model.specs.Manage.{rotate_key}
+use Rattle.gnap_model.specs.Manage.{can_bind, rotate_key}
 use Rattle.gnap_model.specs.Front.{rights_or, may_decide}
 use Rattle.gnap_model.specs.Answer.{action_of, supply_at}
 use Rattle.gnap_model.specs.Legal.{IsNext}
@@ -96,9 +96,9 @@ show_room : (trail : List Note) (now : ℕ) (names : List Text) (binding : Optio
 show_room trail now names binding wanted None = tt
 show_room trail now names binding wanted (Some t) = if_both (HasRoom trail now) (suits names binding wanted t.rights t.bearer) (ShowToken _ t) ShowInactive tt tt
 
-rotate_room : (trail : List Note) (now : ℕ) (new_key : Option Text) (t : TokenNote) (o : OpeningNote) → HasRoom trail now (rotate_key new_key t o)
-rotate_room trail now (Some k) t o = tt
-rotate_room trail now None t o = tt
+rotate_room : (rules : Setup) (trail : List Note) (now : ℕ) (new_key : Option Text) (t : TokenNote) (o : OpeningNote) → HasRoom trail now (rotate_key rules new_key t o)
+rotate_room rules trail now (Some k) t o = if_both (HasRoom trail now) (can_bind rules t.bearer k) (RotateToken o t k) (Refuse InvalidRotation) tt tt
+rotate_room rules trail now None t o = tt
 
 has_room : (rules : Setup) (supply : Supply) (trail : List Note) (call : Call) → HasRoom trail supply.now (action_of rules supply trail call)
 has_room rules supply trail (Begin key request not_after) =
@@ -124,7 +124,7 @@ has_room rules supply trail (Modify key value request) = found_room trail supply
 has_room rules supply trail (Cancel key value) = found_room trail supply.now _ _ (named_grant trail supply.now value) (λ o. owner_room trail supply.now CancelGrant o.key key o tt)
 has_room rules supply trail (Rotate key value new_key) = found_room trail supply.now _ _ (managed_token trail supply.now value)
     (λ t. if_both (HasRoom trail supply.now) (is_live trail supply.now t) _ (Refuse _)
-    (found_room trail supply.now _ _ (first_of (opening_in t.grant) trail) (λ o. owner_room trail supply.now (rotate_key new_key t) t.key key o (rotate_room trail supply.now new_key t o))) tt)
+    (found_room trail supply.now _ _ (first_of (opening_in t.grant) trail) (λ o. owner_room trail supply.now (rotate_key rules new_key t) t.key key o (rotate_room rules trail supply.now new_key t o))) tt)
 has_room rules supply trail (Revoke key value) = found_room trail supply.now _ _ (managed_token trail supply.now value)
     (λ t. found_room trail supply.now _ _ (first_of (opening_in t.grant) trail)
     (λ o. owner_room trail supply.now (λ o. RevokeToken t (list_any (is_retirement t.serial) trail)) t.key key o tt))

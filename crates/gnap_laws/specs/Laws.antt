@@ -5,7 +5,7 @@ use Rattle.std.specs.declared.option.Option.TheVariants.{None, Some}
 use Rattle.histories.specs.History.{Legal, notes_of, now}
 use Rattle.gnap_model.specs.Common.{Text, AreDistinct}
 use Rattle.gnap_model.specs.Limits.{live_limit, wrong_limit}
-use Rattle.gnap_laws.specs.Types.{Right, Binding, Setup, ErrorCode, Note, RoundNote}
+use Rattle.gnap_laws.specs.Types.{Right, Binding, Setup, ErrorCode, TokenOut, Note, RoundNote}
 use Rattle.gnap_model.specs.Rights.{covers, Includes}
 use Rattle.gnap_model.specs.Keys.{key_of, server_names}
 use Rattle.gnap_model.specs.declared.calls.Call.TheVariants.{Introspect}
@@ -18,6 +18,7 @@ use Rattle.gnap_model.specs.Judging.{serves_all, active}
 use Rattle.gnap_model.specs.Answer.{gnap_answer}
 use Rattle.gnap_model.specs.Legal.{grant_law}
 use Rattle.gnap_laws.specs.Refusals.{HasCause}
+use Rattle.gnap_laws.specs.BoundKeys.{RotatesTo, IsBoundTo}
 use Rattle.gnap_laws.specs.Provenance.{is_active, IsOnce, IsRefusedAfter, drawn_by, tells_all}
 
 -- Granted rights cover the wanted ones exactly where each atom of the wanted ones is an atom of the granted ones (RFC 9635, section 8).
@@ -73,3 +74,10 @@ DoorsOpenOnce = (rules : Setup) (history : List Event) (value : Text) → Legal 
 abbrev pub DrawnValuesDiffer : Type 0
 DrawnValuesDiffer = (rules : Setup) (history : List Event) → Legal grant_law rules history → length history ≤ 2 ^ 58
     → AreDistinct (drawn_by (reverse history))
+
+-- After a rotation that named a key, the new token is that key's (RFC 9635, section 6.1.1).
+abbrev pub RotatedKeysBind : Type 0
+RotatedKeysBind = (rules : Setup) (before : List Event) (entry : Event) (after : List Event) (rotation : Event) (token : TokenOut) (key : Text)
+    → Legal grant_law rules (before ++ entry ∷ after) → length before ≤ 2 ^ 58
+    → Contains before rotation → RotatesTo rotation.call rotation.reply token key
+    → IsBoundTo (reverse (notes_of before)) (now before entry.moment) entry.call entry.reply token key

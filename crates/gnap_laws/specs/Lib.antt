@@ -1,4 +1,5 @@
 pub mod Types
 pub mod Provenance
 pub mod Refusals
+pub mod BoundKeys
 pub mod Laws

@@ -8,10 +8,10 @@ use Rattle.gnap_model.specs.Rights.{covers}
 use Rattle.gnap_model.specs.Asked.{asked_rights}
 use Rattle.gnap_laws.specs.Types.{Verdict, Setup, Call, ErrorCode, OpeningNote, TermsNote, RoundNote, DecisionNote, TokenNote, Note}
 use Rattle.gnap_model.specs.declared.objects.Verdict.TheVariants.{Grant, Deny, Unknown}
-use Rattle.gnap_model.specs.Keys.{key_of, server_names}
+use Rattle.gnap_model.specs.Keys.{key_of, is_client, server_names}
 use Rattle.gnap_model.specs.declared.calls.Call.TheVariants.{Begin, Introspect, Look, FindCode, Decide, Continue, Modify, Cancel, Rotate, Revoke, Lapse}
-use Rattle.gnap_model.specs.declared.objects.ErrorCode.TheVariants.{InvalidRequest, InvalidClient, InvalidInteraction, InvalidRotation, KeyRotationNotSupported, InvalidContinuation, UserDenied, RequestDenied, UnknownUser, UnknownInteraction, TooFast, TooManyAttempts, InvalidAccess}
-use Rattle.gnap_model.specs.Standing.{grant_state, named_grant, earliest_in, decision_of, wrongs_of, terms_of, consent_of, opening_in, live_grants, live_tokens, managed_token, is_live, round_by_handle, round_by_code}
+use Rattle.gnap_model.specs.declared.objects.ErrorCode.TheVariants.{InvalidRequest, InvalidClient, InvalidInteraction, InvalidRotation, InvalidContinuation, UserDenied, RequestDenied, UnknownUser, UnknownInteraction, TooFast, TooManyAttempts, InvalidAccess}
+use Rattle.gnap_model.specs.Standing.{grant_state, named_grant, earliest_in, decision_of, wrongs_of, terms_of, consent_of, live_grants, live_tokens, managed_token, is_live, round_by_handle, round_by_code}
 use Rattle.gnap_model.specs.Standing.GrantState.{IsPending, IsApproved}
 use Rattle.gnap_model.specs.Judging.{settle, serves_all}
 use Rattle.gnap_model.specs.Judging.Settled.{AtOnce, Never}
@@ -147,17 +147,14 @@ FindsNoInteraction trail now (FindCode front code) = round_by_code trail now cod
 FindsNoInteraction trail now (Decide front request) = round_by_handle trail now request.handle ≡ None
 FindsNoInteraction trail now _ = ⊥
 
--- invalid_rotation: the management value that is presented names no token, or one that isn't live
-abbrev pub RotatesNothing : List Note → ℕ → Call → Type 0
-RotatesNothing trail now (Rotate key value new_key) = (managed_token trail now value ≡ None)
+-- invalid_rotation: the management value that is presented names no token, or one that isn't live; or the token's own key asks that a live bearer token be
+-- bound to a key, or a live token to a key that isn't a client's
+abbrev pub RotatesNothing : Setup → List Note → ℕ → Call → Type 0
+RotatesNothing rules trail now (Rotate key value new_key) = (managed_token trail now value ≡ None)
     ⊎ ((token : TokenNote) × (managed_token trail now value ≡ Some token) × IsFalse (is_live trail now token))
-RotatesNothing trail now _ = ⊥
-
--- key_rotation_not_supported: the token's own key asks that a live token be bound to a new key
-abbrev pub RotatesKey : List Note → ℕ → Call → Type 0
-RotatesKey trail now (Rotate key value new_key) = (token : TokenNote)
-    × (managed_token trail now value ≡ Some token) × IsTrue (is_live trail now token) × (token.key ≡ key) × IsTrue (is_some new_key)
-RotatesKey trail now _ = ⊥
+    ⊎ ((token : TokenNote) × (named : Text) × (managed_token trail now value ≡ Some token) × IsTrue (is_live trail now token)
+    × (token.key ≡ key) × (new_key ≡ Some named) × (IsTrue token.bearer ⊎ IsFalse (is_client (key_of rules named))))
+RotatesNothing rules trail now _ = ⊥
 
 -- the cause of a code; the machine gives no other
 abbrev pub HasCause : Setup → List Note → ℕ → Call → ErrorCode → Type 0
@@ -172,6 +169,5 @@ HasCause rules trail now call UserDenied = CollectsRefusal trail now call Deny
 HasCause rules trail now call UnknownUser = CollectsRefusal trail now call Unknown
 HasCause rules trail now call RequestDenied = IsDenied rules trail now call
 HasCause rules trail now call UnknownInteraction = FindsNoInteraction trail now call
-HasCause rules trail now call InvalidRotation = RotatesNothing trail now call
-HasCause rules trail now call KeyRotationNotSupported = RotatesKey trail now call
+HasCause rules trail now call InvalidRotation = RotatesNothing rules trail now call
 HasCause rules trail now call _ = ⊥

@@ -1,5 +1,5 @@
 //! Laws on the histories of the grant machine. Each function does nothing; its contract is the law.
-ghost use Rattle.gnap_laws.specs.Laws.{CoversIsInclusion, RefusalsHaveCauses, SaysActive, TellsWhatCame, DoorsOpenOnce, DrawnValuesDiffer, LimitsHold, WrongReferencesAreFew, DrawnCodesAreFree};
+ghost use Rattle.gnap_laws.specs.Laws.{CoversIsInclusion, RefusalsHaveCauses, SaysActive, TellsWhatCame, DoorsOpenOnce, DrawnValuesDiffer, LimitsHold, WrongReferencesAreFew, DrawnCodesAreFree, RotatedKeysBind};
 
 /// Granted rights cover wanted ones exactly where each atom of the wanted ones is an atom of the granted ones (RFC 9635, section 8).
 pub fn covers_is_inclusion()
@@ -44,4 +44,9 @@ pub fn drawn_values_differ()
 /// An introspection is answered Active exactly where requests and replies alone show a token that serves (RFC 9767, section 3.3).
 pub fn tells_what_came()
     ensures { TellsWhatCame }
+{}
+
+/// After a rotation that named a key every introspection tells the new token's key as that, and no other key rotates or revokes it (RFC 9635, section 6.1.1).
+pub fn rotated_keys_bind()
+    ensures { RotatedKeysBind }
 {}

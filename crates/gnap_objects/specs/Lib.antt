@@ -9,6 +9,7 @@ pub mod Users
 pub mod Interactions
 pub mod Grants
 pub mod Introspections
+pub mod Registrations
 pub mod Continuations
 pub mod UserCodes
 pub mod Decisions

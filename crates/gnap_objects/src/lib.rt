@@ -13,6 +13,7 @@ pub mod grants;
 mod interactions;
 pub mod introspections;
 pub mod members;
+pub mod registrations;
 pub mod setup_members;
 pub mod setups;
 mod token_requests;
@@ -30,5 +31,6 @@ pub use gnap_model::objects::{
 };
 pub use grants::read_grant;
 pub use introspections::read_introspect;
+pub use registrations::{Registration, read_registration, read_resolution};
 pub use setups::{SetupFault, read_setup};
 pub use user_codes::read_code;

@@ -132,11 +132,11 @@ unfolding digits response_of token_data continue_data interact_data ask_data val
 lapsed = refl
 
 for_clients : compact_text (client_discovery (codes "https://as.example"))
-    ≡ codes "{\"grant_request_endpoint\":\"https://as.example/gnap\",\"interaction_finish_methods_supported\":[\"redirect\",\"push\"],\"interaction_start_modes_supported\":[\"redirect\",\"user_code\",\"user_code_uri\"],\"key_proofs_supported\":[\"httpsig\"],\"key_rotation_supported\":false,\"sub_id_formats_supported\":[\"opaque\"]}"
+    ≡ codes "{\"grant_request_endpoint\":\"https://as.example/gnap\",\"interaction_finish_methods_supported\":[\"redirect\",\"push\"],\"interaction_start_modes_supported\":[\"redirect\",\"user_code\",\"user_code_uri\"],\"key_proofs_supported\":[\"httpsig\"],\"key_rotation_supported\":true,\"sub_id_formats_supported\":[\"opaque\"]}"
 unfolding client_discovery escape_byte
 for_clients = refl
 
 for_resource_servers : compact_text (server_discovery (codes "https://as.example"))
-    ≡ codes "{\"grant_request_endpoint\":\"https://as.example/gnap\",\"introspection_endpoint\":\"https://as.example/introspect\",\"key_proofs_supported\":[\"httpsig\"]}"
+    ≡ codes "{\"grant_request_endpoint\":\"https://as.example/gnap\",\"introspection_endpoint\":\"https://as.example/introspect\",\"key_proofs_supported\":[\"httpsig\"],\"resource_registration_endpoint\":\"https://as.example/resource\"}"
 unfolding server_discovery escape_byte
 for_resource_servers = refl

@@ -1,8 +1,8 @@
 -- What the authorization server says of itself (RFC 9635, section 9; RFC 9767, section 3.1).
-use Rattle.std.specs.Prelude.{ℕ, false, List, [], ◌∷◌, codes, Option, Some}
+use Rattle.std.specs.Prelude.{ℕ, true, List, [], ◌∷◌, codes, Option, Some}
 use Rattle.serde_json.specs.Data.{Data, boolean, string}
 use Rattle.json_objects.specs.Objects.{object_of, texts_data}
-use Rattle.gnap_replies.specs.Endpoints.{grant_endpoint, introspection_endpoint}
+use Rattle.gnap_replies.specs.Endpoints.{grant_endpoint, introspection_endpoint, registration_endpoint}
 
 abbrev pub key_proofs : List (List ℕ)
 key_proofs = codes "httpsig" ∷ []
@@ -26,7 +26,7 @@ client_discovery_fields base =
     (codes "interaction_finish_methods_supported", Some (texts_data finish_methods)) ∷
     (codes "interaction_start_modes_supported", Some (texts_data start_modes)) ∷
     (codes "key_proofs_supported", Some (texts_data key_proofs)) ∷
-    (codes "key_rotation_supported", Some (boolean false)) ∷
+    (codes "key_rotation_supported", Some (boolean true)) ∷
     (codes "sub_id_formats_supported", Some (texts_data subject_formats)) ∷ []
 
 unfoldable pub client_discovery : List ℕ → Data
@@ -37,7 +37,8 @@ abbrev pub server_discovery_fields : List ℕ → List (List ℕ × Option Data)
 server_discovery_fields base =
     (codes "grant_request_endpoint", Some (string (grant_endpoint base))) ∷
     (codes "introspection_endpoint", Some (string (introspection_endpoint base))) ∷
-    (codes "key_proofs_supported", Some (texts_data key_proofs)) ∷ []
+    (codes "key_proofs_supported", Some (texts_data key_proofs)) ∷
+    (codes "resource_registration_endpoint", Some (string (registration_endpoint base))) ∷ []
 
 unfoldable pub server_discovery : List ℕ → Data
 server_discovery base = object_of (server_discovery_fields base)

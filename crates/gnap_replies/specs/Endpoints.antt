@@ -17,6 +17,10 @@ management_endpoint base = base ++ codes "/token"
 abbrev pub introspection_endpoint : List ℕ → List ℕ
 introspection_endpoint base = base ++ codes "/introspect"
 
+-- where resource servers register sets of resources (RFC 9767, section 3.4)
+abbrev pub registration_endpoint : List ℕ → List ℕ
+registration_endpoint base = base ++ codes "/resource"
+
 -- where the user is sent for the interaction with this handle (RFC 9635, section 3.3.1)
 abbrev pub interaction_page : List ℕ → List ℕ → List ℕ
 interaction_page front handle = front ++ codes "/i/" ++ handle

@@ -1,8 +1,9 @@
 //! What the authorization server says of itself.
-ghost use Rattle.std.specs.Prelude.{◌≡◌, IfOk, IsUtf8, map};
-ghost use Rattle.serde_json.specs.View.{view};
+ghost use Rattle.std.specs.Prelude.{◌≡◌, ◌++◌, Some, IfOk, OnOk, IsUtf8, map};
+ghost use Rattle.serde_json.specs.Data.{string};
+ghost use Rattle.serde_json.specs.View.{view, members_view};
 ghost use Rattle.serde_json.specs.Written.{compact_text};
-ghost use Rattle.json_objects.specs.Objects.{texts_data};
+ghost use Rattle.json_objects.specs.Objects.{texts_data, with_member};
 ghost use Rattle.gnap_replies.specs.Discovery.{client_discovery, server_discovery};
 
 use crate::endpoints::place_value;
@@ -22,6 +23,22 @@ fn words_value(alloc: Global, words: &[&str]) -> Result<Value, Mem>
     Ok(Value::Array(items))
 }
 
+// Places the member that is the place with this path below the address.
+fn put_place(
+    map: &mut Map<String, Value>,
+    alloc: Global,
+    name: &str,
+    address: &[u8],
+    path: &str,
+) -> Result<(), Mem>
+    requires { IsUtf8 address.now }
+    ensures { OnOk result (members_view map.new.entries
+        ≡ with_member name.now (Some (string (address.now ++ path.now))) (members_view map.old.entries)) }
+{
+    let place = place_value(alloc, address, path)?;
+    put(map, alloc, name, Some(place))
+}
+
 #[tactic(auto, unfolding(crate::specs::Discovery::client_discovery))]
 fn client_discovery_value(alloc: Global, base: &[u8]) -> Result<Value, Mem>
     requires { IsUtf8 base.now }
@@ -34,7 +51,7 @@ fn client_discovery_value(alloc: Global, base: &[u8]) -> Result<Value, Mem>
         &mut map,
         alloc,
         "key_rotation_supported",
-        Some(Value::Bool(false)),
+        Some(Value::Bool(true)),
     )?;
     let proofs = words_value(alloc, &["httpsig"])?;
     put(&mut map, alloc, "key_proofs_supported", Some(proofs))?;
@@ -52,8 +69,7 @@ fn client_discovery_value(alloc: Global, base: &[u8]) -> Result<Value, Mem>
         "interaction_finish_methods_supported",
         Some(methods),
     )?;
-    let endpoint = place_value(alloc, base, "/gnap")?;
-    put(&mut map, alloc, "grant_request_endpoint", Some(endpoint))?;
+    put_place(&mut map, alloc, "grant_request_endpoint", base, "/gnap")?;
     Ok(Value::Object(map))
 }
 
@@ -63,17 +79,23 @@ fn server_discovery_value(alloc: Global, base: &[u8]) -> Result<Value, Mem>
     ensures { IfOk result (λ v. view v ≡ server_discovery base.now) }
 {
     let mut map = Map::new(alloc);
+    put_place(
+        &mut map,
+        alloc,
+        "resource_registration_endpoint",
+        base,
+        "/resource",
+    )?;
     let proofs = words_value(alloc, &["httpsig"])?;
     put(&mut map, alloc, "key_proofs_supported", Some(proofs))?;
-    let introspection = place_value(alloc, base, "/introspect")?;
-    put(
+    put_place(
         &mut map,
         alloc,
         "introspection_endpoint",
-        Some(introspection),
+        base,
+        "/introspect",
     )?;
-    let grants = place_value(alloc, base, "/gnap")?;
-    put(&mut map, alloc, "grant_request_endpoint", Some(grants))?;
+    put_place(&mut map, alloc, "grant_request_endpoint", base, "/gnap")?;
     Ok(Value::Object(map))
 }
 
@@ -86,7 +108,7 @@ pub fn print_client_discovery(alloc: Global, base: &[u8]) -> Result<Bytes, Mem>
     compact_text(alloc, &client_discovery_value(alloc, base)?)
 }
 
-/// The same for a resource server (RFC 9767, section 3.1).
+/// The same for a resource server (RFC 9767, section 3.1). It names the place where resource sets are registered, whether or not a server is there.
 #[tactic(auto, unfolding(crate::specs::Discovery::server_discovery))]
 pub fn print_server_discovery(alloc: Global, base: &[u8]) -> Result<Bytes, Mem>
     requires { IsUtf8 base.now }

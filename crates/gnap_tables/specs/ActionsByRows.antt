@@ -133,7 +133,7 @@ row_action rules next tables now (Modify key value request) =
 row_action rules next tables now (Cancel key value) = with_row (λ (row : GrantRow). CancelGrant (opening_of row)) key (row_by_door value tables.grants)
 row_action rules next tables now (Rotate key value new_key) =
     on_found InvalidRotation (λ (token : TokenRow). if is_live_row now tables.grants token
-    then on_row InvalidRotation tables.grants key token (rotate_key new_key (token_of token)) else Refuse InvalidRotation)
+    then on_row InvalidRotation tables.grants key token (rotate_key rules new_key (token_of token)) else Refuse InvalidRotation)
     (row_by_manage value tables.tokens)
 row_action rules next tables now (Revoke key value) =
     on_found InvalidRequest (λ (token : TokenRow). on_row InvalidRequest tables.grants key token (λ (opening : OpeningNote). RevokeToken (token_of token) token.retired))

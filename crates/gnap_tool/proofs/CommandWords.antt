@@ -6,7 +6,7 @@ use Rattle.std.specs.Str.{bytes_eq}
 use Rattle.command_words.specs.Positionals.{exactly}
 use Rattle.gnap_tool.specs.declared.command.Command.{Command}
 use Rattle.gnap_tool.specs.declared.wrong_words.WrongWords.{WrongWords}
-use Rattle.gnap_tool.specs.Commands.{AreRead, replay_of, field_of, with_three, with_four, with_five, sign_words, marked_sign_words, sign_of, verify_words, as_words, rs_words, cached_rs_words, rs_of, client_words, hash_of, load_words, counts_of, count_among, command_named}
+use Rattle.gnap_tool.specs.Commands.{AreRead, replay_of, field_of, with_three, with_four, with_five, sign_words, marked_sign_words, sign_of, verify_words, as_words, sets_words, rs_words, cached_rs_words, rs_of, client_words, hash_of, load_words, counts_of, count_among, command_named}
 
 no_replay : (words : List (List ℕ)) → exactly 1 words ≡ None → replay_of words ≡ None
 no_replay [] is = refl
@@ -130,60 +130,62 @@ pub rs_of_four : (result : Result Command WrongWords) (words : List (List ℕ))
 rs_of_four = by_four cached_rs_words rs_words
 
 -- how many words there have to be, and what they are read as, by whether the name is each of those
-abbrev number_by : (a b c d e f g h i : Bool) → Option (ℕ × ℕ)
-number_by a b c d e f g h i =
+abbrev number_by : (a b c d e f g h i j : Bool) → Option (ℕ × ℕ)
+number_by a b c d e f g h i j =
     if a then Some (1, 1) else if b then Some (2, 2) else if c then Some (4, 5) else if d then Some (3, 3) else if e then Some (4, 4)
-    else if f then Some (4, 5) else if g then Some (3, 3) else if h then Some (5, 5) else if i then Some (3, 3) else None
+    else if f then Some (4, 4) else if g then Some (4, 5) else if h then Some (3, 3) else if i then Some (5, 5) else if j then Some (3, 3) else None
 
-abbrev reading_by : (a b c d e f g h i : Bool) → List (List ℕ) → Option Command
-reading_by a b c d e f g h i words =
+abbrev reading_by : (a b c d e f g h i j : Bool) → List (List ℕ) → Option Command
+reading_by a b c d e f g h i j words =
     if a then replay_of words else if b then field_of words else if c then sign_of words else if d then with_three verify_words words
-    else if e then with_four as_words words else if f then rs_of words else if g then with_three client_words words
-    else if h then hash_of words else if i then with_three load_words words else None
+    else if e then with_four as_words words else if f then with_four sets_words words else if g then rs_of words else if h then with_three client_words words
+    else if i then hash_of words else if j then with_three load_words words else None
 
-counted : (a b c d e f g h i : Bool) (least most : ℕ) (words : List (List ℕ))
-    → number_by a b c d e f g h i ≡ Some (least, most)
+counted : (a b c d e f g h i j : Bool) (least most : ℕ) (words : List (List ℕ))
+    → number_by a b c d e f g h i j ≡ Some (least, most)
     → IsMiscount least most words
-    → reading_by a b c d e f g h i words ≡ None
-counted true b c d e f g h i least most words is none = no_replay words (at 1 least most words is none)
-counted false true c d e f g h i least most words is none = no_field words (at 2 least most words is none)
-counted false false true d e f g h i least most words is none = either_miscount marked_sign_words sign_words least most words is none
-counted false false false true e f g h i least most words is none = not_three verify_words words (at 3 least most words is none)
-counted false false false false true f g h i least most words is none = not_four as_words words (at 4 least most words is none)
-counted false false false false false true g h i least most words is none = either_miscount cached_rs_words rs_words least most words is none
-counted false false false false false false true h i least most words is none = not_three client_words words (at 3 least most words is none)
-counted false false false false false false false true i least most words is none = no_hash words (at 5 least most words is none)
-counted false false false false false false false false true least most words is none = not_three load_words words (at 3 least most words is none)
-counted false false false false false false false false false least most words is none = refl
+    → reading_by a b c d e f g h i j words ≡ None
+counted true b c d e f g h i j least most words is none = no_replay words (at 1 least most words is none)
+counted false true c d e f g h i j least most words is none = no_field words (at 2 least most words is none)
+counted false false true d e f g h i j least most words is none = either_miscount marked_sign_words sign_words least most words is none
+counted false false false true e f g h i j least most words is none = not_three verify_words words (at 3 least most words is none)
+counted false false false false true f g h i j least most words is none = not_four as_words words (at 4 least most words is none)
+counted false false false false false true g h i j least most words is none = not_four sets_words words (at 4 least most words is none)
+counted false false false false false false true h i j least most words is none = either_miscount cached_rs_words rs_words least most words is none
+counted false false false false false false false true i j least most words is none = not_three client_words words (at 3 least most words is none)
+counted false false false false false false false false true j least most words is none = no_hash words (at 5 least most words is none)
+counted false false false false false false false false false true least most words is none = not_three load_words words (at 3 least most words is none)
+counted false false false false false false false false false false least most words is none = refl
 
 -- words that aren't as many as the command of a name takes are no command
 pub miscounted : (name : List ℕ) (least most : ℕ) (words : List (List ℕ)) → counts_of name ≡ Some (least, most)
     → exactly (count_among least most (length words)) words ≡ None → command_named name words ≡ None
 miscounted name least most words is none =
     counted (bytes_eq name (codes "replay")) (bytes_eq name (codes "field")) (bytes_eq name (codes "sign")) (bytes_eq name (codes "verify"))
-    (bytes_eq name (codes "as")) (bytes_eq name (codes "rs")) (bytes_eq name (codes "client")) (bytes_eq name (codes "hash")) (bytes_eq name (codes "load"))
-    least most words is none
+    (bytes_eq name (codes "as")) (bytes_eq name (codes "sets")) (bytes_eq name (codes "rs")) (bytes_eq name (codes "client")) (bytes_eq name (codes "hash"))
+    (bytes_eq name (codes "load")) least most words is none
 
-unnamed_by : (a b c d e f g h i : Bool) (words : List (List ℕ))
-    → number_by a b c d e f g h i ≡ None
-    → reading_by a b c d e f g h i words ≡ None
-unnamed_by true b c d e f g h i words is = cc
-unnamed_by false true c d e f g h i words is = cc
-unnamed_by false false true d e f g h i words is = cc
-unnamed_by false false false true e f g h i words is = cc
-unnamed_by false false false false true f g h i words is = cc
-unnamed_by false false false false false true g h i words is = cc
-unnamed_by false false false false false false true h i words is = cc
-unnamed_by false false false false false false false true i words is = cc
-unnamed_by false false false false false false false false true words is = cc
-unnamed_by false false false false false false false false false words is = refl
+unnamed_by : (a b c d e f g h i j : Bool) (words : List (List ℕ))
+    → number_by a b c d e f g h i j ≡ None
+    → reading_by a b c d e f g h i j words ≡ None
+unnamed_by true b c d e f g h i j words is = cc
+unnamed_by false true c d e f g h i j words is = cc
+unnamed_by false false true d e f g h i j words is = cc
+unnamed_by false false false true e f g h i j words is = cc
+unnamed_by false false false false true f g h i j words is = cc
+unnamed_by false false false false false true g h i j words is = cc
+unnamed_by false false false false false false true h i j words is = cc
+unnamed_by false false false false false false false true i j words is = cc
+unnamed_by false false false false false false false false true j words is = cc
+unnamed_by false false false false false false false false false true words is = cc
+unnamed_by false false false false false false false false false false words is = refl
 
 -- without a command of the name there is none with it
 pub unnamed : (name : List ℕ) (words : List (List ℕ)) → counts_of name ≡ None → command_named name words ≡ None
 unnamed name words is =
     unnamed_by (bytes_eq name (codes "replay")) (bytes_eq name (codes "field")) (bytes_eq name (codes "sign")) (bytes_eq name (codes "verify"))
-    (bytes_eq name (codes "as")) (bytes_eq name (codes "rs")) (bytes_eq name (codes "client")) (bytes_eq name (codes "hash")) (bytes_eq name (codes "load"))
-    words is
+    (bytes_eq name (codes "as")) (bytes_eq name (codes "sets")) (bytes_eq name (codes "rs")) (bytes_eq name (codes "client")) (bytes_eq name (codes "hash"))
+    (bytes_eq name (codes "load")) words is
 
 -- where so many words are read, they are the words
 pub same_words : (count : ℕ) (words taken : List (List ℕ)) → Some taken ≡ exactly count words → taken ≡ words

@@ -8,7 +8,7 @@ use Rattle.message_signature.specs.Marks.{is_nonce}
 use Rattle.gnap_io.specs.declared.world.Opening.{Opening}
 use Rattle.gnap_io.specs.declared.world.Opening.TheVariants.{File, Gears, Link}
 use Rattle.gnap_tool.specs.declared.command.Command.{Command}
-use Rattle.gnap_tool.specs.declared.command.Command.TheVariants.{Replay, Field, Sign, Verify, As, Rs, Client, Hash, Load}
+use Rattle.gnap_tool.specs.declared.command.Command.TheVariants.{Replay, Field, Sign, Verify, As, Sets, Rs, Client, Hash, Load}
 use Rattle.printed_answers.specs.declared.fields.Kind.{Kind}
 use Rattle.printed_answers.specs.declared.fields.Kind.TheVariants.{Item, List as AList, Dictionary}
 use Rattle.gnap_tool.specs.declared.wrong_words.WordForm.{WordForm}
@@ -86,6 +86,12 @@ as_words config listen workers quota =
     if are_arguments (config ∷ listen ∷ [])
     then option_and_then (λ n. option_map (λ most. As config listen n most) (number_within 0 1000000 quota)) (number_within 1 64 workers) else None
 
+-- the same ranges as of `as`
+abbrev pub sets_words : List ℕ → List ℕ → List ℕ → List ℕ → Option Command
+sets_words config listen workers quota =
+    if are_arguments (config ∷ listen ∷ [])
+    then option_and_then (λ n. option_map (λ most. Sets config listen n most) (number_within 0 1000000 quota)) (number_within 1 64 workers) else None
+
 -- at most 1,000,000 connections, and with a cache 1 to 16,384 replies
 abbrev pub rs_words : List ℕ → List ℕ → List ℕ → List ℕ → Option Command
 rs_words config listen server quota =
@@ -131,6 +137,7 @@ counts_of name =
     else if bytes_eq name (codes "sign") then Some (4, 5)
     else if bytes_eq name (codes "verify") then Some (3, 3)
     else if bytes_eq name (codes "as") then Some (4, 4)
+    else if bytes_eq name (codes "sets") then Some (4, 4)
     else if bytes_eq name (codes "rs") then Some (4, 5)
     else if bytes_eq name (codes "client") then Some (3, 3)
     else if bytes_eq name (codes "hash") then Some (5, 5)
@@ -144,6 +151,7 @@ command_named name arguments =
     else if bytes_eq name (codes "sign") then sign_of arguments
     else if bytes_eq name (codes "verify") then with_three verify_words arguments
     else if bytes_eq name (codes "as") then with_four as_words arguments
+    else if bytes_eq name (codes "sets") then with_four sets_words arguments
     else if bytes_eq name (codes "rs") then rs_of arguments
     else if bytes_eq name (codes "client") then with_three client_words arguments
     else if bytes_eq name (codes "hash") then hash_of arguments
@@ -191,6 +199,7 @@ IsWithinRanges (Field kind file) = Unit {0}
 IsWithinRanges (Sign config key created file nonce) = (created ≤ last_moment) × IfSome nonce (λ n. is_nonce n ≡ true)
 IsWithinRanges (Verify config now file) = now ≤ last_moment
 IsWithinRanges (As config listen workers quota) = (1 ≤ workers) × (workers ≤ 64)
+IsWithinRanges (Sets config listen workers quota) = (1 ≤ workers) × (workers ≤ 64)
 IsWithinRanges (Rs config listen server quota cache) = IfSome cache (λ n. (1 ≤ n) × (n ≤ 16384))
 IsWithinRanges (Client config address script) = Unit {0}
 IsWithinRanges (Hash texts) = Unit {0}
@@ -205,6 +214,7 @@ openings_of (Field kind file) = File file ∷ []
 openings_of (Sign config key created file _) = File config ∷ File file ∷ []
 openings_of (Verify config now file) = File config ∷ File file ∷ []
 openings_of (As config listen workers quota) = File config ∷ Gears listen workers quota ∷ []
+openings_of (Sets config listen workers quota) = File config ∷ Gears listen workers quota ∷ []
 openings_of (Rs config listen server quota cache) = File config ∷ Link server ∷ Gears listen 1 quota ∷ []
 openings_of (Client config address script) = File config ∷ Link address ∷ File script ∷ []
 openings_of (Hash texts) = []
@@ -217,6 +227,7 @@ input_place (Field kind file) = Some 0
 input_place (Sign config key created file _) = None
 input_place (Verify config now file) = None
 input_place (As config listen workers quota) = None
+input_place (Sets config listen workers quota) = None
 input_place (Rs config listen server quota cache) = None
 input_place (Client config address script) = Some 1
 input_place (Hash texts) = None

@@ -7,8 +7,9 @@ use Rattle.gnap_io.specs.Outside.{Told}
 use Rattle.gnap_io.specs.Worlds.{WorldState}
 use Rattle.gnap_io.specs.declared.world.WorldFault.{WorldFault}
 use Rattle.as_service.specs.Services.{IsService}
+use Rattle.rs_facing.specs.SetServices.{IsSetService}
 use Rattle.gnap_tool.specs.declared.command.Command.{Command}
-use Rattle.gnap_tool.specs.declared.command.Command.TheVariants.{Replay, Field, Sign, Verify, As, Rs, Client, Hash, Load}
+use Rattle.gnap_tool.specs.declared.command.Command.TheVariants.{Replay, Field, Sign, Verify, As, Sets, Rs, Client, Hash, Load}
 use Rattle.gnap_tool.specs.declared.purpose.Purpose.{Purpose}
 use Rattle.gnap_tool.specs.declared.purpose.Purpose.TheVariants as purposes
 use Rattle.command_inputs.specs.declared.ended.Ended.{Ended}
@@ -61,10 +62,18 @@ abbrev pub ended_service : Result (Unit {0}) WorldFault → Ended
 ended_service (Ok done) = Done
 ended_service (Err fault) = ended_by_fault fault
 
--- A setup was to be served at an address. Nothing was opened, for a fault or for want of memory; or it was served, and so the command ended.
+-- Something was to be served. Nothing was opened, for a fault or for want of memory; or it was served as this says, and so the command ended.
+abbrev pub ServesSo : (Result (Unit {0}) WorldFault → Type 0) → WorldState → WorldState → Ended → Type 0
+ServesSo IsServed before after ended = ((after ≡ before) × ((ended ≡ Failed) ⊎ (ended ≡ Memory)))
+    ⊎ ((answer : Result (Unit {0}) WorldFault) × (ended ≡ ended_service answer) × IsServed answer)
+
+-- a setup was to be served at an address
 abbrev pub Serves : Setup → List ℕ → ℕ → ℕ → WorldState → WorldState → Ended → Type 0
-Serves setup listen workers quota before after ended = ((after ≡ before) × ((ended ≡ Failed) ⊎ (ended ≡ Memory)))
-    ⊎ ((answer : Result (Unit {0}) WorldFault) × (ended ≡ ended_service answer) × IsService setup listen workers quota before after answer)
+Serves setup listen workers quota before after ended = ServesSo (IsService setup listen workers quota before after) before after ended
+
+-- the resource sets of a setup
+abbrev pub ServesSets : Setup → List ℕ → ℕ → ℕ → WorldState → WorldState → Ended → Type 0
+ServesSets setup listen workers quota before after ended = ServesSo (IsSetService setup listen workers quota before after) before after ended
 
 -- the same of a resource server whose guard kept this first, with the authorization server at another address
 abbrev pub ServesGuarded : {K : Type 0} → GuardsKeeping K → K → RsSetup → List ℕ → List ℕ → ℕ → WorldState → WorldState → Ended → Type 0
@@ -94,6 +103,9 @@ CarriesOut (Verify config now file) text before after out out_now ended =
 CarriesOut (As config listen workers quota) text before after out out_now ended =
     BySetup setup_in (text config) before after out out_now ended (λ between setup.
     (out_now ≡ out) × Serves setup listen workers quota between after ended)
+CarriesOut (Sets config listen workers quota) text before after out out_now ended =
+    BySetup setup_in (text config) before after out out_now ended (λ between setup.
+    (out_now ≡ out) × ServesSets setup listen workers quota between after ended)
 CarriesOut (Rs config listen server quota cache) text before after out out_now ended =
     BySetup rs_setup_in (text config) before after out out_now ended (λ between setup.
     (out_now ≡ out) × ServesRs setup listen server quota cache between after ended)

@@ -1,6 +1,6 @@
 //! The commands, and which of them words are.
 ghost use Rattle.std.specs.Prelude.{◌≡◌, ◌≤◌, ◌⊎◌, ℕ, List, Option, Some, None, false, true, drop, [], ◌∷◌, IfOk, IfErr, IfSome, IfNone, map, string_bytes};
-ghost use Rattle.gnap_tool.specs.Commands.{AreRead, IsWithinRanges, is_argument, is_nonce_word, kind_of, replay_of, field_of, with_three, with_four, with_five, sign_words, marked_sign_words, sign_of, verify_words, as_words, rs_words, cached_rs_words, rs_of, client_words, long_method, hash_of, load_words, counts_of, count_among, command_named, command_of};
+ghost use Rattle.gnap_tool.specs.Commands.{AreRead, IsWithinRanges, is_argument, is_nonce_word, kind_of, replay_of, field_of, with_three, with_four, with_five, sign_words, marked_sign_words, sign_of, verify_words, as_words, sets_words, rs_words, cached_rs_words, rs_of, client_words, long_method, hash_of, load_words, counts_of, count_among, command_named, command_of};
 ghost use Rattle.message_signature.specs.Marks.{is_nonce};
 ghost use Rattle.gnap_tool.specs.Numbers.{number_within};
 ghost use Rattle.gnap_tool.specs.declared.wrong_words.WrongWords.TheVariants.{Word, OutOfMemory};
@@ -28,6 +28,8 @@ pub enum Command {
     Verify(Bytes, u64, Bytes),
     /// `as CONFIG LISTEN WORKERS QUOTA`: the authorization server of a setup is served at an address, by so many workers, each for so many connections.
     As(Bytes, Bytes, usize, u32),
+    /// `sets CONFIG LISTEN WORKERS QUOTA`: the resource sets of a setup are served at an address, by so many workers, each for so many connections.
+    Sets(Bytes, Bytes, usize, u32),
     /// `rs CONFIG LISTEN SERVER QUOTA`, or that and `CACHE`: the resource server of a setup is served at an address, for so many connections, and introspects
     /// tokens at another. With CACHE it keeps so many replies for a while.
     Rs(Bytes, Bytes, Bytes, u32, Option<usize>),
@@ -254,6 +256,21 @@ fn as_of(alloc: Global, words: &[String]) -> Result<Command, WrongWords>
     Ok(Command::As(config, listen, workers as usize, quota as u32))
 }
 
+// The same ranges as of `as`.
+fn sets_of(alloc: Global, words: &[String]) -> Result<Command, WrongWords>
+    ensures read { AreRead result (map string_bytes words.now) (with_four sets_words (map string_bytes words.now)) }
+    ensures ranges { IfOk result IsWithinRanges }
+{
+    let Some((config, listen, workers, quota)) = four(words) else {
+        return Err(WrongWords::Count);
+    };
+    let config = argument(alloc, 0, config)?;
+    let listen = argument(alloc, 1, listen)?;
+    let workers = number(2, WordForm::Workers, workers, 1, 64)?;
+    let quota = number(3, WordForm::Connections, quota, 0, 1_000_000)?;
+    Ok(Command::Sets(config, listen, workers as usize, quota as u32))
+}
+
 // At most 1,000,000 connections.
 fn plain_rs_of(alloc: Global, words: &[String]) -> Result<Command, WrongWords>
     ensures read { AreRead result (map string_bytes words.now) (with_four rs_words (map string_bytes words.now)) }
@@ -358,6 +375,7 @@ pub(crate) fn counts_of(name: &str) -> Option<(usize, usize)>
         "sign" => Some((4, 5)),
         "verify" => Some((3, 3)),
         "as" => Some((4, 4)),
+        "sets" => Some((4, 4)),
         "rs" => Some((4, 5)),
         "client" => Some((3, 3)),
         "hash" => Some((5, 5)),
@@ -387,6 +405,7 @@ fn command_named(alloc: Global, name: &str, words: &[String]) -> Result<Command,
         "sign" => sign_of(alloc, words),
         "verify" => verify_of(alloc, words),
         "as" => as_of(alloc, words),
+        "sets" => sets_of(alloc, words),
         "rs" => rs_of(alloc, words),
         "client" => client_of(alloc, words),
         "hash" => hash_of(alloc, words),

@@ -107,6 +107,7 @@ fn tell_no_setup<E: Sink>(err: &mut E, command: &Command) {
         Command::Sign(config, _, _, _, _)
         | Command::Verify(config, _, _)
         | Command::As(config, _, _, _)
+        | Command::Sets(config, _, _, _)
         | Command::Rs(config, _, _, _, _) => {
             tell(err, &[b"gnap: ", config.as_slice(), b" is no setup: "])
         }
@@ -174,7 +175,7 @@ fn tell_files<E: Sink>(err: &mut E, command: &Command) {
         Command::Sign(config, _, _, file, _) | Command::Verify(config, _, file) => {
             tell(err, &[config.as_slice(), b" or ", file.as_slice()])
         }
-        Command::As(config, listen, _, _) => {
+        Command::As(config, listen, _, _) | Command::Sets(config, listen, _, _) => {
             tell(err, &[config.as_slice(), b" or ", listen.as_slice()])
         }
         Command::Rs(config, listen, server, _, _) => tell(
@@ -224,6 +225,7 @@ fn tell_refusal<E: Sink>(err: &mut E, command: &Command) {
         ),
         // Nothing that they read is refused.
         Command::As(_, _, _, _)
+        | Command::Sets(_, _, _, _)
         | Command::Rs(_, _, _, _, _)
         | Command::Hash(_)
         | Command::Load(_, _, _) => {}

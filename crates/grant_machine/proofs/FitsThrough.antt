@@ -7,7 +7,7 @@ use Rattle.std.specs.Prelude.{if◌then◌else◌, is_some, not, ◌&&◌, ◌||
 use Rattle.histories.specs.History.{Legal, now, notes_of, entry_of}
 use Rattle.histories.specs.Histories.{legal-front, notes-append}
 use Rattle.histories.specs.Steps.{Enters}
-use Rattle.access_rights.specs.Fits.{Fits}
+use Rattle.access_rights.specs.Fits.{Fits, IsUtf8Or}
 use Rattle.gnap_model.specs.Common.{Text, first_of, same_text}
 use Rattle.gnap_model.specs.Rights.{serves, served_part}
 use Rattle.gnap_model.specs.Asked.{asked_rights}
@@ -18,11 +18,11 @@ use Rattle.gnap_model.specs.Standing.GrantState.{IsPending, IsApproved, IsFinali
 use Rattle.gnap_model.specs.Judging.{Settled, settle, suits, serves_all}
 use Rattle.gnap_model.specs.Judging.Settled.{AtOnce, ByAsking, Never}
 use Rattle.gnap_model.specs.Actions.{Action, Supply, on_found, with_key, with_owner}
-use Rattle.gnap_model.specs.Actions.Action.{Refuse, ShowToken, ShowInactive, ShowHandle, TakeDecision, OpenAtOnce, OpenAsking, RenewDoor, CollectDecision, WrongReference, LastWrongReference, RefuseAndFinalize, ModifyAtOnce, ModifyAsking}
+use Rattle.gnap_model.specs.Actions.Action.{Refuse, ShowToken, ShowInactive, ShowHandle, TakeDecision, OpenAtOnce, OpenAsking, RenewDoor, CollectDecision, WrongReference, LastWrongReference, RefuseAndFinalize, ModifyAtOnce, ModifyAsking, RotateToken}
 use Rattle.gnap_model.specs.Begin.{begin_by, is_past, opening, pass_limit, show_token, ask_user}
 use Rattle.gnap_model.specs.Continue.{with_grant, decided_asks, collect_by, collect_or_renew, is_wrong, is_early, wrong_reference, continue_round, continue_at}
 use Rattle.gnap_model.specs.Change.{modify_by, tokens_of, other_live_tokens}
-use Rattle.gnap_model.specs.Manage.{rotate_key, on_grant}
+use Rattle.gnap_model.specs.Manage.{can_bind, rotate_key, on_grant}
 use Rattle.gnap_model.specs.Front.{rights_or, may_decide, decide_on}
 use Rattle.gnap_model.specs.Answer.{action_of, supply_of, gnap_answer}
 use Rattle.gnap_model.specs.declared.calls.Call.{Call}
@@ -122,9 +122,11 @@ continue_at_fits (IsPending round) trail now o reference fit key =
     if_both ActionFits (not (is_some reference) && is_early trail now o) (Refuse TooFast) (continue_round trail now o reference (decision_of trail o.grant) round) tt
     (continue_round_fits trail now o reference (decision_of trail o.grant) round fit key (decision_of_fits trail o.grant fit))
 
-rotate_key_fits : (new_key : Option Text) (t : TokenNote) (o : OpeningNote) → TokenNoteFits t → ActionFits (rotate_key new_key t o)
-rotate_key_fits None t o token = (token, token.2)
-rotate_key_fits (Some new_key) t o token = tt
+rotate_key_fits : (rules : Setup) (new_key : Option Text) (t : TokenNote) (o : OpeningNote) → TokenNoteFits t → IsUtf8Or new_key
+    → ActionFits (rotate_key rules new_key t o)
+rotate_key_fits rules None t o token key = (token, token.2)
+rotate_key_fits rules (Some new_key) t o token key =
+    if_both ActionFits (can_bind rules t.bearer new_key) (RotateToken o t new_key) (Refuse InvalidRotation) (token, key) tt
 
 on_grant_fits : (code : ErrorCode) (trail : List Note) (key : Text) (t : TokenNote) (act : OpeningNote → Action) → NotesFit trail → ((o : OpeningNote) → OpeningFits o → ActionFits (act o))
     → ActionFits (on_grant code trail key t act)
@@ -163,8 +165,8 @@ action_fits rules supply trail (Modify key value request) fit fits =
 action_fits rules supply trail (Cancel key value) fit fits = with_grant_fits trail supply.now key value _ fit (λ o h. tt)
 action_fits rules supply trail (Rotate key value new_key) fit fits =
     found_fits TokenNoteFits InvalidRotation _ (managed_token trail supply.now value) (token_fits _ trail fit)
-    (λ t h. if_both ActionFits (is_live trail supply.now t) (on_grant InvalidRotation trail key t (rotate_key new_key t)) (Refuse InvalidRotation)
-    (on_grant_fits InvalidRotation trail key t (rotate_key new_key t) fit (λ o k. rotate_key_fits new_key t o h)) tt)
+    (λ t h. if_both ActionFits (is_live trail supply.now t) (on_grant InvalidRotation trail key t (rotate_key rules new_key t)) (Refuse InvalidRotation)
+    (on_grant_fits InvalidRotation trail key t (rotate_key rules new_key t) fit (λ o k. rotate_key_fits rules new_key t o h fits.1)) tt)
 action_fits rules supply trail (Revoke key value) fit fits =
     found_fits TokenNoteFits InvalidRequest _ (managed_token trail supply.now value) (token_fits _ trail fit)
     (λ t h. on_grant_fits InvalidRequest trail key t _ fit (λ o k. tt))

@@ -1,6 +1,7 @@
 //! What the setup says of a key.
 ghost use Rattle.std.specs.Prelude.{◌≡◌, List, []};
 ghost use Rattle.gnap_model.specs.Keys.{key_of, client_rights, server_names as names_of_server};
+ghost use Rattle.gnap_model.specs.Manage.{can_bind as token_can_bind};
 
 use gnap_model::objects::{Role, Setup};
 use gnap_model::rights::{Names, Rights};
@@ -35,6 +36,20 @@ pub fn rights_of_client<'a>(setup: &'a Setup, id: &[u8], none: &'a Rights) -> Cl
             auto: none,
             ask: none,
         },
+    }
+}
+
+/// Whether a token, be it a bearer token or not, can be bound to the key: no bearer token can, nor any to a key that is no client's (RFC 9635,
+/// section 6.1.1).
+pub fn can_bind(setup: &Setup, bearer: bool, id: &[u8]) -> bool
+    ensures { result ≡ token_can_bind setup.now bearer id.now }
+{
+    if bearer {
+        return false;
+    }
+    match setup.key(id) {
+        Some(row) => matches!(row.role, Role::Client),
+        None => false,
     }
 }
 

@@ -22,8 +22,8 @@ fn serves_any(names: &Names, rights: &[Right]) -> bool
     false
 }
 
-// The server serves each of the rights.
-fn serves_each(names: &Names, rights: &[Right]) -> bool
+/// The server with these names serves each of the rights.
+pub fn serves_each(names: &Names, rights: &[Right]) -> bool
     ensures { result ≡ list_all (names_serve names.now) rights.now }
 {
     for right in rights {

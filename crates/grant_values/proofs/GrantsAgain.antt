@@ -16,7 +16,7 @@ use Rattle.gnap_objects.specs.TokenRequests.{token_requests_of}
 use Rattle.gnap_objects.specs.Users.{subject_in, subject_request_of, first_opaque, identified_user, user_in, user_of}
 use Rattle.gnap_objects.specs.Interactions.{interact_of}
 use Rattle.gnap_objects.specs.Grants.{some_asked, client_of, named_user_of, asks_too_much, checked_size, grant_body_of, checked_flags, request_of}
-use Rattle.grant_values.specs.Grants.{subject_request_data, client_data, grant_fields, grant_data}
+use Rattle.grant_values.specs.Grants.{subject_request_data, client_data, request_fields, request_data}
 use Rattle.grant_values.specs.Laws.{ReadsBack}
 use Rattle.grant_values.proofs.Readings.{bind_ok, same_ok, along, carried, refused_not, accepted, sized_again, optional_again, or_none, found}
 use Rattle.grant_values.proofs.TokenRequestsAgain.{requests_again}
@@ -117,10 +117,10 @@ body_parts : (modify : Bool) (e : Data) (asks : List Ask) (single subject : Bool
 unfolding grant_body_of
 body_parts modify e asks single subject client by_object user modes e0 e1 e2 e3 e4 e5 e6 = rw (e0, e1, e2, e3, e4, e5, e6) refl
 
-body_again : (modify : Bool) (d : Data) (body : _) → grant_body_of modify d ≡ Ok body → RequestFits body.request
-    → grant_body_of modify (grant_data body.request) ≡ Ok (record { request = body.request; repeats_flag = false })
-unfolding grant_body_of grant_data
-body_again modify d body is fits =
+body_again : (modify : Bool) (existing : Option (List ℕ)) (d : Data) (body : _) → grant_body_of modify d ≡ Ok body → RequestFits body.request
+    → grant_body_of modify (request_data existing body.request) ≡ Ok (record { request = body.request; repeats_flag = false })
+unfolding grant_body_of request_data
+body_again modify existing d body is fits =
     let tokens = bind_ok (token_requests_of d) _ body is in
     let subject = bind_ok (subject_request_of d) _ body tokens.2 in
     let some = bind_ok (some_asked tokens.0 subject.0) _ body subject.2 in
@@ -131,9 +131,9 @@ body_again modify d body is fits =
     let request = asked tokens.0.asks tokens.0.single subject.0 client.0.id client.0.by_object user.0 modes.0 in
     let same : request ≡ body.request = along (same_ok _ body small.2) (λ b. b.request) in
     let fit = subst RequestFits (sym same) fits in
-    let fs = grant_fields request in
+    let fs = request_fields existing request in
     let e = object_of fs in
-    subst (λ (r : GrantRequest). grant_body_of modify (grant_data r) ≡ Ok (record { request = r; repeats_flag = false })) same
+    subst (λ (r : GrantRequest). grant_body_of modify (request_data existing r) ≡ Ok (record { request = r; repeats_flag = false })) same
     (body_parts modify e tokens.0.asks tokens.0.single subject.0 client.0.id client.0.by_object user.0 modes.0
     (requests_again d e tokens.0 tokens.1 fit.0 (found (codes "access_token") fs ∙ or_none _))
     (subject_again e subject.0 (found (codes "subject") fs ∙ or_none _))
@@ -143,14 +143,19 @@ body_again modify d body is fits =
     (interact_again d e modes.0 modes.1 (found (codes "interact") fs ∙ or_none _))
     (size_again tokens.0 small.0 small.1))
 
-request_again : (modify : Bool) (d : Data) (request : GrantRequest) → request_of modify d ≡ Ok request → RequestFits request → request_of modify (grant_data request) ≡ Ok request
+request_again : (modify : Bool) (existing : Option (List ℕ)) (d : Data) (request : GrantRequest) → request_of modify d ≡ Ok request → RequestFits request
+    → request_of modify (request_data existing request) ≡ Ok request
 unfolding request_of
-request_again modify d request is fits =
+request_again modify existing d request is fits =
     let body = bind_ok (grant_body_of modify d) checked_flags request is in
     let same = (refused_not body.0.repeats_flag _ body.0.request request body.2).1 in
     let fit = subst RequestFits (sym same) fits in
-    subst (λ (x : GrantRequest). (grant_body_of modify (grant_data x) >>= checked_flags) ≡ Ok x) same
-    (along (body_again modify d body.0 body.1 fit) (λ r. r >>= checked_flags))
+    subst (λ (x : GrantRequest). (grant_body_of modify (request_data existing x) >>= checked_flags) ≡ Ok x) same
+    (along (body_again modify existing d body.0 body.1 fit) (λ r. r >>= checked_flags))
+
+existing_again : (existing : Option (List ℕ)) (request : GrantRequest) → get (codes "existing_access_token") (request_data existing request) ≡ option_map string existing
+unfolding request_data
+existing_again existing request = found (codes "existing_access_token") (request_fields existing request) ∙ or_none _
 
 pub reads_back_law : ReadsBack
-reads_back_law modify request read = request_again modify read.body request read.read read.fits
+reads_back_law modify existing request read = (request_again modify existing read.body request read.read read.fits, existing_again existing request)

@@ -9,7 +9,6 @@ use Rattle.json_objects.specs.Reading.{◌>>=◌}
 use Rattle.interaction.specs.Uris.{uri_fits}
 use Rattle.gnap_model.specs.declared.objects.Finish.{Finish}
 use Rattle.gnap_model.specs.declared.objects.Modes.{Modes}
-use Rattle.gnap_objects.specs.declared.fault.ObjectFault.TheVariants as faults
 use Rattle.gnap_objects.specs.Reading.{optional, checked_object, required_items, required_text, has_string, text_of, sized, checked}
 use Rattle.gnap_objects.specs.Interactions.{push_in, push_of, finish_uri_of, nonce_of, hash_in, long_of, asked_finish_of, optional_finish_of, offered_modes_of, interact_of}
 use Rattle.grant_values.specs.Interactions.{finish_method, hash_method_data, finish_fields, finish_data, starts_of, modes_fields, modes_data}

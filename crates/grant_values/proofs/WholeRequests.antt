@@ -19,7 +19,7 @@ use Rattle.gnap_model.specs.declared.objects.GrantRequest.{GrantRequest}
 use Rattle.gnap_objects.specs.Fits.{AskFits, RequestFits}
 use Rattle.grant_values.specs.TokenRequests.{asked_flags, token_request_fields, token_request_data, token_requests_data}
 use Rattle.grant_values.specs.Interactions.{hash_method_data, finish_fields, finish_data, starts_of, modes_fields, modes_data}
-use Rattle.grant_values.specs.Grants.{subject_request_data, client_data, grant_fields, grant_data, grant_text}
+use Rattle.grant_values.specs.Grants.{subject_request_data, client_data, request_fields, request_data, request_text}
 
 asked_flags_whole : (bearer : Bool) → IsWhole (asked_flags bearer)
 asked_flags_whole true = refl
@@ -62,19 +62,28 @@ unfolding modes_data
 modes_whole None = tt
 modes_whole (Some modes) = onto_whole no_members (modes_fields modes) refl (finish_whole modes.finish, (texts_whole (Some (starts_of modes)), tt))
 
-pub request_whole : (request : GrantRequest) → RequestFits request → has_float (grant_data request) ≡ false
-unfolding grant_data
-request_whole request fits = onto_whole no_members (grant_fields request) refl
-    (token_requests_whole request.single request.asks fits.0, (client_whole request.by_object request.client, (modes_whole request.modes, (subject_whole request.subject, (text_whole request.user, tt)))))
+pub request_whole : (existing : Option (List ℕ)) (request : GrantRequest) → RequestFits request → has_float (request_data existing request) ≡ false
+unfolding request_data
+request_whole existing request fits = onto_whole no_members (request_fields existing request) refl (
+  token_requests_whole request.single request.asks fits.0,
+  (
+    client_whole request.by_object request.client,
+    (
+      text_whole existing,
+      (modes_whole request.modes, (subject_whole request.subject, (text_whole request.user, tt))),
+    ),
+  ),
+)
 
-is_object : (request : GrantRequest) → is_some (as_object (grant_data request)) ≡ true
-unfolding grant_data
-is_object request = refl
+is_object : (existing : Option (List ℕ)) (request : GrantRequest) → is_some (as_object (request_data existing request)) ≡ true
+unfolding request_data
+is_object existing request = refl
 
-pub text_is : (request : GrantRequest) (d : Data) (text : List ℕ) → RequestFits request → d ≡ grant_data request → (has_float d ≡ false → text ≡ compact_text d) → text ≡ grant_text request
-text_is request d text fits shown printed = printed (ap has_float shown ∙ request_whole request fits) ∙ ap compact_text shown
+pub text_is : (existing : Option (List ℕ)) (request : GrantRequest) (d : Data) (text : List ℕ) → RequestFits request → d ≡ request_data existing request
+    → (has_float d ≡ false → text ≡ compact_text d) → text ≡ request_text existing request
+text_is existing request d text fits shown printed = printed (ap has_float shown ∙ request_whole existing request fits) ∙ ap compact_text shown
 
-pub text_read : (request : GrantRequest) (d : Data) (text : List ℕ) → RequestFits request → d ≡ grant_data request → IsUtf8 text → (depth d ≤ max_depth → read text ≡ Some d)
-    → depth (grant_data request) ≤ max_depth → body_of text ≡ Ok (grant_data request)
-text_read request d text fits shown utf8 back shallow =
-    body_is text (grant_data request) (utf8, back (rw shown shallow) ∙ ap Some shown) ∙ rw (is_object request, request_whole request fits) refl
+pub text_read : (existing : Option (List ℕ)) (request : GrantRequest) (d : Data) (text : List ℕ) → RequestFits request → d ≡ request_data existing request → IsUtf8 text
+    → (depth d ≤ max_depth → read text ≡ Some d) → depth (request_data existing request) ≤ max_depth → body_of text ≡ Ok (request_data existing request)
+text_read existing request d text fits shown utf8 back shallow =
+    body_is text (request_data existing request) (utf8, back (rw shown shallow) ∙ ap Some shown) ∙ rw (is_object existing request, request_whole existing request fits) refl

@@ -1,4 +1,4 @@
--- Grant requests and modifications as JSON values (RFC 9635, sections 2 and 5.3).
+-- Grant requests and modifications as JSON values (RFC 9635, sections 2 and 5.3), and grant requests that present a token (RFC 9767, section 4).
 use Rattle.std.specs.Prelude.{ℕ, Bool, List, [], ◌∷◌, codes, Option, Some, None, option_map, if◌then◌else◌}
 use Rattle.serde_json.specs.Data.{Data, string}
 use Rattle.serde_json.specs.Written.{compact_text}
@@ -21,18 +21,27 @@ key_object_fields id = (codes "key", Some (string id)) ∷ []
 abbrev pub client_data : Bool → List ℕ → Data
 client_data by_object id = if by_object then object_of (key_object_fields id) else string id
 
-abbrev pub grant_fields : GrantRequest → List (List ℕ × Option Data)
-grant_fields request =
+-- `existing_access_token` is the token from which another one is to be derived, where there is one.
+abbrev pub request_fields : Option (List ℕ) → GrantRequest → List (List ℕ × Option Data)
+request_fields existing request =
     (codes "access_token", token_requests_data request.single request.asks) ∷
     (codes "client", option_map (client_data request.by_object) request.client) ∷
+    (codes "existing_access_token", option_map string existing) ∷
     (codes "interact", option_map modes_data request.modes) ∷
     (codes "subject", subject_request_data request.subject) ∷
     (codes "user", option_map string request.user) ∷ []
 
--- the object that a grant request or a modification is
-unfoldable pub grant_data : GrantRequest → Data
-grant_data request = object_of (grant_fields request)
+-- the object that a grant request is which presents this token, where there is one
+unfoldable pub request_data : Option (List ℕ) → GrantRequest → Data
+request_data existing request = object_of (request_fields existing request)
 
 -- its compact text
+abbrev pub request_text : Option (List ℕ) → GrantRequest → List ℕ
+request_text existing request = compact_text (request_data existing request)
+
+-- the same of a request that presents none, and of a modification
+abbrev pub grant_data : GrantRequest → Data
+grant_data = request_data None
+
 abbrev pub grant_text : GrantRequest → List ℕ
-grant_text request = compact_text (grant_data request)
+grant_text = request_text None

@@ -1,9 +1,10 @@
 //! Secrets under ids.
 ghost use Rattle.std.specs.Prelude.{◌≡◌, [], None, length, is_none, IfOk, OnOk, OnErr};
-ghost use Rattle.std.specs.Option.{option_map};
+ghost use Rattle.std.specs.Option.{option_copied, option_map};
 ghost use Rattle.structured_fields.specs.Named.{value_at, IsDistinct};
 ghost use Rattle.hmac_key.specs.Keyring.{with_secret};
 
+use crate::mac::HmacKey;
 use bytes_and_lists::bytes::Bytes;
 use bytes_and_lists::memory::{Duplicate, Mem};
 use std::alloc::Global;
@@ -13,7 +14,7 @@ use structured_fields::Named;
 /// Secrets under distinct ids, in the order in which they came. Contracts see the list of ids and secrets.
 #[derive(Drop)]
 pub struct Keyring {
-    secrets: Named<Bytes>,
+    secrets: Named<HmacKey>,
 }
 
 impl Model for Keyring {
@@ -57,7 +58,7 @@ impl Keyring {
         if self.find(id.as_slice()).is_some() {
             return Ok(false);
         }
-        self.secrets.set(id.copy()?, secret.copy()?)?;
+        self.secrets.set(id.copy()?, HmacKey::new(secret.copy()?))?;
         Ok(true)
     }
 
@@ -65,6 +66,13 @@ impl Keyring {
     pub fn find(&self, id: &[u8]) -> Option<&[u8]>
         ensures { option_map (λ s. s.now) result ≡ value_at self.now id.now }
     {
-        self.secrets.get(id).map(Bytes::as_slice)
+        self.key(id).map(HmacKey::as_slice)
+    }
+
+    /// The secret under the id, ready to make HMACs. None exactly where the id isn't there. Takes no memory.
+    pub fn key(&self, id: &[u8]) -> Option<&HmacKey>
+        ensures { option_copied result ≡ value_at self.now id.now }
+    {
+        self.secrets.get(id)
     }
 }

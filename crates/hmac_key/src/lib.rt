@@ -8,4 +8,4 @@ mod keyring;
 mod mac;
 
 pub use keyring::Keyring;
-pub use mac::{hmac, same};
+pub use mac::{HmacKey, hmac, same};

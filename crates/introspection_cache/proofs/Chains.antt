@@ -1,33 +1,32 @@
 -- Requests that were guarded with a cache, one after another.
-use Rattle.std.proofs.Common.{◌≡◌, ◌≢◌, ◌∙◌, ◌⊎◌, inl, inr, ◌+◌, ◌-◌, ◌<◌, ◌≤◌, ℕ, zero, suc, Bool, true, false, cond, List, [], ◌∷◌, length, take, Contains, refl, sym, ap, subst, arith}
-use Rattle.std.specs.Prelude.{Option, Some, None, Result, Ok, Err, slice_get, nat_le, nat_lt, ◌&&◌, if◌then◌else◌}
+use Rattle.std.proofs.Common.{◌≡◌, ◌∙◌, ◌⊎◌, inl, inr, ◌+◌, ◌-◌, ◌<◌, ◌≤◌, ℕ, zero, suc, Bool, true, false, cond, List, [], ◌∷◌, length, take, Contains}
+use Rattle.std.proofs.Common.{refl, sym, ap, subst, arith}
+use Rattle.std.specs.Prelude.{Option, Some, None, Result, Ok, slice_get, nat_le, nat_lt, ◌&&◌, if◌then◌else◌}
 use Rattle.std.specs.Map.{lookup, lookup_entry, remove_entry}
 use Rattle.std.specs.Option.{option_map_or}
 use Rattle.std.specs.Str.{bytes_eq}
 use Rattle.std.proofs.lemmas.Bool.Decides.{nat_tests}
 use Rattle.std.proofs.lemmas.Slice.Eq.{bytes_eq-Decides}
-use Rattle.lru.specs.LruCache.{promoted}
 use Rattle.lru.proofs.CallerLemmas.{Contains-take, Contains-lookup, Contains-remove_entry, Contains-promoted}
 use Rattle.lru.proofs.Splits.{Contains-head, Contains-tail, Contains-cons, Contains-nil}
 use Rattle.bytes_and_lists.specs.declared.message.Message.{Message}
 use Rattle.gnap_io.specs.Links.{Exchange}
-use Rattle.gnap_io.specs.declared.link.LinkFault.{LinkFault}
-use Rattle.gnap_model.specs.declared.rights.Right.{Right}
 use Rattle.reply_readers.specs.declared.judgement.Judgement.TheVariants.{Active}
 use Rattle.signed_requests.specs.declared.unsigned.Scheme.{Scheme}
 use Rattle.resource_server.specs.declared.setup.Route.{Route}
 use Rattle.resource_server.specs.declared.setup.RsSetup.{RsSetup}
 use Rattle.resource_server.specs.declared.guarded.Guarded.{Guarded}
 use Rattle.resource_server.specs.declared.guarded.Guarded.TheVariants as guarded
-use Rattle.resource_server.specs.Routing.{question_of}
 use Rattle.resource_server.specs.Introspecting.{question_text}
-use Rattle.resource_server.specs.Guarding.{SaysOfToken, Judged, Guards, asked}
+use Rattle.resource_server.specs.Guarding.{SaysOfToken, Judged, Guards, asked, at_once as refused_guard, starved as starved_guard}
 use Rattle.resource_server.specs.Laws.{Presents, AllowedByReply, IsIntrospected, IsAllowed}
 use Rattle.resource_server.proofs.Allowing.{IsRefusal, refusal, allow_means_law}
 use Rattle.resource_server.proofs.Asking.{has_request}
 use Rattle.introspection_cache.specs.declared.kept_reply.KeptReply.{KeptReply}
-use Rattle.introspection_cache.specs.Caching.{Kept, Cache, is_fresh, if_fresh, fresh_to, to_others, may_keep, with_reply, Keeps, allowed, not_allowed, Caches, at_once, starved, again, anew, new_cache}
-use Rattle.introspection_cache.specs.Laws.{CachedStep, Chained, CameIn, KeptCame, IsKept, CachedAllowMeans, FreshIsSilent, KeptAreFew}
+use Rattle.introspection_cache.specs.Caching.{Kept, Cache, is_fresh, if_fresh, fresh_to, to_others, may_keep, Keeps, allowed, not_allowed, Caches}
+use Rattle.introspection_cache.specs.Caching.{at_once, starved, again, anew, new_cache}
+use Rattle.introspection_cache.specs.Laws.{CachedStep, Chained, CameIn, KeptCame, IsKept, CachedAllowMeans, AnswersByKept, CachedIsGuard, FreshIsSilent}
+use Rattle.introspection_cache.specs.Laws.{KeptAreFew}
 
 -- ---- one question
 
@@ -173,12 +172,31 @@ kept_came_law capacity steps last chained text r c = elim (came_through steps (n
   | inr came ↦ came
 ]
 
+-- a fresh reply was kept
+kept_of : (capacity : ℕ) (steps : List CachedStep) (before : Cache) → Chained (new_cache capacity) steps before → (text : List ℕ) (now : ℕ) (r : KeptReply)
+    → fresh_to text now before.kept ≡ Some r → IsKept steps text r.reply now []
+kept_of capacity steps before chained text now r fresh =
+    let f : IsFresh text now before.kept r = fresh_is text now before.kept r fresh in
+    let came = kept_came_law capacity steps before chained text r (found_among text before.kept r f.there) in
+    record {
+      silent = refl;
+      kept = r;
+      same = refl;
+      step = came.0;
+      among = came.1;
+      came = came.2;
+      begun = f.begun;
+      recent = f.recent;
+      lasts = f.lasts;
+    }
+
 -- ---- what lets a request through
 
 abbrev Means : List CachedStep → RsSetup → Message → ℕ → ℕ → List Exchange → Type 0
 Means steps setup m now i exchanges =
     (reply : List ℕ) × (by : AllowedByReply setup m now i reply)
-    × (IsIntrospected setup now (question_text setup by.route by.token) reply exchanges ⊎ IsKept steps (question_text setup by.route by.token) reply now exchanges)
+    × (IsIntrospected setup now (question_text setup by.route by.token) reply exchanges
+    ⊎ IsKept steps (question_text setup by.route by.token) reply now exchanges)
 
 -- what it takes, by a reply that was judged, whether it was asked for or not
 by_judged : (setup : RsSetup) (m : Message) (now i j : ℕ) (route : Route) (token : Scheme × List ℕ) (reply : List ℕ) (answer : Guarded)
@@ -201,26 +219,16 @@ by_kept : (capacity : ℕ) (steps : List CachedStep) (before : Cache) → Chaine
     → fresh_to (question_text setup route token) now before.kept ≡ Some r → Judged setup m now j (route.right ∷ []) (Ok r.reply) answer
     → answer ≡ guarded.Allow i → Means steps setup m now i []
 by_kept capacity steps before chained setup m now i j route token r answer presents fresh judged is =
-    let x = by_judged setup m now i j route token r.reply answer presents judged is in
-    let f : IsFresh (question_text setup route token) now before.kept r = fresh_is (question_text setup route token) now before.kept r fresh in
-    let came = kept_came_law capacity steps before chained (question_text setup route token) r (found_among (question_text setup route token) before.kept r f.there) in (
+    let x = by_judged setup m now i j route token r.reply answer presents judged is in (
       r.reply,
       x.0,
-      inr (subst (λ (t : List ℕ). IsKept steps t r.reply now []) (sym x.1) (record {
-        silent = refl;
-        kept = r;
-        same = refl;
-        step = came.0;
-        among = came.1;
-        came = came.2;
-        begun = f.begun;
-        recent = f.recent;
-        lasts = f.lasts;
-      })),
+      inr (subst (λ (t : List ℕ). IsKept steps t r.reply now []) (sym x.1)
+          (kept_of capacity steps before chained (question_text setup route token) now r fresh)),
     )
 
 by_caches : (setup : RsSetup) (m : Message) (now i capacity : ℕ) (steps : List CachedStep) (before after : Cache) → Chained (new_cache capacity) steps before
-    → (exchanges : List Exchange) (answer : Guarded) → Caches setup m now before exchanges answer after → answer ≡ guarded.Allow i → Means steps setup m now i exchanges
+    → (exchanges : List Exchange) (answer : Guarded) → Caches setup m now before exchanges answer after → answer ≡ guarded.Allow i
+    → Means steps setup m now i exchanges
 by_caches setup m now i capacity steps before _ chained _ _ (at_once answer e) is = absurd (subst IsRefusal is (refusal setup.routes m answer e))
 by_caches setup m now i capacity steps before _ chained _ _ starved is = absurd (cc)
 by_caches setup m now i capacity steps before _ chained _ _ (again j route token presents r fresh answer judged) is =
@@ -232,6 +240,32 @@ by_caches setup m now i capacity steps before _ chained _ _ (anew j route token 
 pub cached_allow_means_law : CachedAllowMeans
 cached_allow_means_law capacity steps before after chained setup m now i exchanges c =
     by_caches setup m now i capacity steps before after chained exchanges (guarded.Allow i) c refl
+
+-- ---- whose answer it is
+
+guard_by_caches : (setup : RsSetup) (m : Message) (now capacity : ℕ) (steps : List CachedStep) (before after : Cache)
+    → Chained (new_cache capacity) steps before → (exchanges : List Exchange) (answer : Guarded) → Caches setup m now before exchanges answer after
+    → Guards setup m now exchanges answer ⊎ AnswersByKept steps setup m now exchanges answer
+guard_by_caches setup m now capacity steps before _ chained _ _ (at_once answer e) = inl (refused_guard answer e)
+guard_by_caches setup m now capacity steps before _ chained _ _ starved = inl starved_guard
+guard_by_caches setup m now capacity steps before _ chained _ _ (again i route token presents r fresh answer judged) =
+    let sent = has_request setup now (question_text setup route token) in
+    inr (record {
+      place = i;
+      route = route;
+      token = token;
+      presents = presents;
+      reply = r.reply;
+      kept = kept_of capacity steps before chained (question_text setup route token) now r fresh;
+      request = sent.0;
+      request_is = sent.1;
+      guards = asked i token presents.question route presents.route_is sent.0 sent.1 (Ok r.reply) answer judged;
+    })
+guard_by_caches setup m now capacity steps before _ chained _ _ (anew i route token presents none exchanges answer guards kept keeps) = inl guards
+
+pub cached_is_guard_law : CachedIsGuard
+cached_is_guard_law capacity steps before after chained setup m now exchanges answer caches =
+    guard_by_caches setup m now capacity steps before after chained exchanges answer caches
 
 -- ---- how many are kept
 
@@ -287,10 +321,12 @@ step_few capacity some setup m now before _ _ _ (anew i route token presents non
       same = f.same;
       few = keeps_few capacity (question_text setup route token) now (to_others (question_text setup route token) before.kept) exchanges answer kept some
           (omega (arith, rest, f.few))
-          (subst (λ (c : ℕ). Keeps c (question_text setup route token) now (to_others (question_text setup route token) before.kept) exchanges answer kept) f.same keeps);
+          (subst (λ (c : ℕ). Keeps c (question_text setup route token) now (to_others (question_text setup route token) before.kept) exchanges answer kept)
+          f.same keeps);
     }
 
-steps_few : (capacity : ℕ) → 1 ≤ capacity → (steps : List CachedStep) (first last : Cache) → Chained first steps last → IsFew capacity first → IsFew capacity last
+steps_few : (capacity : ℕ) → 1 ≤ capacity → (steps : List CachedStep) (first last : Cache) → Chained first steps last → IsFew capacity first
+    → IsFew capacity last
 steps_few capacity some [] first last is f = subst (IsFew capacity) (sym is) f
 steps_few capacity some (s ∷ steps) first last (begins, rest) f =
     steps_few capacity some steps s.after last rest

@@ -1,9 +1,8 @@
 -- What is kept of a reply, step by step.
-use Rattle.std.proofs.Common.{◌≡◌, ◌≢◌, ◌∙◌, ℕ, List, [], ◌∷◌, refl, sym, ap, subst}
-use Rattle.std.specs.Prelude.{Option, Some, None, Result, Ok, Err}
+use Rattle.std.proofs.Common.{◌≡◌, ◌≢◌, ◌∙◌, ℕ, List, refl, sym, subst}
+use Rattle.std.specs.Prelude.{Option, Some, None, Ok, Err}
 use Rattle.bytes_and_lists.specs.declared.message.Message.{Message}
 use Rattle.gnap_io.specs.Links.{LinkState}
-use Rattle.gnap_io.specs.declared.link.LinkFault.{LinkFault}
 use Rattle.gnap_io.specs.declared.link.LinkFault.TheVariants as link_faults
 use Rattle.gnap_model.specs.declared.rights.Right.{Right}
 use Rattle.reply_readers.specs.declared.judgement.Judgement.{Judgement}
@@ -12,12 +11,12 @@ use Rattle.resource_server.specs.declared.setup.RsSetup.{RsSetup}
 use Rattle.resource_server.specs.declared.guarded.Guarded.{Guarded}
 use Rattle.resource_server.specs.declared.guarded.Guarded.TheVariants as guarded
 use Rattle.resource_server.specs.declared.guarded.Why.{Why}
-use Rattle.resource_server.specs.declared.guarded.Why.TheVariants as why
 use Rattle.resource_server.specs.Introspecting.{IsAsked}
-use Rattle.resource_server.specs.Guarding.{SaysOfToken, SaysNothing, answer_of, Judged, said, said_nothing, failed, no_room, no_room_after}
+use Rattle.resource_server.specs.Guarding.{SaysOfToken, answer_of, Judged, said, failed, no_room, no_room_after}
 use Rattle.introspection_cache.specs.declared.kept_reply.KeptReply.{KeptReply}
 use Rattle.introspection_cache.specs.Caching.{Kept, with_reply}
-use Rattle.introspection_cache.specs.Steps.{exp_of, KeepsReply, put_first, no_room_for_it, not_let_through, KeepsJudged, through_by_it, not_through, AnswersAnew, asked_anew, starved_before}
+use Rattle.introspection_cache.specs.Steps.{exp_of, KeepsReply, put_first, no_room_for_it, not_let_through, KeepsJudged, through_by_it, not_through}
+use Rattle.introspection_cache.specs.Steps.{AnswersAnew, asked_anew, starved_before}
 
 -- ---- an answer and its reply
 
@@ -96,16 +95,19 @@ pub asked_reply : (setup : RsSetup) (m : Message) (now i : ℕ) (wanted : List R
 asked_reply setup m now i wanted text asked capacity before after others kept_now reply answer is done judged keeps =
     asked_anew (Ok reply) (subst (λ (t : List ℕ). IsAsked setup now t before after (Ok reply)) is done) answer judged kept_now keeps
 
-pub asked_fault : (setup : RsSetup) (m : Message) (now i : ℕ) (wanted : List Right) (text asked : List ℕ) (capacity : ℕ) (before after : LinkState) (others : Kept)
+pub asked_fault : (setup : RsSetup) (m : Message) (now i : ℕ) (wanted : List Right) (text asked : List ℕ) (capacity : ℕ) (before after : LinkState)
+    (others : Kept)
     → asked ≡ text → IsAsked setup now asked before after (Err link_faults.Failed)
     → AnswersAnew setup m now i wanted text capacity before after others guarded.LinkFault others
 asked_fault setup m now i wanted text asked capacity before after others is done =
-    asked_anew (Err link_faults.Failed) (subst (λ (t : List ℕ). IsAsked setup now t before after (Err link_faults.Failed)) is done) guarded.LinkFault failed others
+    asked_anew (Err link_faults.Failed) (subst (λ (t : List ℕ). IsAsked setup now t before after (Err link_faults.Failed)) is done) guarded.LinkFault failed
+    others
     ((λ j e. cc), refl)
 
 pub asked_no_room : (setup : RsSetup) (m : Message) (now i : ℕ) (wanted : List Right) (text asked : List ℕ) (capacity : ℕ) (before after : LinkState)
     (others : Kept) → asked ≡ text → IsAsked setup now asked before after (Err link_faults.OutOfMemory)
     → AnswersAnew setup m now i wanted text capacity before after others guarded.Memory others
 asked_no_room setup m now i wanted text asked capacity before after others is done =
-    asked_anew (Err link_faults.OutOfMemory) (subst (λ (t : List ℕ). IsAsked setup now t before after (Err link_faults.OutOfMemory)) is done) guarded.Memory no_room
+    asked_anew (Err link_faults.OutOfMemory) (subst (λ (t : List ℕ). IsAsked setup now t before after (Err link_faults.OutOfMemory)) is done) guarded.Memory
+    no_room
     others ((λ j e. cc), refl)

@@ -1,6 +1,6 @@
 -- What a request comes to with a cache, put together.
-use Rattle.std.proofs.Common.{◌≡◌, ◌≢◌, ◌∙◌, ℕ, Bool, List, [], ◌∷◌, refl, sym, ap, subst}
-use Rattle.std.specs.Prelude.{Option, Some, None, Result, Ok, Err, slice_get}
+use Rattle.std.proofs.Common.{◌≡◌, ◌≢◌, ◌∙◌, ℕ, List, [], ◌∷◌, sym, ap, subst}
+use Rattle.std.specs.Prelude.{Some, None, Result, Ok, Err, slice_get}
 use Rattle.std.specs.Str.{bytes_eq}
 use Rattle.std.specs.Global.{Vec}
 use Rattle.lru.specs.LruCache.{promoted}
@@ -17,8 +17,8 @@ use Rattle.resource_server.specs.declared.setup.RsSetup.{RsSetup}
 use Rattle.resource_server.specs.declared.guarded.Guarded.{Guarded}
 use Rattle.resource_server.specs.declared.guarded.Guarded.TheVariants as guarded
 use Rattle.resource_server.specs.Routing.{question_of}
-use Rattle.resource_server.specs.Introspecting.{introspection_text, question_text, introspection_bytes, IsAsked}
-use Rattle.resource_server.specs.Guarding.{SaysOfToken, exchanges_of, Judged, Guards, asked, GuardsOver, AddsExchanges}
+use Rattle.resource_server.specs.Introspecting.{introspection_text, question_text}
+use Rattle.resource_server.specs.Guarding.{SaysOfToken, exchanges_of, Judged, asked, GuardsOver, AddsExchanges}
 use Rattle.resource_server.specs.Guarding.{starved as starved_guard}
 use Rattle.resource_server.specs.Laws.{Presents}
 use Rattle.resource_server.proofs.Putting.{none_asked, exchanged}
@@ -54,7 +54,8 @@ pub again_now : (setup : RsSetup) (m : Message) (now i : ℕ) (token : Scheme ×
 again_now setup m now i token route wanted text capacity capacity_now kept kept_now link answer question place want is same (r, fresh, judged, first) =
     let asks : text ≡ question_text setup route token = same_text setup token route wanted text want is in
     let after : cache capacity (promoted (bytes_eq (question_text setup route token)) kept) ≡ cache capacity_now kept_now =
-    ap (λ (t : List ℕ). cache capacity (promoted (bytes_eq t) kept)) (sym asks) ∙ ap (cache capacity) (sym first) ∙ ap (λ (c : ℕ). cache c kept_now) (sym same) in
+    ap (λ (t : List ℕ). cache capacity (promoted (bytes_eq t) kept)) (sym asks) ∙ ap (cache capacity) (sym first)
+    ∙ ap (λ (c : ℕ). cache c kept_now) (sym same) in
     record {
       exchanges = [];
       guarded = subst (Caches setup m now (cache capacity kept) [] answer) after
@@ -73,7 +74,8 @@ keeps_reply capacity text now others request reply _ _ (through_by_it i r same m
     (allowed i request r moment access key (subst (λ (given : List ℕ). SaysOfToken given (Active access key r.exp)) (sym same) says))
 keeps_reply capacity text now others request reply _ _ (not_through answer never) = not_allowed ((request, Some reply) ∷ []) answer never
 
-keeps_answered : (capacity : ℕ) (text : List ℕ) (now : ℕ) (others : Kept) (request : List ℕ) (reply : Result (List ℕ) LinkFault) (answer : Guarded) (kept : Kept)
+keeps_answered : (capacity : ℕ) (text : List ℕ) (now : ℕ) (others : Kept) (request : List ℕ) (reply : Result (List ℕ) LinkFault) (answer : Guarded)
+    (kept : Kept)
     → KeepsAnswered capacity text now reply others answer kept → Keeps capacity text now others (exchanges_of request reply) answer kept
 keeps_answered capacity text now others request (Ok reply) answer kept k = keeps_reply capacity text now others request reply answer kept k
 keeps_answered capacity text now others request (Err fault) answer kept (never, same) =
@@ -84,7 +86,8 @@ never_memory i e = cc
 
 by_asking : (setup : RsSetup) (m : Message) (now i : ℕ) (token : Scheme × List ℕ) (route : Route) (capacity : ℕ) (kept kept_now : Kept)
     (before after : LinkState) (answer : Guarded) → Presents setup m i route token → fresh_to (question_text setup route token) now kept ≡ None
-    → AnswersAnew setup m now i (route.right ∷ []) (question_text setup route token) capacity before after (to_others (question_text setup route token) kept) answer kept_now
+    → AnswersAnew setup m now i (route.right ∷ []) (question_text setup route token) capacity before after
+    (to_others (question_text setup route token) kept) answer kept_now
     → GuardsOver (λ exchanges given. Caches setup m now (cache capacity kept) exchanges given (cache capacity kept_now)) before after answer
 by_asking setup m now i token route capacity kept _ before after _ presents none (asked_anew reply is answer judged kept_now keeps) = record {
   exchanges = exchanges_of is.request reply;
@@ -112,8 +115,10 @@ anew_now setup m now i token route wanted text capacity capacity_now kept others
     subst (λ (w : List Right). AnswersAnew setup m now i w text capacity before after others answer kept_now) want answers in
     let by_others : AnswersAnew setup m now i (route.right ∷ []) text capacity before after (to_others text kept) answer kept_now =
     subst (λ (o : Kept). AnswersAnew setup m now i (route.right ∷ []) text capacity before after o answer kept_now) rest by_right in
-    let by_text = subst (λ (t : List ℕ). AnswersAnew setup m now i (route.right ∷ []) t capacity before after (to_others t kept) answer kept_now) asks by_others in
-    subst (λ (c : ℕ). GuardsOver (λ exchanges given. Caches setup m now (cache capacity kept) exchanges given (cache c kept_now)) before after answer) (sym same)
+    let by_text =
+    subst (λ (t : List ℕ). AnswersAnew setup m now i (route.right ∷ []) t capacity before after (to_others t kept) answer kept_now) asks by_others in
+    subst (λ (c : ℕ). GuardsOver (λ exchanges given. Caches setup m now (cache capacity kept) exchanges given (cache c kept_now)) before after answer)
+    (sym same)
     (by_asking setup m now i token route capacity kept kept_now before after answer (record { question = question; route_is = place })
     (subst (λ (t : List ℕ). fresh_to t now kept ≡ None) asks none) by_text)
 
@@ -140,7 +145,8 @@ fault_by : (setup : RsSetup) (m : Message) (now : ℕ) (cached after : Cache) (e
 fault_by setup m now cached _ _ _ before link (at_once answer e) over is = absurd (subst IsRefusal is (refusal setup.routes m answer e))
 fault_by setup m now cached _ _ _ before link starved over is = absurd (cc)
 fault_by setup m now cached _ _ _ before link (again i route token presents r fresh answer judged) over is =
-    let wrong : ◌≡◌ {A = Result (List ℕ) LinkFault} (Ok r.reply) (Err link_faults.Failed) = judged_fault setup m now i (route.right ∷ []) (Ok r.reply) answer judged is in
+    let wrong : ◌≡◌ {A = Result (List ℕ) LinkFault} (Ok r.reply) (Err link_faults.Failed) = judged_fault setup m now i (route.right ∷ [])
+    (Ok r.reply) answer judged is in
     absurd (cc)
 fault_by setup m now cached _ _ _ before link (anew i route token presents none exchanges answer guards kept keeps) over is =
     fault_rose setup m now before link answer (record { exchanges = exchanges; guarded = guards; over = over }) is
@@ -148,4 +154,5 @@ fault_by setup m now cached _ _ _ before link (anew i route token presents none 
 pub cached_fault_rose : (setup : RsSetup) (m : Message) (now : ℕ) (cached after : Cache) (before link : LinkState) (answer : Guarded)
     → GuardsOver (λ exchanges given. Caches setup m now cached exchanges given after) before link answer → answer ≡ guarded.LinkFault
     → Rose before.faults link.faults
-cached_fault_rose setup m now cached after before link answer over is = fault_by setup m now cached after over.exchanges answer before link over.guarded over.over is
+cached_fault_rose setup m now cached after before link answer over is = fault_by setup m now cached after over.exchanges answer before link over.guarded
+    over.over is

@@ -1,13 +1,13 @@
 -- The kept replies of an `lru` cache, as they are seen.
-use Rattle.std.proofs.Common.{◌≡◌, ◌∙◌, ◌-◌, ℕ, zero, suc, Bool, true, false, cond, List, [], ◌∷◌, length, take, refl, sym, ap, subst}
-use Rattle.std.specs.Prelude.{Option, Some, None, option_map, map, if◌then◌else◌}
+use Rattle.std.proofs.Common.{◌≡◌, ◌∙◌, ◌-◌, ℕ, zero, suc, Bool, true, false, cond, List, [], ◌∷◌, take, refl, sym, ap}
+use Rattle.std.specs.Prelude.{Option, Some, None, option_map, if◌then◌else◌}
 use Rattle.std.specs.Global.{Vec}
 use Rattle.std.specs.List.{AllByRecursion, IsDistinct}
 use Rattle.std.specs.Map.{keys_of, lookup, lookup_entry, remove_entry}
 use Rattle.std.specs.Option.{option_map_or}
 use Rattle.std.specs.Str.{bytes_eq}
 use Rattle.std.proofs.lemmas.Slice.Eq.{bytes_eq-Decides}
-use Rattle.lru.specs.LruCache.{LruCache, lru_cache, promoted, put_entries}
+use Rattle.lru.specs.LruCache.{lru_cache, promoted, put_entries}
 use Rattle.introspection_cache.specs.declared.kept_reply.KeptReply.{KeptReply}
 use Rattle.introspection_cache.specs.Caching.{Kept, is_fresh, if_fresh, fresh_to, may_keep, with_reply}
 use Rattle.introspection_cache.specs.Seen.{kept_in}

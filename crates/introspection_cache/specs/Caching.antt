@@ -1,5 +1,6 @@
 -- Replies to introspections that are kept, and what a request comes to by them.
-use Rattle.std.specs.Prelude.{◌≡◌, ◌≢◌, ℕ, ◌+◌, ◌-◌, ◌&&◌, Bool, true, false, List, [], ◌∷◌, length, take, Option, Some, None, Result, Ok, Err, nat_le, nat_lt, if◌then◌else◌}
+use Rattle.std.specs.Prelude.{◌≡◌, ◌≢◌, ℕ, ◌+◌, ◌-◌, ◌&&◌, Bool, List, [], ◌∷◌, length, take, Option, Some, None, Ok, Err, nat_le, nat_lt}
+use Rattle.std.specs.Prelude.{if◌then◌else◌}
 use Rattle.std.specs.Map.{lookup, remove_entry}
 use Rattle.std.specs.Str.{bytes_eq}
 use Rattle.lru.specs.LruCache.{promoted}
@@ -76,7 +77,8 @@ pub data Caches (setup : RsSetup) (m : Message) (now : ℕ) (before : Cache) : L
   anew : (i : ℕ) → (route : Route) → (token : Scheme × List ℕ) → Presents setup m i route token
       → fresh_to (question_text setup route token) now before.kept ≡ None
       → (exchanges : List Exchange) → (answer : Guarded) → Guards setup m now exchanges answer
-      → (kept : Kept) → Keeps before.capacity (question_text setup route token) now (to_others (question_text setup route token) before.kept) exchanges answer kept
+      → (kept : Kept)
+      → Keeps before.capacity (question_text setup route token) now (to_others (question_text setup route token) before.kept) exchanges answer kept
       → Caches setup m now before exchanges answer (record before { kept = kept })
 
 -- a new cache keeps nothing

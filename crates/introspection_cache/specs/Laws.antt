@@ -9,8 +9,8 @@ use Rattle.resource_server.specs.declared.setup.Route.{Route}
 use Rattle.resource_server.specs.declared.setup.RsSetup.{RsSetup}
 use Rattle.resource_server.specs.declared.guarded.Guarded.{Guarded}
 use Rattle.resource_server.specs.declared.guarded.Guarded.TheVariants as guarded
-use Rattle.resource_server.specs.Introspecting.{question_text}
-use Rattle.resource_server.specs.Guarding.{SaysOfToken}
+use Rattle.resource_server.specs.Introspecting.{question_text, introspection_bytes}
+use Rattle.resource_server.specs.Guarding.{SaysOfToken, Guards}
 use Rattle.resource_server.specs.Laws.{Presents, AllowedByReply, IsIntrospected}
 use Rattle.introspection_cache.specs.declared.kept_reply.KeptReply.{KeptReply}
 use Rattle.introspection_cache.specs.Caching.{Cache, Caches, fresh_to, new_cache}
@@ -63,7 +63,26 @@ abbrev pub CachedAllowMeans : Type 0
 CachedAllowMeans = (capacity : ℕ) (steps : List CachedStep) (before after : Cache) → Chained (new_cache capacity) steps before
     → (setup : RsSetup) (m : Message) (now i : ℕ) (exchanges : List Exchange) → Caches setup m now before exchanges (guarded.Allow i) after
     → (reply : List ℕ) × (by : AllowedByReply setup m now i reply)
-    × (IsIntrospected setup now (question_text setup by.route by.token) reply exchanges ⊎ IsKept steps (question_text setup by.route by.token) reply now exchanges)
+    × (IsIntrospected setup now (question_text setup by.route by.token) reply exchanges
+    ⊎ IsKept steps (question_text setup by.route by.token) reply now exchanges)
+
+-- The answer to a request is that of `guard` at this moment, had the introspection of its token been asked now and brought a kept reply.
+pub record AnswersByKept (steps : List CachedStep) (setup : RsSetup) (m : Message) (now : ℕ) (exchanges : List Exchange) (answer : Guarded) : Type 0 where
+  pub place : ℕ
+  pub route : Route
+  pub token : Scheme × List ℕ
+  pub presents : Presents setup m place route token
+  pub reply : List ℕ
+  pub kept : IsKept steps (question_text setup route token) reply now exchanges
+  pub request : List ℕ
+  pub request_is : introspection_bytes setup now (question_text setup route token) ≡ Some request
+  pub guards : Guards setup m now ((request, Some reply) ∷ []) answer
+
+-- After requests, from a new cache on, each answer is that of `guard`: by what was asked now, or by a kept reply.
+abbrev pub CachedIsGuard : Type 0
+CachedIsGuard = (capacity : ℕ) (steps : List CachedStep) (before after : Cache) → Chained (new_cache capacity) steps before
+    → (setup : RsSetup) (m : Message) (now : ℕ) (exchanges : List Exchange) (answer : Guarded) → Caches setup m now before exchanges answer after
+    → Guards setup m now exchanges answer ⊎ AnswersByKept steps setup m now exchanges answer
 
 -- where a fresh reply to its question is kept, nothing is asked
 abbrev pub FreshIsSilent : Type 0

@@ -1,6 +1,6 @@
 -- The steps on the way to an answer.
-use Rattle.std.specs.Prelude.{◌≡◌, ◌≢◌, ℕ, List, [], ◌∷◌, Option, Some, None, Result, Ok, Err, length}
-use Rattle.gnap_io.specs.Links.{LinkState, Exchange}
+use Rattle.std.specs.Prelude.{◌≡◌, ◌≢◌, ℕ, List, Option, Some, None, Result, Ok, Err}
+use Rattle.gnap_io.specs.Links.{LinkState}
 use Rattle.bytes_and_lists.specs.declared.message.Message.{Message}
 use Rattle.gnap_io.specs.declared.link.LinkFault.{LinkFault}
 use Rattle.gnap_model.specs.declared.rights.Right.{Right}
@@ -41,5 +41,6 @@ KeepsAnswered capacity text now (Err fault) others answer kept = ((i : ℕ) → 
 pub data AnswersAnew (setup : RsSetup) (m : Message) (now i : ℕ) (wanted : List Right) (text : List ℕ) (capacity : ℕ) (before after : LinkState) (others : Kept)
     : Guarded → Kept → Type 0 where
   asked_anew : (reply : Result (List ℕ) LinkFault) → IsAsked setup now text before after reply → (answer : Guarded) → Judged setup m now i wanted reply answer
-      → (kept : Kept) → KeepsAnswered capacity text now reply others answer kept → AnswersAnew setup m now i wanted text capacity before after others answer kept
+      → (kept : Kept) → KeepsAnswered capacity text now reply others answer kept
+      → AnswersAnew setup m now i wanted text capacity before after others answer kept
   starved_before : after ≡ before → AnswersAnew setup m now i wanted text capacity before after others guarded.Memory others

@@ -15,7 +15,27 @@ pub struct KeptReply {
     pub exp: u64,
 }
 
+/// The same bytes, without spare room. Where no smaller block is to be had, they keep theirs.
+pub(crate) fn without_spare_room(bytes: Bytes) -> Bytes
+    ensures { result ≡ bytes }
+{
+    let mut items = bytes.into_vec();
+    items.shrink_to_fit();
+    Bytes::from_vec(items)
+}
+
 impl KeptReply {
+    /// The same, whose bytes have no spare room.
+    pub(crate) fn fitted(self) -> KeptReply
+        ensures { result ≡ self }
+    {
+        KeptReply {
+            reply: without_spare_room(self.reply),
+            moment: self.moment,
+            exp: self.exp,
+        }
+    }
+
     /// Whether it came at this moment or at most 30 seconds before, and the token still lasts.
     pub(crate) fn is_fresh(&self, now: u64) -> bool
         ensures { result ≡ is_fresh now self.now }

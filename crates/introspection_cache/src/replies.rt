@@ -6,7 +6,7 @@ ghost use Rattle.lru.specs.LruCache.{promoted};
 ghost use Rattle.introspection_cache.specs.Caching.{fresh_to, to_others, may_keep, with_reply};
 ghost use Rattle.introspection_cache.specs.Seen.{kept_in};
 
-use crate::kept_reply::KeptReply;
+use crate::kept_reply::{KeptReply, without_spare_room};
 use bytes_and_lists::bytes::Bytes;
 use bytes_and_lists::memory::Mem;
 use lru::LruCache;
@@ -52,7 +52,7 @@ fn may_keep(text: &Bytes, kept: &KeptReply) -> bool
     text.len() <= LONGEST && kept.reply.len() <= LONGEST - text.len()
 }
 
-/// Keeps the reply to a question that none is kept to. A long one isn't kept. An `Err` changes nothing.
+/// Keeps the reply to a question that none is kept to, without spare room. A long one isn't kept. An `Err` changes nothing.
 pub(crate) fn keep(replies: &mut Replies, text: Bytes, kept: KeptReply) -> Result<(), Mem>
     requires new { lookup (bytes_eq text) (kept_in replies.old.entries) ≡ None }
     ensures ok { OnOk result (kept_in replies.new.entries ≡ with_reply replies.old.cap text kept (kept_in replies.old.entries)) }
@@ -60,6 +60,8 @@ pub(crate) fn keep(replies: &mut Replies, text: Bytes, kept: KeptReply) -> Resul
     ensures capacity { replies.new.cap ≡ replies.old.cap }
 {
     if may_keep(&text, &kept) {
+        let text = without_spare_room(text);
+        let kept = kept.fitted();
         match replies.put(text.into_vec(), kept) {
             Ok(_) => Ok(()),
             Err(_) => Err(Mem),

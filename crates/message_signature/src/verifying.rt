@@ -21,7 +21,7 @@ use bytes_and_lists::bytes::Bytes;
 use bytes_and_lists::memory::{Duplicate, Mem};
 use bytes_and_lists::message::Message;
 use content_digest::DigestFault;
-use hmac_key::{Keyring, hmac, same};
+use hmac_key::{HmacKey, Keyring, same};
 use std::alloc::Global;
 use structured_fields::{Bare, InnerList};
 
@@ -92,27 +92,27 @@ fn is_right_alg(alg: Option<&Bare>) -> bool
     }
 }
 
-fn key_in<'a>(ring: &'a Keyring, keyid: Option<&'a Bare>) -> Option<(&'a Bytes, &'a [u8])>
+fn key_in<'a>(ring: &'a Keyring, keyid: Option<&'a Bare>) -> Option<(&'a Bytes, &'a HmacKey)>
     ensures { option_map (λ k. (k.0.now, k.1.now)) result ≡ key_in ring.now (option_copied keyid.entry) }
 {
     let Some(Bare::Str(id)) = keyid else {
         return None;
     };
-    let secret = ring.find(id.as_slice())?;
-    Some((id, secret))
+    let key = ring.key(id.as_slice())?;
+    Some((id, key))
 }
 
-// The id and the secret that `keyid` names.
-fn key_of<'a>(ring: &'a Keyring, list: &'a InnerList) -> Result<(&'a Bytes, &'a [u8]), SigFault>
+// The id and the key that `keyid` names.
+fn key_of<'a>(ring: &'a Keyring, list: &'a InnerList) -> Result<(&'a Bytes, &'a HmacKey), SigFault>
     ensures { Gives (λ k. (k.0.now, k.1.now)) result (need UnknownKey (key_in ring.now (value_at list.now.params (codes "keyid")))) }
 {
     key_in(ring, list.params.get(b"keyid")).ok_or(SigFault::UnknownKey)
 }
 
-fn is_hmac(bytes: &Bytes, secret: &[u8], text: &Bytes) -> bool
-    ensures { result ≡ bytes_eq bytes.now (hmac_sha256 secret.now text.now) }
+fn is_hmac(bytes: &Bytes, key: &HmacKey, text: &Bytes) -> bool
+    ensures { result ≡ bytes_eq bytes.now (hmac_sha256 key.now text.now) }
 {
-    same(bytes.as_slice(), &hmac(secret, text.as_slice()))
+    same(bytes.as_slice(), &key.hmac(text.as_slice()))
 }
 
 fn has_right_digest(alloc: Global, message: &Message) -> Result<bool, Mem>
@@ -156,8 +156,8 @@ fn made_under(
 ) -> Result<Bytes, SigFault>
     ensures { Gives (λ id. id) result (made_under message.now text.now ring.now list.now bytes.now) }
 {
-    let (id, secret) = key_of(ring, list)?;
-    must(SigFault::Differs, is_hmac(bytes, secret, text))?;
+    let (id, key) = key_of(ring, list)?;
+    must(SigFault::Differs, is_hmac(bytes, key, text))?;
     must(SigFault::Digest, has_right_digest(alloc, message)?)?;
     Ok(id.copy()?)
 }

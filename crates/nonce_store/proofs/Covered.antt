@@ -1,47 +1,36 @@
--- That each nonce stands among the rows of its second, and what a sweep makes of the nonces.
-use Rattle.std.proofs.Common.{◌≡◌, ◌≢◌, ◌∙◌, ℕ, ◌≤◌, ◌<◌, ◌==◌, Bool, true, false, true≢false, cond, ◌&&◌, ◌||◌, not, nat_le, List, [], ◌∷◌, ◌++◌, refl, ap, sym, subst, arith, Option, Some, None, Result, Ok, Err, OnOk, OnErr, if◌then◌else◌, ◌⊎◌, inl, inr}
-use Rattle.std.specs.List.{list_any}
-use Rattle.std.specs.Global.{Vec}
+-- That each nonce stands in its second, and what a sweep makes of the nonces.
+use Rattle.std.proofs.Common.{◌≡◌, ◌≢◌, ◌∙◌, ℕ, ◌≤◌, ◌<◌, ◌==◌, Bool, true, false, true≢false, cond, ◌&&◌, ◌||◌, not, nat_le, List, refl, ap, sym, subst, arith, Option, Some, None, Result, Ok, Err, OnOk, OnErr, if◌then◌else◌, ◌⊎◌, inl, inr}
+use Rattle.std.specs.Cmp.Derive.{both_true}
+use Rattle.std.proofs.Math.Bool.{or-true}
 use Rattle.std.specs.BTreeMap.{BTreeMap}
 use Rattle.std.proofs.lemmas.Bool.{cases_Bool, lt-leb, leb-false}
-use Rattle.std.proofs.lemmas.List.Folds.{list_any-append}
 use Rattle.gnap_model.specs.Common.{same_text}
 use Rattle.signed_calls.specs.Remembering.{is_live_at, IsSwept}
-use Rattle.nonce_store.specs.declared.seconds.Row.{Row}
-use Rattle.nonce_store.specs.Kept.{Keys, until_in, many_in, is_row, rows_at, Covers, IsPopped, IsSweptInPart}
+use Rattle.nonce_store.specs.declared.run.Run.{Run}
+use Rattle.nonce_store.specs.Kept.{Keys, until_in, many_in, has, is_noted, Covers, IsPopped, IsSweptInPart}
 
 abbrev pub Seconds : Type 0
-Seconds = BTreeMap ℕ (Vec Row)
+Seconds = BTreeMap ℕ Run
 
--- ---- a row more
+-- ---- a nonce more in a second
 
-more_any : (b : Bool) (p : Row → Bool) (rows : List Row) (row : Row) → list_any p rows ≡ true → list_any p (cond b (rows ++ row ∷ []) rows) ≡ true
-more_any true p rows row is = list_any-append p rows (row ∷ []) ∙ ap (λ b. b || (p row || false)) is
-more_any false p rows row is = is
+more_is : (known other : Bool) → known ≡ true → (known || other) ≡ true
+more_is known other is = ap (λ b. b || other) is
 
-covers_noted : (seconds new : Seconds) (keys : Keys) (end : ℕ) (row : Row) → Covers seconds keys
-    → ((e : ℕ) → rows_at new e ≡ cond (end == e) (rows_at seconds e ++ row ∷ []) (rows_at seconds e)) → Covers new keys
-covers_noted seconds new keys end row covers noted k n u is =
-    ap (list_any (is_row k n)) (noted u) ∙ more_any (end == u) (is_row k n) (rows_at seconds u) row (covers k n u is)
+covers_noted : (seconds new : Seconds) (keys : Keys) (end : ℕ) (key nonce : List ℕ) → Covers seconds keys
+    → ((e : ℕ) (k n : List ℕ) → is_noted new e k n ≡ (is_noted seconds e k n || (end == e && (same_text key k && same_text nonce n)))) → Covers new keys
+covers_noted seconds new keys end key nonce covers noted k n u is =
+    noted u k n ∙ more_is (is_noted seconds u k n) (end == u && (same_text key k && same_text nonce n)) (covers k n u is)
 
-covers_equal : (seconds new : Seconds) (keys after : Keys) → Covers seconds keys → ((e : ℕ) → rows_at new e ≡ rows_at seconds e)
+covers_equal : (seconds new : Seconds) (keys after : Keys) → Covers seconds keys → ((e : ℕ) (k n : List ℕ) → is_noted new e k n ≡ is_noted seconds e k n)
     → ((k n : List ℕ) → until_in after k n ≡ until_in keys k n) → Covers new after
-covers_equal seconds new keys after covers same untils k n u is = ap (list_any (is_row k n)) (same u) ∙ covers k n u (sym (untils k n) ∙ is)
+covers_equal seconds new keys after covers same untils k n u is = same u k n ∙ covers k n u (sym (untils k n) ∙ is)
 
-pub noted : {A E : Type 0} (r : Result A E) (seconds new : Seconds) (keys : Keys) (end : ℕ) (row : Row) → Covers seconds keys
-    → OnOk r ((e : ℕ) → rows_at new e ≡ cond (end == e) (rows_at seconds e ++ row ∷ []) (rows_at seconds e))
-    → OnErr r ((e : ℕ) → rows_at new e ≡ rows_at seconds e) → Covers new keys
-noted (Ok x) seconds new keys end row covers ok err = covers_noted seconds new keys end row covers ok
-noted (Err e) seconds new keys end row covers ok err = covers_equal seconds new keys keys covers err (λ k n. refl)
-
-last_any : (b known : Bool) → b ≡ true → (known || (b || false)) ≡ true
-last_any true true is = refl
-last_any true false is = refl
-last_any false known is = absurd (true≢false (sym is))
-
-or-true : (b : Bool) → (b || true) ≡ true
-or-true true = refl
-or-true false = refl
+pub noted : {A E : Type 0} (r : Result A E) (seconds new : Seconds) (keys : Keys) (end : ℕ) (key nonce : List ℕ) → Covers seconds keys
+    → OnOk r ((e : ℕ) (k n : List ℕ) → is_noted new e k n ≡ (is_noted seconds e k n || (end == e && (same_text key k && same_text nonce n))))
+    → OnErr r ((e : ℕ) (k n : List ℕ) → is_noted new e k n ≡ is_noted seconds e k n) → Covers new keys
+noted (Ok x) seconds new keys end key nonce covers ok err = covers_noted seconds new keys end key nonce covers ok
+noted (Err e) seconds new keys end key nonce covers ok err = covers_equal seconds new keys keys covers err (λ k n. refl)
 
 some_is : (a b : ℕ) → Some a ≡ Some b → a ≡ b
 some_is a b is = cc
@@ -49,30 +38,27 @@ some_is a b is = cc
 self_eq : (n : ℕ) → (n == n) ≡ true
 self_eq n = grind (arith)
 
-covers_more : (seconds new : Seconds) (keys after : Keys) (key nonce : List ℕ) (end : ℕ) (row : Row) → Covers seconds keys → row.key ≡ key → row.nonce ≡ nonce
-    → ((e : ℕ) → rows_at new e ≡ cond (end == e) (rows_at seconds e ++ row ∷ []) (rows_at seconds e))
+covers_more : (seconds new : Seconds) (keys after : Keys) (key nonce : List ℕ) (end : ℕ) → Covers seconds keys
+    → ((e : ℕ) (k n : List ℕ) → is_noted new e k n ≡ (is_noted seconds e k n || (end == e && (same_text key k && same_text nonce n))))
     → ((k n : List ℕ) → until_in after k n ≡ cond (same_text key k && same_text nonce n) (Some end) (until_in keys k n)) → Covers new after
-covers_more seconds new keys after key nonce end row covers key_is nonce_is noted put k n u is =
+covers_more seconds new keys after key nonce end covers noted put k n u is =
     by (same_text key k && same_text nonce n) refl (sym (put k n) ∙ is)
   where
-    by : (b : Bool) → (same_text key k && same_text nonce n) ≡ b → cond b (Some end) (until_in keys k n) ≡ Some u → list_any (is_row k n) (rows_at new u) ≡ true
+    by : (b : Bool) → (same_text key k && same_text nonce n) ≡ b → cond b (Some end) (until_in keys k n) ≡ Some u → is_noted new u k n ≡ true
     by true t at =
-        let here : end ≡ u = some_is end u at in
-        let named : is_row k n row ≡ true = ap (λ (x : List ℕ). same_text x k && same_text row.nonce n) key_is ∙ ap (λ (x : List ℕ). same_text key k && same_text x n) nonce_is ∙ t in
-        subst (λ e. list_any (is_row k n) (rows_at new e) ≡ true) here
-        (ap (list_any (is_row k n)) (noted end ∙ ap (λ b. cond b (rows_at seconds end ++ row ∷ []) (rows_at seconds end)) (self_eq end))
-        ∙ list_any-append (is_row k n) (rows_at seconds end) (row ∷ []) ∙ last_any (is_row k n row) (list_any (is_row k n) (rows_at seconds end)) named)
-    by false t at = covers_noted seconds new keys end row covers noted k n u at
+        noted u k n
+        ∙ ap (λ b. is_noted seconds u k n || b) (both_true (subst (λ e. (end == e) ≡ true) (some_is end u at) (self_eq end)) t)
+        ∙ or-true (is_noted seconds u k n)
+    by false t at = covers_noted seconds new keys end key nonce covers noted k n u at
 
-pub put_in : {A E : Type 0} (r : Result A E) (seconds new : Seconds) (keys after : Keys) (key nonce : List ℕ) (end : ℕ) (row : Row) (Counts Same : Type 0)
-    → Covers seconds keys → row.key ≡ key → row.nonce ≡ nonce
-    → ((e : ℕ) → rows_at new e ≡ cond (end == e) (rows_at seconds e ++ row ∷ []) (rows_at seconds e))
+pub put_in : {A E : Type 0} (r : Result A E) (seconds new : Seconds) (keys after : Keys) (key nonce : List ℕ) (end : ℕ) (Same : Type 0)
+    → Covers seconds keys
+    → ((e : ℕ) (k n : List ℕ) → is_noted new e k n ≡ (is_noted seconds e k n || (end == e && (same_text key k && same_text nonce n))))
     → OnOk r ((k n : List ℕ) → until_in after k n ≡ cond (same_text key k && same_text nonce n) (Some end) (until_in keys k n))
     → OnErr r (((k n : List ℕ) → until_in after k n ≡ until_in keys k n) × Same) → Covers new after
-put_in (Ok x) seconds new keys after key nonce end row Counts Same covers key_is nonce_is noted ok err =
-    covers_more seconds new keys after key nonce end row covers key_is nonce_is noted ok
-put_in (Err e) seconds new keys after key nonce end row Counts Same covers key_is nonce_is noted ok err =
-    covers_equal new new keys after (covers_noted seconds new keys end row covers noted) (λ e. refl) err.0
+put_in (Ok x) seconds new keys after key nonce end Same covers noted ok err = covers_more seconds new keys after key nonce end covers noted ok
+put_in (Err e) seconds new keys after key nonce end Same covers noted ok err =
+    covers_equal new new keys after (covers_noted seconds new keys end key nonce covers noted) (λ e k n. refl) err.0
 
 -- ---- nonces less
 
@@ -94,13 +80,13 @@ stays true true o is = refl
 stays false true o is = refl
 stays named false o is = absurd (true≢false (sym is))
 
-pub swept_more : (latest : ℕ) (before keys after : Keys) (rows : List Row) → IsSweptInPart latest before keys
-    → ((k n : List ℕ) → until_in after k n ≡ cond (list_any (is_row k n) rows && not (is_live_at latest (until_in keys k n))) None (until_in keys k n))
+pub swept_more : (latest : ℕ) (before keys after : Keys) (run : Run) → IsSweptInPart latest before keys
+    → ((k n : List ℕ) → until_in after k n ≡ cond (has run k n && not (is_live_at latest (until_in keys k n))) None (until_in keys k n))
     → ((m : ℕ) → latest ≤ m → many_in after m ≡ many_in keys m) → IsSweptInPart latest before after
-swept_more latest before keys after rows part taken counts = record {
-  stay = λ k n live. taken k n ∙ stays (list_any (is_row k n) rows) (is_live_at latest (until_in keys k n)) (until_in keys k n)
+swept_more latest before keys after run part taken counts = record {
+  stay = λ k n live. taken k n ∙ stays (has run k n) (is_live_at latest (until_in keys k n)) (until_in keys k n)
       (ap (is_live_at latest) (part.stay k n live) ∙ live) ∙ part.stay k n live;
-  were = λ k n u is. part.were k n u (still (list_any (is_row k n) rows && not (is_live_at latest (until_in keys k n))) (until_in keys k n) u (sym (taken k n) ∙ is));
+  were = λ k n u is. part.were k n u (still (has run k n && not (is_live_at latest (until_in keys k n))) (until_in keys k n) u (sym (taken k n) ∙ is));
   counts = λ m le. counts m le ∙ part.counts m le;
 }
 
@@ -115,23 +101,23 @@ gone_row true false o u n l is = absurd cc
 gone_row true true o u n l is = true≢false l
 gone_row false live o u n l is = true≢false (sym n)
 
-pub covers_popped : (latest : ℕ) (seconds new : Seconds) (keys after : Keys) (rows : List Row) → Covers seconds keys → IsPopped latest seconds rows new
-    → ((k n : List ℕ) → until_in after k n ≡ cond (list_any (is_row k n) rows && not (is_live_at latest (until_in keys k n))) None (until_in keys k n))
+pub covers_popped : (latest : ℕ) (seconds new : Seconds) (keys after : Keys) (run : Run) → Covers seconds keys → IsPopped latest seconds run new
+    → ((k n : List ℕ) → until_in after k n ≡ cond (has run k n && not (is_live_at latest (until_in keys k n))) None (until_in keys k n))
     → Covers new after
-covers_popped latest seconds new keys after rows covers popped taken k n u is =
-    let was : until_in keys k n ≡ Some u = still (list_any (is_row k n) rows && not (is_live_at latest (until_in keys k n))) (until_in keys k n) u (sym (taken k n) ∙ is) in
+covers_popped latest seconds new keys after run covers popped taken k n u is =
+    let was : until_in keys k n ≡ Some u = still (has run k n && not (is_live_at latest (until_in keys k n))) (until_in keys k n) u (sym (taken k n) ∙ is) in
     elim (same_or_not u popped.second) [
       | inl here ↦
           let over = popped.over in
-          let named : list_any (is_row k n) rows ≡ true = sym (ap (list_any (is_row k n)) (ap (rows_at seconds) here ∙ popped.rows_are)) ∙ covers k n u was in
+          let named : has run k n ≡ true = sym (popped.run_is k n) ∙ sym (ap (λ e. is_noted seconds e k n) here) ∙ covers k n u was in
           let dead : is_live_at latest (until_in keys k n) ≡ false = ap (is_live_at latest) was ∙ lt-leb latest u (omega (arith, here, over)) in
-          absurd (gone_row (list_any (is_row k n) rows) (is_live_at latest (until_in keys k n)) (until_in keys k n) u named dead (sym (taken k n) ∙ is))
-      | inr other ↦ ap (list_any (is_row k n)) (popped.others u other) ∙ covers k n u was
+          absurd (gone_row (has run k n) (is_live_at latest (until_in keys k n)) (until_in keys k n) u named dead (sym (taken k n) ∙ is))
+      | inr other ↦ popped.others u k n other ∙ covers k n u was
     ]
 
 -- no second that is over is left
 pub swept_whole : (latest : ℕ) (seconds : Seconds) (before keys : Keys) → Covers seconds keys → IsSweptInPart latest before keys
-    → ((second : ℕ) → second < latest → rows_at seconds second ≡ [])
+    → ((second : ℕ) (k n : List ℕ) → second < latest → is_noted seconds second k n ≡ false)
     → IsSwept (until_in before) (many_in before) latest (until_in keys) (many_in keys)
 swept_whole latest seconds before keys covers part none = record {
   rows = λ k n. by k n (until_in before k n) refl (until_in keys k n) refl;
@@ -154,4 +140,4 @@ swept_whole latest seconds before keys covers part none = record {
         gone k n e was late (Some u) is =
             let there : until_in before k n ≡ Some u = part.were k n u is in
             let equal : e ≡ u = some_is e u (sym was ∙ there) in
-            absurd (true≢false (sym (covers k n u is) ∙ ap (list_any (is_row k n)) (none u (subst (λ x. x < latest) equal late))))
+            absurd (true≢false (sym (covers k n u is) ∙ none u k n (subst (λ x. x < latest) equal late)))

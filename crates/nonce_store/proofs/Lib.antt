@@ -1,2 +1,3 @@
 mod Under
+mod Places
 mod Covered

@@ -109,6 +109,10 @@ pub on_err_map : {A E : Type 0} (r : Result A E) (P Q : Type 0) → (P → Q) �
 on_err_map (Ok x) P Q more is = tt
 on_err_map (Err e) P Q more is = more is
 
+pub on_err_always : {A E : Type 0} (r : Result A E) (P : Type 0) → P → OnErr r P
+on_err_always (Ok x) P is = tt
+on_err_always (Err e) P is = is
+
 -- a key that is there takes other nonces
 pub until_set : (keys new : Keys) (key kept nonce : List ℕ) (was untils : Untils) (until : Option ℕ) → kept ≡ nonce → under keys key ≡ Some was
     → UpdatesBy text_order (λ k. slice_cmp nat_cmp key k.items) keys new (Some untils)

@@ -1,5 +1,5 @@
 -- What the trees keep.
-use Rattle.std.specs.Prelude.{ℕ, ◌≡◌, ◌≢◌, ◌<◌, ◌≤◌, ◌&&◌, nat_le, Bool, true, List, [], sum_by, if◌then◌else◌}
+use Rattle.std.specs.Prelude.{ℕ, ◌≡◌, ◌≢◌, ◌<◌, ◌≤◌, nat_le, Bool, true, false, sum_by, if◌then◌else◌}
 use Rattle.std.specs.Option.{option_and_then, option_map_or}
 use Rattle.std.specs.List.{list_any, All}
 use Rattle.std.specs.declared.option.Option.{Option}
@@ -11,9 +11,10 @@ use Rattle.std.specs.declared.cmp.Ordering.{Ordering}
 use Rattle.std.specs.Ordering.{nat_cmp}
 use Rattle.std.specs.Cmp.Lexicographic.{slice_cmp}
 use Rattle.std.specs.BTreeMap.{BTreeMap, get_by, values, btree_map_len, IsOrdered}
-use Rattle.gnap_model.specs.Common.{Text, same_text}
+use Rattle.gnap_model.specs.Common.{Text}
 use Rattle.signed_calls.specs.Remembering.{is_live_at}
-use Rattle.nonce_store.specs.declared.seconds.Row.{Row}
+use Rattle.nonce_store.specs.Places.{is_at}
+use Rattle.nonce_store.specs.declared.run.Run.{Run}
 
 -- of one key, up to which moment each nonce is remembered
 abbrev pub Untils : Type 0
@@ -46,28 +47,26 @@ many_of moment untils = sum_by (λ until. if nat_le moment until then 1 else 0) 
 abbrev pub many_in : Keys → ℕ → ℕ
 many_in keys moment = sum_by (many_of moment) (values keys)
 
--- the row names this nonce of this key
-abbrev pub is_row : Text → Text → Row → Bool
-is_row key nonce row = same_text row.key key && same_text row.nonce nonce
+-- this nonce of this key is among those of the second
+abbrev pub has : Run → Text → Text → Bool
+has run key nonce = list_any (is_at run.texts.items key nonce) run.places.items
 
--- the rows of a second
-abbrev pub rows_at : BTreeMap ℕ (Vec Row) → ℕ → List Row
-rows_at seconds second = option_map_or (λ rows. rows.items) (get_by (nat_cmp second) seconds) []
+abbrev pub is_noted : BTreeMap ℕ Run → ℕ → Text → Text → Bool
+is_noted seconds second key nonce = option_map_or (λ run. has run key nonce) (get_by (nat_cmp second) seconds) false
 
--- each nonce stands among the rows of the second up to which it is remembered
-abbrev pub Covers : BTreeMap ℕ (Vec Row) → Keys → Type 0
-Covers seconds keys = (key nonce : Text) (until : ℕ) → until_in keys key nonce ≡ Some until
-    → list_any (is_row key nonce) (rows_at seconds until) ≡ true
+-- each nonce stands in the second up to which it is remembered
+abbrev pub Covers : BTreeMap ℕ Run → Keys → Type 0
+Covers seconds keys = (key nonce : Text) (until : ℕ) → until_in keys key nonce ≡ Some until → is_noted seconds until key nonce ≡ true
 
-pub Covers-prop : (seconds : BTreeMap ℕ (Vec Row)) (keys : Keys) → IsProp (Covers seconds keys)
+pub Covers-prop : (seconds : BTreeMap ℕ Run) (keys : Keys) → IsProp (Covers seconds keys)
 Covers-prop seconds keys = Π_prop λ key. Π_prop λ nonce. Π_prop λ until. Π_prop λ is. Bool-set _ _
 
--- a second that is over was taken out, with its rows
-pub record IsPopped (latest : ℕ) (before : BTreeMap ℕ (Vec Row)) (rows : List Row) (after : BTreeMap ℕ (Vec Row)) : Type 0 where
+-- a second that is over was taken out, with its nonces
+pub record IsPopped (latest : ℕ) (before : BTreeMap ℕ Run) (run : Run) (after : BTreeMap ℕ Run) : Type 0 where
   pub second : ℕ
   pub over : second < latest
-  pub rows_are : rows_at before second ≡ rows
-  pub others : (other : ℕ) → other ≢ second → rows_at after other ≡ rows_at before other
+  pub run_is : (key nonce : Text) → is_noted before second key nonce ≡ has run key nonce
+  pub others : (other : ℕ) (key nonce : Text) → other ≢ second → is_noted after other key nonce ≡ is_noted before other key nonce
   pub fewer : btree_map_len after < btree_map_len before
 
 -- Of what was remembered before, some nonces that aren't at this moment were taken out, and nothing else.

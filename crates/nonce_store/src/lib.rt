@@ -4,6 +4,7 @@
 //! compares O(log n) keys and nonces and takes no memory. A sweep takes out the seconds that are over, each with its nonces, and doesn't touch what stays.
 #![tactic(auto)]
 
+mod run;
 mod seconds;
 pub mod store;
 mod sweeping;

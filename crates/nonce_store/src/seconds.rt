@@ -1,33 +1,34 @@
 //! For each second the nonces that are remembered up to it.
-ghost use Rattle.std.specs.Prelude.{◌≡◌, ℕ, ◌∷◌, [], ◌++◌, if◌then◌else◌, ◌==◌, OnOk, OnErr};
-ghost use Rattle.nonce_store.specs.Kept.{rows_at};
+ghost use Rattle.std.specs.Prelude.{◌≡◌, ℕ, List, ◌||◌, ◌&&◌, ◌==◌, OnOk, OnErr};
+ghost use Rattle.gnap_model.specs.Common.{same_text};
+ghost use Rattle.nonce_store.specs.Kept.{is_noted};
 
-use bytes_and_lists::bytes::Bytes;
+use crate::run::Run;
 use bytes_and_lists::memory::Mem;
 use std::alloc::Global;
 use std::collections::BTreeMap;
 
-/// A nonce of a key.
-#[derive(Drop)]
-pub struct Row {
-    pub key: Bytes,
-    pub nonce: Bytes,
-}
-
 /// The nonces of each second.
-pub type Seconds = BTreeMap<u64, Vec<Row>>;
+pub type Seconds = BTreeMap<u64, Run>;
 
-/// Adds a nonce to a second. An `Err` changes nothing.
-pub fn note(alloc: Global, seconds: &mut Seconds, end: u64, row: Row) -> Result<(), Mem>
-    ensures ok { OnOk result ((e : ℕ) → rows_at seconds.new e ≡ (if end == e then rows_at seconds.old e ++ row ∷ [] else rows_at seconds.old e)) }
-    ensures err { OnErr result ((e : ℕ) → rows_at seconds.new e ≡ rows_at seconds.old e) }
+/// Adds a nonce of a key to a second. An `Err` adds none.
+pub fn note(
+    alloc: Global,
+    seconds: &mut Seconds,
+    end: u64,
+    key: &[u8],
+    nonce: &[u8],
+) -> Result<(), Mem>
+    ensures ok { OnOk result ((e : ℕ) (k n : List ℕ) → is_noted seconds.new e k n
+        ≡ (is_noted seconds.old e k n || (end == e && (same_text key.now k && same_text nonce.now n)))) }
+    ensures err { OnErr result ((e : ℕ) (k n : List ℕ) → is_noted seconds.new e k n ≡ is_noted seconds.old e k n) }
 {
-    if let Some(rows) = seconds.get_mut(&end) {
-        rows.push(row)?;
+    if let Some(run) = seconds.get_mut(&end) {
+        run.push(key, nonce)?;
         return Ok(());
     }
-    let mut rows = Vec::new(alloc);
-    rows.push(row)?;
-    seconds.insert(end, rows)?;
+    let mut run = Run::new(alloc);
+    run.push(key, nonce)?;
+    seconds.insert(end, run)?;
     Ok(())
 }

@@ -1,11 +1,11 @@
 //! The nonces that are remembered.
 ghost use Rattle.nonce_store.specs.Kept.{Covers, Covers-prop};
 
-use crate::seconds::{Row, Seconds, note};
+use crate::seconds::{Seconds, note};
 use crate::sweeping::sweep;
 use crate::trees::KeyedNonces;
 use bytes_and_lists::bytes::Bytes;
-use bytes_and_lists::memory::{Duplicate, Mem};
+use bytes_and_lists::memory::Mem;
 use signed_calls::nonces::Nonces;
 use std::alloc::Global;
 use std::collections::BTreeMap;
@@ -59,13 +59,10 @@ impl Nonces for NonceStore {
     }
 
     fn remember(&mut self, key: &Bytes, nonce: &Bytes, end: u64) -> Result<(), Mem> {
-        let row = Row {
-            key: key.copy()?,
-            nonce: nonce.copy()?,
-        };
-        note(self.alloc, &mut self.seconds, end, row)?;
-        self.kept
-            .put(self.alloc, key.as_slice(), nonce.as_slice(), end)
+        let key = key.as_slice();
+        let nonce = nonce.as_slice();
+        note(self.alloc, &mut self.seconds, end, key, nonce)?;
+        self.kept.put(self.alloc, key, nonce, end)
     }
 
     fn forget(&mut self, key: &Bytes, nonce: &Bytes, _end: u64) {

@@ -1,7 +1,6 @@
 //! A core that keeps the sets.
 ghost use Rattle.std.specs.Prelude.{◌≡◌, ◌≢◌, ℕ, [], None, Some, IfOk, OnErr};
-ghost use Rattle.std.specs.List.{AllByRecursion, list_all};
-ghost use Rattle.gnap_model.specs.Rights.{serves as names_serve};
+ghost use Rattle.std.specs.List.{AllByRecursion};
 ghost use Rattle.gnap_model.specs.Keys.{key_of, server_names as names_of_server};
 ghost use Rattle.gnap_model.specs.Judging.{serves_all};
 ghost use Rattle.access_rights.specs.Fits.{Fits};
@@ -13,13 +12,13 @@ ghost use Rattle.resource_sets.specs.declared.sets.SetCall.TheVariants.{Lapse};
 use crate::fingerprints::fingerprint;
 use crate::registry::{RegisteredSet, Registry};
 use crate::sets::{SetCall, SetReply, Sets};
-use access_rights::served::serves;
 use bytes_and_lists::bytes::Bytes;
 use bytes_and_lists::memory::Mem;
 use bytes_and_lists::seq::Seq;
 use gnap_model::objects::{ErrorCode, Setup};
-use gnap_model::rights::{Names, Right, Rights};
+use gnap_model::rights::Rights;
 use grant_rules::keys::server_names;
+use grant_rules::suiting::serves_each;
 use grant_rules::values::value_text;
 use histories::machine::Core;
 use std::alloc::Global;
@@ -34,18 +33,6 @@ pub struct SetTable {
     rules: Setup,
     latest: u64,
     sets: Registry,
-}
-
-// The server with these names serves each of the rights.
-fn serves_each(names: &Names, rights: &[Right]) -> bool
-    ensures { result ≡ list_all (names_serve names.now) rights.now }
-{
-    for right in rights {
-        if !serves(names, right) {
-            return false;
-        }
-    }
-    true
 }
 
 // The server serves each of the rights.

@@ -21,10 +21,12 @@ joined-next [] ts = append-nil ts
 joined-next (us ∷ tss) ts = ap (λ x. us ++ x) (joined-next tss ts) ∙ sym (append_assoc us (joined tss) ts)
 
 -- the steps of one more connection come after those before
-steps-next : {K : Type 0} (tss : List (List (RsTurn K))) (ts : List (RsTurn K)) → entries_in (joined (tss ++ ts ∷ [])) ≡ entries_in (joined tss) ++ entries_in ts
+steps-next : {K : Type 0} (tss : List (List (RsTurn K))) (ts : List (RsTurn K))
+    → entries_in (joined (tss ++ ts ∷ [])) ≡ entries_in (joined tss) ++ entries_in ts
 steps-next tss ts = ap entries_in (joined-next tss ts) ∙ entries_in-append (joined tss) ts
 
-sessions-next : {K : Type 0} (guards : GuardsKeeping K) (setup : RsSetup) (conns : List Served) (tss : List (List (RsTurn K))) (conn : Served) (ts : List (RsTurn K))
+sessions-next : {K : Type 0} (guards : GuardsKeeping K) (setup : RsSetup) (conns : List Served) (tss : List (List (RsTurn K))) (conn : Served)
+    (ts : List (RsTurn K))
     → RsSessions guards setup conns tss → IsRsSession guards setup conn ts → RsSessions guards setup (conns ++ conn ∷ []) (tss ++ ts ∷ [])
 sessions-next guards setup [] [] conn ts are is = (is, tt)
 sessions-next guards setup [] (us ∷ tss) conn ts are is = absurd are
@@ -32,7 +34,8 @@ sessions-next guards setup (c ∷ conns) [] conn ts are is = absurd are
 sessions-next guards setup (c ∷ conns) (us ∷ tss) conn ts are is = (are.0, sessions-next guards setup conns tss conn ts are.1 is)
 
 -- nothing was done yet
-pub account_start : {K : Type 0} (guards : GuardsKeeping K) (setup : RsSetup) (first : K) (gear : GearState) (asked : List Exchange) → IsUnused gear → asked ≡ []
+pub account_start : {K : Type 0} (guards : GuardsKeeping K) (setup : RsSetup) (first : K) (gear : GearState) (asked : List Exchange) → IsUnused gear
+    → asked ≡ []
     → IsRsAccount guards setup first gear.log asked first
 account_start guards setup first gear asked unused none =
     let log : gear.log ≡ empty_log = ap (λ (g : GearState). g.log) unused in
@@ -45,7 +48,8 @@ account_start guards setup first gear asked unused none =
       chained = refl;
     }
 
-module _ {K : Type 0} (guards : GuardsKeeping K) (setup : RsSetup) (gear gear1 gear2 gear3 : GearState) (link link1 : LinkState) (kept kept1 : K) (conn : Served)
+module _ {K : Type 0} (guards : GuardsKeeping K) (setup : RsSetup) (gear gear1 gear2 gear3 : GearState) (link link1 : LinkState) (kept kept1 : K)
+    (conn : Served)
     (ended : ConnectionEnd EdgeFault) (gave : gear1 ≡ record gear { out = gear.out + 1; left = gear.left - 1 }) (some : 0 < gear.left)
     (serves : ServesResources guards setup link link1 kept kept1 gear1 gear2 conn ended) where
   pub one_out : 0 < gear2.out
@@ -76,7 +80,8 @@ module _ {K : Type 0} (guards : GuardsKeeping K) (setup : RsSetup) (gear gear1 g
           ∙ sym (moments_in-append (joined account.turns) serves.turns) ∙ ap moments_in (sym (joined-next account.turns serves.turns));
       draws = draws_now ∙ append-nil gear.log.draws ∙ account.draws;
       asked_is = serves.over.adds ∙ ap (λ es. es ++ exchanges_in (entries_in serves.turns)) account.asked_is
-          ∙ sym (exchanges-append (entries_in (joined account.turns)) (entries_in serves.turns)) ∙ ap exchanges_in (sym (steps-next account.turns serves.turns));
+          ∙ sym (exchanges-append (entries_in (joined account.turns)) (entries_in serves.turns))
+          ∙ ap exchanges_in (sym (steps-next account.turns serves.turns));
       chained = subst (λ steps. Chained first steps kept1) (sym (steps-next account.turns serves.turns))
           (chained-append (entries_in (joined account.turns)) (entries_in serves.turns) first kept kept1 account.chained serves.chained);
     }

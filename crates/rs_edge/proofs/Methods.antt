@@ -54,9 +54,11 @@ methods_letters : (path : List ℕ) (routes : List Route) → AllByRecursion Rou
 methods_letters path [] fits = tt
 methods_letters path (r ∷ routes) fits = by (has_path path r) (methods_letters path routes fits.1)
   where
-    by : (b : Bool) → AreLetters (methods_at path routes) → AreLetters (map (λ (r : Route). r.method) (cond b (r ∷ filter (has_path path) routes) (filter (has_path path) routes)))
+    by : (b : Bool) → AreLetters (methods_at path routes) → AreLetters
+        (map (λ (r : Route). r.method) (cond b (r ∷ filter (has_path path) routes) (filter (has_path path) routes)))
     by true rest = (method_letters r.method fits.0.method, rest)
     by false rest = rest
 
-pub allow_letters : (path : List ℕ) (routes : List Route) → AllByRecursion RouteFits routes → list_all is_method_byte (allow_text (methods_at path routes)) ≡ true
+pub allow_letters : (path : List ℕ) (routes : List Route) → AllByRecursion RouteFits routes
+    → list_all is_method_byte (allow_text (methods_at path routes)) ≡ true
 allow_letters path routes fits = text_letters (methods_at path routes) (methods_letters path routes fits)

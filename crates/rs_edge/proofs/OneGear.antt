@@ -49,7 +49,8 @@ module _ {K : Type 0} (guards : GuardsKeeping K) (setup : RsSetup) (kept kept_no
 
 -- ---- in a world
 
-module _ {K : Type 0} (guards : GuardsKeeping K) (setup : RsSetup) (kept kept_now : K) (listen server : List ℕ) (quota : ℕ) (before opened started stopped after : WorldState)
+module _ {K : Type 0} (guards : GuardsKeeping K) (setup : RsSetup) (kept kept_now : K) (listen server : List ℕ) (quota : ℕ)
+    (before opened started stopped after : WorldState)
     (link : LinkState) (gears : List GearState)
     (link_is : opened ≡ with_opening (opening.Link server) before) (gears_are : started ≡ with_opening (opening.Gears listen 1 quota) opened)
     (gears_back : stopped ≡ with_gears gears started) (link_back : after ≡ with_link link stopped) where
@@ -67,9 +68,11 @@ module _ {K : Type 0} (guards : GuardsKeeping K) (setup : RsSetup) (kept kept_no
   served_well done one = served (Ok done) link one.gear kept_now (state_is one.gear one.one) one.over
       (All-push IsUsedUp [] one.gear (All-nil IsUsedUp) (one.used_up refl))
 
-pub unstarted : {K : Type 0} (guards : GuardsKeeping K) {D : Type 0} (setup : RsSetup) (kept : K) (listen server : List ℕ) (quota : ℕ) (before opened unopened after : WorldState)
+pub unstarted : {K : Type 0} (guards : GuardsKeeping K) {D : Type 0} (setup : RsSetup) (kept : K) (listen server : List ℕ) (quota : ℕ)
+    (before opened unopened after : WorldState)
     (link : LinkState) (fault : WorldFault)
-    → opened ≡ with_opening (opening.Link server) before → unopened ≡ record opened { faults = unopened.faults } → HasWorldCause opened.faults unopened.faults fault
+    → opened ≡ with_opening (opening.Link server) before → unopened ≡ record opened { faults = unopened.faults }
+    → HasWorldCause opened.faults unopened.faults fault
     → link ≡ new_link → after ≡ with_link link unopened
     → (let r : Result D WorldFault = Err fault in IsRsService guards setup listen server quota before after kept kept r)
 unstarted guards setup kept listen server quota before opened unopened after link fault link_is same cause new back =

@@ -28,9 +28,11 @@ use Rattle.rs_edge.specs.RsSessions.{ServesResources}
 use Rattle.rs_edge.specs.RsReplies.{rs_reply}
 use Rattle.rs_edge.specs.RsTurns.{IsRsTurn, answered, starved}
 
-module _ {L K Kept : Type 0} (link : L → LinkState) (kept : K → Kept) (guards : GuardsKeeping Kept) (setup : RsSetup) (last : Bool) (m : Message) (moment : ℕ) (answer : Guarded)
+module _ {L K Kept : Type 0} (link : L → LinkState) (kept : K → Kept) (guards : GuardsKeeping Kept) (setup : RsSetup) (last : Bool) (m : Message) (moment : ℕ)
+    (answer : Guarded)
     (before after : GuardedLink L K) (gear gear_now : GearState) (conn conn_now : Told) (faults faults_now : ℕ) (next : AfterTurn)
-    (over : GuardsOver (λ exchanges answer. guards setup m moment (kept before.guard.now) exchanges answer (kept after.guard.now)) (link before.link.now) (link after.link.now) answer)
+    (over : GuardsOver (λ exchanges answer. guards setup m moment (kept before.guard.now) exchanges answer (kept after.guard.now)) (link before.link.now)
+    (link after.link.now) answer)
     (same_link : after.link.ghost_name ≡ before.link.ghost_name) (same_guard : after.guard.ghost_name ≡ before.guard.ghost_name)
     (used : gear_now ≡ with_moment moment gear) (past : LinkState × Kept) (is_past : (past.0 ≡ link before.link.now) × (past.1 ≡ kept before.guard.now)) where
   abbrev step : GuardedStep Kept
@@ -53,21 +55,25 @@ module _ {L K Kept : Type 0} (link : L → LinkState) (kept : K → Kept) (guard
   pub answered_turn : (reply : HttpReply) → reply ≡ rs_reply setup m last answer → answer ≢ guarded.Memory
       → HasWrittenText (reply_bytes reply) conn conn_now faults faults_now next → next ≢ OutOfMemory
       → TakesTurn (guarded_link link kept setup) (IsRsTurn guards setup) last m before past after gear gear_now conn conn_now faults faults_now next
-  answered_turn reply is fed written on = turn-of (guarded_link link kept setup) (IsRsTurn guards setup) last m before past after (link after.link.now, kept after.guard.now) moment
+  answered_turn reply is fed written on = turn-of (guarded_link link kept setup) (IsRsTurn guards setup) last m before past after
+      (link after.link.now, kept after.guard.now) moment
       (step ∷ []) gear gear_now conn conn_now faults faults_now next (reply_bytes (rs_reply setup m last answer)) true entered (omega arith)
       (subst (λ (r : HttpReply). HasWrittenText (reply_bytes r) conn conn_now faults faults_now next) is written)
       (follows_on next on) (answered m moment step over.guarded fed)
 
   pub starved_turn : HasWrittenText (reply_bytes busy_reply) conn conn_now faults faults_now next → next ≢ MoreMayCome
       → TakesTurn (guarded_link link kept setup) (IsRsTurn guards setup) last m before past after gear gear_now conn conn_now faults faults_now next
-  starved_turn written off = turn-of (guarded_link link kept setup) (IsRsTurn guards setup) last m before past after (link after.link.now, kept after.guard.now) moment
+  starved_turn written off = turn-of (guarded_link link kept setup) (IsRsTurn guards setup) last m before past after
+      (link after.link.now, kept after.guard.now) moment
       (step ∷ []) gear gear_now conn conn_now faults faults_now next (reply_bytes busy_reply) false entered (omega arith) written
       (follows_none next off) (starved m moment step over.guarded)
 
 -- what was served with a link and a guard, which are given back
-pub over_link : {L K Kept : Type 0} (link : L → LinkState) (kept : K → Kept) (guards : GuardsKeeping Kept) (setup : RsSetup) (before after : GuardedLink L K) (l : L) (k : K)
+pub over_link : {L K Kept : Type 0} (link : L → LinkState) (kept : K → Kept) (guards : GuardsKeeping Kept) (setup : RsSetup) (before after : GuardedLink L K)
+    (l : L) (k : K)
     (gear gear_now : GearState) (conn : Served) (ended : ConnectionEnd EdgeFault) → l ≡ after.link.now → k ≡ after.guard.now
-    → ServesTurns (guarded_link link kept setup) edge_wire (IsRsTurn guards setup) before (link before.link.now, kept before.guard.now) after gear gear_now conn ended
+    → ServesTurns (guarded_link link kept setup) edge_wire (IsRsTurn guards setup) before
+    (link before.link.now, kept before.guard.now) after gear gear_now conn ended
     → ServesResources guards setup (link before.link.now) (link l) (kept before.guard.now) (kept k) gear gear_now conn ended
 over_link link kept guards setup before after l k gear gear_now conn ended link_is guard_is serves = record {
   turns = serves.turns;

@@ -12,7 +12,8 @@ use Rattle.rs_edge.specs.Exchanges.{adds-none, adds-more, exchanges-append, chai
 
 module _ {L K Kept : Type 0} (link : L → LinkState) (kept : K → Kept) where
   -- Steps were made with the same link and the same guard. The link has their exchanges more, and each began with what the one before it kept.
-  pub record MakesSteps (before : GuardedLink L K) (past : LinkState × Kept) (steps : List (GuardedStep Kept)) (after : GuardedLink L K) (now : LinkState × Kept) : Type 0 where
+  pub record MakesSteps (before : GuardedLink L K) (past : LinkState × Kept) (steps : List (GuardedStep Kept)) (after : GuardedLink L K)
+      (now : LinkState × Kept) : Type 0 where
     pub link_is : now.0 ≡ link after.link.now
     pub kept_is : now.1 ≡ kept after.guard.now
     pub over : AddsExchanges (exchanges_in steps) past.0 now.0

@@ -6,3 +6,4 @@ pub mod GuardedLinks
 pub mod RsSessions
 pub mod RsWholes
 pub mod RsServices
+pub mod CachedTurns

@@ -17,7 +17,8 @@ use Rattle.rs_edge.specs.RsTurns.{RsTurn, IsRsTurn}
 module _ {K : Type 0} (guards : GuardsKeeping K) (setup : RsSetup) where
   -- A connection was served: its requests in order, each by a turn. The gear gave the moments of these turns, the link made their exchanges, and
   -- no others, and each turn began with what the one before it kept.
-  pub record ServesResources (link link_now : LinkState) (kept kept_now : K) (gear gear_now : GearState) (conn : Served) (ended : ConnectionEnd EdgeFault) : Type 0 where
+  pub record ServesResources (link link_now : LinkState) (kept kept_now : K) (gear gear_now : GearState) (conn : Served)
+      (ended : ConnectionEnd EdgeFault) : Type 0 where
     pub turns : List (RsTurn K)
     pub session : Session edge_wire (IsRsTurn guards setup) conn turns ended
     pub over : AddsExchanges (exchanges_in (entries_in turns)) link link_now
@@ -35,7 +36,8 @@ module _ {K : Type 0} (guards : GuardsKeeping K) (setup : RsSetup) where
   RsSessions (conn ∷ conns) (turns ∷ more) = IsRsSession conn turns × RsSessions conns more
 
   -- What a gear and a link tell, where this was kept first and that last: the connections were served by turns, in order; the moments are those of these
-  -- turns, no words were drawn, and the exchanges are those of these turns and no others. What a turn kept, the next one began with, also on another connection.
+  -- turns, no words were drawn, and the exchanges are those of these turns and no others. What a turn kept, the next one began with, also on another
+  -- connection.
   pub record IsRsAccount (first : K) (log : Log) (asked : List Exchange) (last : K) : Type 0 where
     pub turns : List (List (RsTurn K))
     pub sessions : RsSessions log.served turns

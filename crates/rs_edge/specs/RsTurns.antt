@@ -17,7 +17,8 @@ pub data IsRsTurn {K : Type 0} (guards : GuardsKeeping K) (setup : RsSetup) (las
   -- it was guarded, and the reply to the answer was written
   answered : (m : Message) → (moment : ℕ) → (step : GuardedStep K) → guards setup m moment step.before step.exchanges step.answer step.after
       → step.answer ≢ guarded.Memory
-      → IsRsTurn guards setup last (record { message = m; moment = moment; entries = step ∷ []; bytes = reply_bytes (rs_reply setup m last step.answer); on = true })
+      → IsRsTurn guards setup last
+      (record { message = m; moment = moment; entries = step ∷ []; bytes = reply_bytes (rs_reply setup m last step.answer); on = true })
   -- memory ran out: while it was guarded, or when its reply was made
   starved : (m : Message) → (moment : ℕ) → (step : GuardedStep K) → guards setup m moment step.before step.exchanges step.answer step.after
       → IsRsTurn guards setup last (record { message = m; moment = moment; entries = step ∷ []; bytes = reply_bytes busy_reply; on = false })

@@ -6,6 +6,7 @@
 //! server (`serving`), and what is no request is refused in the same way.
 #![tactic(auto)]
 
+pub mod cached_connections;
 pub mod connections;
 pub mod doors;
 mod guarded_link;
@@ -15,6 +16,7 @@ mod replies;
 mod service;
 mod turns;
 
+pub use cached_connections::serve_cached;
 pub use connections::serve_resources;
 pub use doors::serve_door;
 pub use service::serve_resources_at;

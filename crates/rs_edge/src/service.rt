@@ -50,7 +50,8 @@ pub fn serve_resources_at<K: RequestGuard, W: World>(
 ) -> Result<(), WorldFault>
     requires { RsSetupFits setup.now }
     ensures text { W.text world.new ≡ W.text world.old }
-    ensures served { IsRsService K.guards setup.now listen.now server.now quota (W.state world.old) (W.state world.new) (K.kept guard.old) (K.kept guard.new) result }
+    ensures served { IsRsService K.guards setup.now listen.now server.now quota (W.state world.old) (W.state world.new)
+        (K.kept guard.old) (K.kept guard.new) result }
 {
     let mut link = match world.open_link(server) {
         Ok(link) => link,

@@ -1,7 +1,9 @@
 -- What the laws of the machine without marks say of a legal history with marks.
-use Rattle.std.proofs.Common.{◌≡◌, ◌∙◌, ◌≤◌, ◌^◌, ℕ, ◌⊎◌, inl, inr, Bool, true, false, List, [], ◌∷◌, ◌++◌, length, reverse, refl, ap, sym, subst, arith, if◌then◌else◌}
+use Rattle.std.proofs.Common.{◌≡◌, ◌∙◌, ◌≤◌, ◌^◌, ℕ, ◌⊎◌, inl, inr, Bool, true, false, List, [], ◌∷◌, ◌++◌, length, reverse, refl, ap, sym, subst, arith, length-append, if◌then◌else◌}
 use Rattle.std.proofs.lemmas.Bool.{cases_Bool}
+use Rattle.std.specs.Prelude.{Contains}
 use Rattle.std.proofs.lemmas.List.{reverse-reverse, length-reverse}
+use Rattle.std.proofs.lemmas.List.Elements.{Contains-append_left, Contains-append_right, Contains-push}
 use Rattle.histories.specs.History.{Follows, Legal, notes_of, now}
 use Rattle.histories.specs.Histories.{legal-append, legal-front}
 use Rattle.gnap_model.specs.declared.objects.Setup.{Setup}
@@ -10,14 +12,18 @@ use Rattle.gnap_model.specs.declared.objects.ErrorCode.TheVariants.{InvalidClien
 use Rattle.gnap_model.specs.declared.notes.Note.{Note}
 use Rattle.gnap_model.specs.declared.calls.Call.{Call}
 use Rattle.gnap_model.specs.declared.calls.Call.TheVariants.{Lapse}
+use Rattle.gnap_model.specs.declared.calls.Reply.{Reply}
+use Rattle.gnap_model.specs.declared.calls.TokenOut.{TokenOut}
 use Rattle.gnap_model.specs.declared.calls.Reply.TheVariants.{Error, Lapsed}
 use Rattle.gnap_model.specs.Common.{Text}
 use Rattle.gnap_model.specs.Notes.{Event}
 use Rattle.gnap_model.specs.Answer.{gnap_answer}
 use Rattle.gnap_model.specs.Legal.{HasFewAsks, grant_law}
-use Rattle.gnap_laws.specs.Laws.{SaysActive, RefusalsHaveCauses}
+use Rattle.gnap_laws.specs.Laws.{SaysActive, RefusalsHaveCauses, RotatedKeysBind}
 use Rattle.gnap_laws.specs.Refusals.{HasCause}
-use Rattle.gnap_laws.specs.Provenance.{is_active, presented_door, IsRefusedAfter}
+use Rattle.gnap_laws.specs.Provenance.{is_active, presented_door, ends_token, IsRefusedAfter}
+use Rattle.gnap_laws.specs.BoundKeys.{RotatesTo, TellsKey, IsBoundTo}
+use Rattle.gnap_laws.proofs.Members.{contains_none, contains_cases}
 use Rattle.signed_calls.specs.Marks.{SignedEvent, SignedFewAsks, plain_notes, signed_law}
 use Rattle.signed_calls.specs.PlainPast.{is_refused_after, is_refused, plain_entry, plain_past, plain_history, bare_entry, bare_past}
 use Rattle.signed_calls.specs.Laws.{SaysActiveAt, HasSignedCause, IsRefusedSince}
@@ -124,3 +130,55 @@ refused_since rules (e ∷ past) value legal refused =
       ],
       refused_since rules past value last.1 refused.1,
     )
+
+-- ---- a rotation that named a key
+
+contains_turned : {A : Type 0} (y : A) (xs : List A) → Contains xs y → Contains (reverse xs) y
+contains_turned y [] h = h
+contains_turned {A} y (x ∷ xs) h = subst (λ (l : List A). Contains l y) (sym (turned x xs)) (elim (contains_cases x y xs h) [
+  | inl same ↦ subst (λ z. Contains (reverse xs ++ x ∷ []) z) same (Contains-push (reverse xs) x)
+  | inr there ↦ Contains-append_left (reverse xs) (x ∷ []) y (contains_turned y xs there)
+])
+
+-- an entry whose mark isn't refused is among the plain ones, with its call and its reply
+accepted_among : (rules : Setup) (past : List SignedEvent) (e : SignedEvent) → Legal signed_law rules (reverse past) → (e.reply ≡ Error InvalidClient → ⊥)
+    → Contains past e → Contains (plain_past past) (plain_entry false e)
+accepted_among rules [] e legal accepted h = contains_none e h
+accepted_among rules (x ∷ past) e legal accepted h =
+    let last = legal_last rules x past legal in
+    elim (contains_cases x e past h) [
+      | inl same ↦ elim (cases_Bool (is_refused past x)) [
+        | inl is ↦ absurd (accepted (ap (λ (y : SignedEvent). y.reply) (sym same) ∙ (is_answered SignedFewAsks rules (reverse past) x true is last.0).reply))
+        | inr is ↦ subst (λ (y : Event). Contains (y ∷ plain_past past) (plain_entry false e))
+            (ap (plain_entry false) (sym same) ∙ ap (λ b. plain_entry b x) (sym is))
+            (Contains-append_left (plain_entry false e ∷ []) (plain_past past) (plain_entry false e) (Contains-push [] (plain_entry false e)))
+      ]
+      | inr there ↦ Contains-append_right (plain_entry (is_refused past x) x ∷ []) (plain_past past) (plain_entry false e)
+          (accepted_among rules past e last.1 accepted there)
+    ]
+
+pub few_before : (before : List SignedEvent) (e : SignedEvent) (after : List SignedEvent) → length (before ++ e ∷ after) ≤ 2 ^ 58 → length before ≤ 2 ^ 58
+few_before before e after few = let k = length-append before (e ∷ after) in omega arith
+
+refused_bound : (trail : List Note) (at : ℕ) (call : Call) (reply : Reply) (token : TokenOut) (key : Text) → reply ≡ Error InvalidClient → IsBoundTo trail at call reply token key
+refused_bound trail at call reply token key is = record {
+  told = λ server binding wanted asks. subst (λ (r : Reply). TellsKey r key) (sym is) tt;
+  kept = λ presents other. ap ends_token is;
+  refused = λ live found presents other. is;
+}
+
+pub signed_bound : (rules : Setup) (before : List SignedEvent) (e : SignedEvent) (after : List SignedEvent) (rotation : SignedEvent) (token : TokenOut) (key : Text) → RotatedKeysBind
+    → Legal signed_law rules (before ++ e ∷ after) → length before ≤ 2 ^ 58 → Contains before rotation → RotatesTo rotation.call.call rotation.reply token key
+    → IsBoundTo (reverse (plain_notes (notes_of before))) (now before e.moment) e.call.call e.reply token key
+signed_bound rules before e after rotation token key law legal few among rotates =
+    let follows : Follows signed_law rules before e = legal before e after refl in
+    let front = legal-front signed_law rules before (e ∷ after) legal in
+    let plain_among : Contains (plain_history before) (plain_entry false rotation) = contains_turned (plain_entry false rotation) (plain_past (reverse before))
+    (accepted_among rules (reverse before) rotation (reversed_legal rules before front) (λ refused. let no = sym refused ∙ rotates.3 in cc no) (contains_turned rotation before among)) in
+    elim (cases_Bool (is_refused_after before e)) [
+      | inl is ↦ refused_bound (reverse (plain_notes (notes_of before))) (now before e.moment) e.call.call e.reply token key (is_answered SignedFewAsks rules before e true is follows).reply
+      | inr is ↦ subst (λ n. IsBoundTo (reverse (plain_notes (notes_of before))) n e.call.call e.reply token key) (history_now before e.moment)
+          (subst (λ (ns : List Note). IsBoundTo (reverse ns) (now (plain_history before) e.moment) e.call.call e.reply token key) (history_notes before)
+          (law rules (plain_history before) (plain_entry false e) [] (plain_entry false rotation) token key (history_next rules before e after false is legal)
+          (history_few before few) plain_among rotates))
+    ]

@@ -19,10 +19,12 @@ use Rattle.gnap_model.specs.declared.calls.Call.TheVariants.{Introspect}
 use Rattle.gnap_laws.specs.Laws.{IsWithinLimits}
 use Rattle.gnap_laws.specs.Provenance.{is_active, tells_all, drawn_by, presented_door, uses_up, IsOnce}
 use Rattle.gnap_model.specs.declared.objects.Setup.{Setup}
+use Rattle.gnap_model.specs.declared.calls.TokenOut.{TokenOut}
 use Rattle.gnap_model.specs.declared.calls.Reply.{Reply}
 use Rattle.gnap_model.specs.declared.calls.Reply.TheVariants.{Error}
 use Rattle.gnap_model.specs.declared.objects.ErrorCode.TheVariants.{InvalidClient, InvalidContinuation}
 use Rattle.gnap_laws.specs.Refusals.{caller, HasCause}
+use Rattle.gnap_laws.specs.BoundKeys.{RotatesTo, IsBoundTo}
 use Rattle.gnap_model.specs.Legal.{HasFewAsks}
 use Rattle.signed_calls.specs.Marks.{Mark, SignedEvent, is_remembered, plain_notes, signed_law}
 use Rattle.signed_calls.specs.PlainPast.{IsPlain, is_refused_after, is_refused, bare_past}
@@ -97,6 +99,11 @@ pub record SignedHolds (rules : Setup) (h : List SignedEvent) : Type 0 where
   pub codes_are_free : (before : List SignedEvent) (e : SignedEvent) (after : List SignedEvent) (round : RoundNote) (code : Text)
       → h ≡ before ++ e ∷ after → Contains (plain_notes e.notes) (Pended round) → round.code ≡ Some code
       → round_by_code (reverse (plain_notes (notes_of before))) (now before e.moment) code ≡ None
+  -- after a rotation that named a key every introspection tells the new token's key as that, and no other key rotates or revokes it (RFC 9635,
+  -- section 6.1.1)
+  pub keys_bind : (before : List SignedEvent) (e : SignedEvent) (after : List SignedEvent) (rotation : SignedEvent) (token : TokenOut) (key : Text)
+      → h ≡ before ++ e ∷ after → Contains before rotation → RotatesTo rotation.call.call rotation.reply token key
+      → IsBoundTo (reverse (plain_notes (notes_of before))) (now before e.moment) e.call.call e.reply token key
   -- of the entries with one key and mark, neither cancellations nor revocations, at most one is answered otherwise than by invalid_client
   pub marks_once : (key : Text) (mark : Mark) → IsMarkOnce key mark (reverse h)
 

@@ -3,7 +3,7 @@ ghost use Rattle.signed_calls.specs.Laws.{PlainHistories, MarksPassOnce, SignedH
 
 use gnap_laws::laws::{
     doors_open_once, drawn_codes_are_free, drawn_values_differ, limits_hold, refusals_have_causes,
-    says_active, tells_what_came, wrong_references_are_few,
+    rotated_keys_bind, says_active, tells_what_came, wrong_references_are_few,
 };
 
 /// A legal history of the machine with marks is a legal history of the machine without, where a lapse stands in place of each entry whose mark is
@@ -29,5 +29,6 @@ pub fn signed_histories_hold()
     drawn_codes_are_free();
     drawn_values_differ();
     doors_open_once();
+    rotated_keys_bind();
     marks_pass_once();
 }

@@ -1,22 +1,24 @@
 //! Values under names, in order.
-ghost use Rattle.std.specs.Prelude.{◌≡◌, ◌<◌, ℕ, List, [], Some, length, slice_get, if◌then◌else◌, IfOk, OnOk, OnErr};
-ghost use Rattle.std.specs.Option.{option_copied, unwrap_or};
+ghost use Rattle.std.specs.Prelude.{◌≡◌, ◌<◌, ◌≤◌, ℕ, List, [], Some, None, length, slice_get, if◌then◌else◌, IfSome, OnOk, OnErr};
+ghost use Rattle.std.specs.Option.{option_copied};
 ghost use Rattle.std.specs.Str.{bytes_eq};
-ghost use Rattle.structured_fields.specs.Named.{value_at, with_value, place_in, IsDistinct};
+ghost use Rattle.structured_fields.specs.Named.{value_at, with_value, place_of, place_in, IsDistinct, few};
 
 use bytes_and_lists::bytes::Bytes;
 use bytes_and_lists::memory::{Duplicate, Mem};
-use indexmap::IndexMap;
 use std::alloc::Global;
 use std::collections::BTreeMap;
 use std::marker::Model;
 
+// So many entries are looked through one by one. Behind them a tree finds a name, since names come from others, who could send thousands, or choose
+// such as collide under a hash.
+const FEW: usize = 8;
+
 /// Values under distinct names, in the order in which the names came. Contracts see the list of names and values.
 #[derive(Drop)]
 pub struct Named<V: Drop> {
-    // The entries in order, each under its place.
-    map: IndexMap<usize, (Bytes, V)>,
-    // The place of each name. A tree finds it, since names come from others, who could choose such as collide under a hash.
+    entries: Vec<(Bytes, V)>,
+    // The place of each name behind the first few.
     places: BTreeMap<Vec<u8>, usize>,
 }
 
@@ -28,38 +30,50 @@ impl<V: Drop> Model for Named<V> {
 
     ghost coded = { coded_list (coded× (coded_list coded_ℕ) V.code) };
 
-    ghost use Rattle.structured_fields.specs.Named.{named, ArePlaced, Finds, IsDistinct};
+    ghost use Rattle.structured_fields.specs.Named.{Finds, IsDistinct};
 
-    ghost view = { λ p. named p.map.entries };
+    ghost view = { λ p. p.entries.items };
 
-    ghost invariant = { λ p. ArePlaced 0 p.map.entries × Finds p.places (named p.map.entries) × IsDistinct (named p.map.entries) };
+    ghost invariant = { λ p. Finds p.places p.entries.items × IsDistinct p.entries.items };
 }
 
-// The place of a name in the tree, which is the next one where the name is new. An `Err` changes nothing.
-#[tactic(auto, using(crate::proofs::Places::place_there))]
-fn place_or(
+// The place of a name in a list of entries.
+fn place_among<V>(entries: &[(Bytes, V)], name: &[u8]) -> Option<usize>
+    ensures { result ≡ place_of entries.now name.now }
+{
+    for (i, entry) in entries.iter().enumerate() {
+        if name == entry.0.as_slice() {
+            return Some(i);
+        }
+    }
+    None
+}
+
+// Tells the tree the place of a new name, unless it is among the first few. An `Err` changes nothing.
+fn note_place(
     alloc: Global,
     places: &mut BTreeMap<Vec<u8>, usize>,
     name: &[u8],
-    next: usize,
-) -> Result<usize, Mem>
-    ensures place { IfOk result (λ place. place ≡ unwrap_or (place_in places.old name.now) next) }
-    ensures finds { IfOk result (λ place. (q : List ℕ) → place_in places.new q ≡ (if bytes_eq q name.now then Some place else place_in places.old q)) }
+    place: usize,
+) -> Result<(), Mem>
+    ensures front { place < few → OnOk result (places.new.entries ≡ places.old.entries) }
+    ensures behind { few ≤ place → OnOk result ((q : List ℕ) → place_in places.new q ≡ (if bytes_eq q name.now then Some place else place_in places.old q)) }
     ensures err { OnErr result (places.new.entries ≡ places.old.entries) }
 {
-    if let Some(place) = places.get(name) {
-        return Ok(*place);
+    if place < FEW {
+        return Ok(());
     }
-    places.insert(Vec::from_slice(alloc, name)?, next)?;
-    Ok(next)
+    places.insert(Vec::from_slice(alloc, name)?, place)?;
+    Ok(())
 }
 
 impl<V: Drop> Named<V> {
+    /// No values. Takes no memory.
     pub fn new(alloc: Global) -> Self
         ensures { result ≡ [] }
     {
         Named {
-            map: IndexMap::new(alloc),
+            entries: Vec::new(alloc),
             places: BTreeMap::new(alloc),
         }
     }
@@ -68,24 +82,54 @@ impl<V: Drop> Named<V> {
         ensures len { result ≡ length self.now }
         ensures distinct { IsDistinct self.now }
     {
-        self.map.len()
+        self.entries.len()
     }
 
     pub fn at(&self, i: usize) -> (&Bytes, &V)
         requires { i < length self.now }
         ensures { slice_get self.now i ≡ Some (result.0.now, result.1.now) }
     {
-        let (_, pair) = self.map.get_index(i).unwrap();
+        let pair = &self.entries[i];
         (&pair.0, &pair.1)
+    }
+
+    // The place of a name.
+    fn place(&self, name: &[u8]) -> Option<usize>
+        ensures place { result ≡ place_of self.now name.now }
+        ensures within { IfSome result (λ i. i < length self.now) }
+    {
+        if self.len() <= FEW {
+            return place_among(self.entries.as_slice(), name);
+        }
+        match place_among(&self.entries[..FEW], name) {
+            Some(place) => Some(place),
+            None => self.places.get(name).copied(),
+        }
     }
 
     /// The value under the name. None exactly where the name isn't there.
     pub fn get(&self, name: &[u8]) -> Option<&V>
         ensures { option_copied result ≡ value_at self.now name.now }
     {
-        let place = self.places.get(name)?;
-        let (_, value) = self.at(*place);
+        let (_, value) = self.at(self.place(name)?);
         Some(value)
+    }
+
+    // Puts a new name and its value last. An `Err` changes nothing.
+    fn add(&mut self, name: Bytes, value: V) -> Result<(), Mem>
+        requires { place_of self.old name ≡ None }
+        ensures ok { OnOk result (self.new ≡ with_value self.old name value) }
+        ensures err { OnErr result (self.new ≡ self.old) }
+    {
+        // With room for the entry nothing fails once the tree has the name.
+        let place = self.len();
+        self.entries.reserve(1)?;
+        let alloc = *self.entries.allocator();
+        note_place(alloc, &mut self.places, name.as_slice(), place)?;
+        match self.entries.push((name, value)) {
+            Ok(()) => Ok(()),
+            Err(_) => unreachable!(),
+        }
     }
 
     /// Puts the value under the name: in its place where the name is there, last where it isn't. An `Err` changes nothing.
@@ -93,21 +137,19 @@ impl<V: Drop> Named<V> {
         ensures ok { OnOk result (self.new ≡ with_value self.old name value) }
         ensures err { OnErr result (self.new ≡ self.old) }
     {
-        // With room in the map nothing fails once the tree has the name.
-        self.map.reserve(1)?;
-        let alloc = *self.map.allocator();
-        let next = self.map.len();
-        let place = place_or(alloc, &mut self.places, name.as_slice(), next)?;
-        match self.map.insert(place, (name, value)) {
-            Ok(_) => Ok(()),
-            Err(_) => unreachable!(),
+        match self.place(name.as_slice()) {
+            Some(place) => {
+                self.entries[place].1 = value;
+                Ok(())
+            }
+            None => self.add(name, value),
         }
     }
 }
 
 impl<V: Duplicate> Duplicate for Named<V> {
     fn copy(&self) -> Result<Named<V>, Mem> {
-        let mut out = Named::new(*self.map.allocator());
+        let mut out = Named::new(*self.entries.allocator());
         for i in 0..self.len() {
             let (name, value) = self.at(i);
             out.set(name.copy()?, value.copy()?)?;

@@ -123,7 +123,7 @@ fn answer_call(
             key,
             value,
             new_key,
-        } => rotate(alloc, grants, tokens, supply, key, value, new_key),
+        } => rotate(alloc, rules, grants, tokens, supply, key, value, new_key),
         Call::Lapse => unreachable!(),
         _ => answer_by_plan(alloc, rules, supply, next, grants, tokens, call),
     }

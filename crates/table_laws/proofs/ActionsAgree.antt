@@ -261,10 +261,10 @@ action_is rules trail supply (Cancel key value) whole =
     named_action trail supply.now value key (λ (row : GrantRow). CancelGrant (opening_of row)) CancelGrant whole.doors (λ o e. refl)
 action_is rules trail supply (Rotate key value new_key) whole =
     managed_action trail supply.now value InvalidRotation
-    (λ (token : TokenRow). if is_live_row supply.now (grant_rows trail supply.now) token then on_row InvalidRotation (grant_rows trail supply.now) key token (rotate_key new_key (token_of token)) else Refuse InvalidRotation)
-    (λ (t : TokenNote). if is_live trail supply.now t then on_grant InvalidRotation trail key t (rotate_key new_key t) else Refuse InvalidRotation)
-    (λ t h going. ap (λ b. if b then on_row InvalidRotation (grant_rows trail supply.now) key (token_row trail t) (rotate_key new_key t) else Refuse InvalidRotation) (live_row_is trail supply.now t whole.grants h)
-    ∙ ap (λ (a : Action). if is_live trail supply.now t then a else Refuse InvalidRotation) (on_row_is InvalidRotation trail supply.now key t (rotate_key new_key t) going))
+    (λ (token : TokenRow). if is_live_row supply.now (grant_rows trail supply.now) token then on_row InvalidRotation (grant_rows trail supply.now) key token (rotate_key rules new_key (token_of token)) else Refuse InvalidRotation)
+    (λ (t : TokenNote). if is_live trail supply.now t then on_grant InvalidRotation trail key t (rotate_key rules new_key t) else Refuse InvalidRotation)
+    (λ t h going. ap (λ b. if b then on_row InvalidRotation (grant_rows trail supply.now) key (token_row trail t) (rotate_key rules new_key t) else Refuse InvalidRotation) (live_row_is trail supply.now t whole.grants h)
+    ∙ ap (λ (a : Action). if is_live trail supply.now t then a else Refuse InvalidRotation) (on_row_is InvalidRotation trail supply.now key t (rotate_key rules new_key t) going))
 action_is rules trail supply (Revoke key value) whole =
     managed_action trail supply.now value InvalidRequest
     (λ (token : TokenRow). on_row InvalidRequest (grant_rows trail supply.now) key token (λ (opening : OpeningNote). RevokeToken (token_of token) token.retired))

@@ -30,10 +30,10 @@ use Rattle.gnap_model.specs.Standing.GrantState.{IsPending, IsApproved, IsFinali
 use Rattle.gnap_model.specs.Begin.{pass_limit, is_past, end_of, ask_user, show_token, opening, begin_by}
 use Rattle.gnap_model.specs.Continue.{is_early, is_wrong, decided_asks, continue_at, collect_or_renew, collect_by}
 use Rattle.gnap_model.specs.Change.{modify_by, tokens_of, other_live_tokens}
-use Rattle.gnap_model.specs.Manage.{rotate_key}
+use Rattle.gnap_model.specs.Manage.{can_bind, rotate_key}
 use Rattle.gnap_model.specs.Front.{may_decide, rights_or}
 use Rattle.gnap_model.specs.Actions.{Action, Supply, on_found, with_owner}
-use Rattle.gnap_model.specs.Actions.Action.{Refuse, ShowToken, ShowInactive, OpenAtOnce, OpenAsking, ShowHandle, TakeDecision, RenewDoor, CollectDecision, WrongReference, LastWrongReference, RefuseAndFinalize, ModifyAtOnce, ModifyAsking, CancelGrant, RevokeToken}
+use Rattle.gnap_model.specs.Actions.Action.{Refuse, ShowToken, ShowInactive, OpenAtOnce, OpenAsking, ShowHandle, TakeDecision, RenewDoor, CollectDecision, WrongReference, LastWrongReference, RefuseAndFinalize, ModifyAtOnce, ModifyAsking, CancelGrant, RotateToken, RevokeToken}
 use Rattle.gnap_model.specs.Answer.{action_of}
 use Rattle.gnap_laws.proofs.Causes.{if_both, if_known}
 
@@ -92,9 +92,9 @@ show_more : (trail : List Note) (now : ℕ) (names : List Text) (binding : Optio
 show_more trail now names binding wanted None = tt
 show_more trail now names binding wanted (Some t) = if_both (MoreCause trail now) (suits names binding wanted t.rights t.bearer) (ShowToken _ t) ShowInactive tt tt
 
-rotate_more : (trail : List Note) (now : ℕ) (new_key : Option Text) (t : TokenNote) (o : OpeningNote) → MoreCause trail now (rotate_key new_key t o)
-rotate_more trail now None t o = tt
-rotate_more trail now (Some k) t o = tt
+rotate_more : (rules : Setup) (trail : List Note) (now : ℕ) (new_key : Option Text) (t : TokenNote) (o : OpeningNote) → MoreCause trail now (rotate_key rules new_key t o)
+rotate_more rules trail now None t o = tt
+rotate_more rules trail now (Some k) t o = if_both (MoreCause trail now) (can_bind rules t.bearer k) (RotateToken o t k) (Refuse _) tt tt
 
 pub more_cause : (rules : Setup) (supply : Supply) (trail : List Note) (call : Call) → MoreCause trail supply.now (action_of rules supply trail call)
 more_cause rules supply trail (Begin key request not_after) =
@@ -117,6 +117,6 @@ more_cause rules supply trail (Modify key value request) = found (MoreCause trai
 more_cause rules supply trail (Cancel key value) = found (MoreCause trail supply.now) _ _ (named_grant trail supply.now value) tt (λ o e. owned (MoreCause trail supply.now) CancelGrant o.key key o (λ c. tt) tt)
 more_cause rules supply trail (Rotate key value new_key) = found (MoreCause trail supply.now) _ _ (managed_token trail supply.now value) tt
     (λ t e. if_both (MoreCause trail supply.now) (is_live trail supply.now t) _ (Refuse _)
-    (found (MoreCause trail supply.now) _ _ (first_of (opening_in t.grant) trail) tt (λ o is. owned (MoreCause trail supply.now) (rotate_key new_key t) t.key key o (λ c. tt) (rotate_more trail supply.now new_key t o))) tt)
+    (found (MoreCause trail supply.now) _ _ (first_of (opening_in t.grant) trail) tt (λ o is. owned (MoreCause trail supply.now) (rotate_key rules new_key t) t.key key o (λ c. tt) (rotate_more rules trail supply.now new_key t o))) tt)
 more_cause rules supply trail (Revoke key value) = found (MoreCause trail supply.now) _ _ (managed_token trail supply.now value) tt
     (λ t e. found (MoreCause trail supply.now) _ _ (first_of (opening_in t.grant) trail) tt (λ o is. owned (MoreCause trail supply.now) (λ o. RevokeToken t (list_any (is_retirement t.serial) trail)) t.key key o (λ c. tt) tt))

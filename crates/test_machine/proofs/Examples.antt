@@ -12,7 +12,7 @@ use Rattle.gnap_model.specs.declared.objects.Binding.TheVariants.{Httpsig, Beare
 use Rattle.gnap_model.specs.declared.objects.Verdict.TheVariants.{Grant, Deny, Unknown}
 use Rattle.gnap_model.specs.declared.calls.TokenOut.{TokenOut}
 use Rattle.gnap_model.specs.declared.calls.Call.TheVariants.{Begin, Introspect, Lapse, Look, FindCode, Decide, Continue, Modify, Cancel, Rotate, Revoke}
-use Rattle.gnap_model.specs.declared.objects.ErrorCode.TheVariants.{InvalidRequest, InvalidClient, InvalidInteraction, InvalidRotation, KeyRotationNotSupported, InvalidContinuation, UserDenied, RequestDenied, UnknownUser, UnknownInteraction, TooFast, TooManyAttempts, InvalidAccess}
+use Rattle.gnap_model.specs.declared.objects.ErrorCode.TheVariants.{InvalidRequest, InvalidClient, InvalidInteraction, InvalidRotation, InvalidContinuation, UserDenied, RequestDenied, UnknownUser, UnknownInteraction, TooFast, TooManyAttempts, InvalidAccess}
 use Rattle.gnap_model.specs.declared.calls.Reply.TheVariants.{Granted, Active, Inactive, Error, Lapsed, Pending, Continuing, Done, Rotated, Decided, Shown, Handle}
 use Rattle.test_machine.proofs.ExampleHistories.{Line, line, words, at, replies, setup, for_photos, by_redirect, by_code, photos, mail, ask_for, c1, c2, r1, r2, f1, begin, introspect, continue, decide, token, v1, v2, v3, v4, v5, v6, v7, v8, v9, zeros_8, zeros_32}
 
@@ -118,10 +118,15 @@ pub reference_when_approved : drop 1 (replies setup [] (begin 1000 for_photos �
 unfolding value_text encode_symbols
 reference_when_approved = refl
 
-pub rotated_and_revoked : drop 1 (replies setup [] (begin 1000 for_photos ∷ at 1002 (Rotate c1 v2 None) ∷ introspect 1002 v1 ∷ introspect 1002 v4 ∷ at 1002 (Rotate c1 v2 None) ∷ at 1002 (Rotate c1 v5 (Some c2)) ∷ at 1002 (Revoke c1 v5) ∷ at 1002 (Revoke c1 v5) ∷ introspect 1002 v4 ∷ at 1002 (Revoke c1 v2) ∷ []))
-    ≡ Rotated (token photos v4 v5) ∷ Inactive ∷ Active photos 1002 4602 c1 false ∷ Error InvalidRotation ∷ Error KeyRotationNotSupported ∷ Done ∷ Done ∷ Inactive ∷ Error InvalidRequest ∷ []
+pub rotated_and_revoked : drop 1 (replies setup [] (begin 1000 for_photos ∷ at 1002 (Rotate c1 v2 None) ∷ introspect 1002 v1 ∷ introspect 1002 v4 ∷ at 1002 (Rotate c1 v2 None) ∷ at 1002 (Rotate c1 v5 (Some r1)) ∷ at 1002 (Revoke c1 v5) ∷ at 1002 (Revoke c1 v5) ∷ introspect 1002 v4 ∷ at 1002 (Revoke c1 v2) ∷ []))
+    ≡ Rotated (token photos v4 v5) ∷ Inactive ∷ Active photos 1002 4602 c1 false ∷ Error InvalidRotation ∷ Error InvalidRotation ∷ Done ∷ Done ∷ Inactive ∷ Error InvalidRequest ∷ []
 unfolding value_text encode_symbols
 rotated_and_revoked = refl
+
+pub rotated_to_a_key : drop 1 (replies setup [] (begin 1000 for_photos ∷ at 1002 (Rotate c1 v2 (Some c2)) ∷ introspect 1003 v4 ∷ at 1003 (Rotate c1 v5 None) ∷ at 1003 (Rotate c2 v5 None) ∷ introspect 1003 v6 ∷ at 1003 (Revoke c1 v7) ∷ at 1003 (Revoke c2 v7) ∷ []))
+    ≡ Rotated (token photos v4 v5) ∷ Active photos 1002 4602 c2 false ∷ Error InvalidClient ∷ Rotated (token photos v6 v7) ∷ Active photos 1003 4603 c2 false ∷ Error InvalidClient ∷ Done ∷ []
+unfolding value_text encode_symbols
+rotated_to_a_key = refl
 
 pub modified_and_cancelled : drop 1 (replies setup [] (begin 1000 for_photos ∷ at 1001 (Modify c1 v3 for_photos) ∷ introspect 1001 v1 ∷ at 1001 (Modify c1 v6 (ask_for mail None)) ∷ at 1001 (Modify c1 v6 for_photos) ∷ at 1001 (Cancel c1 v9) ∷ introspect 1001 v7 ∷ at 1001 (Revoke c1 v8) ∷ []))
     ≡ Granted v6 (token photos v4 v5 ∷ []) true None None ∷ Inactive ∷ Error RequestDenied ∷ Granted v9 (token photos v7 v8 ∷ []) true None None ∷ Done ∷ Inactive ∷ Error InvalidRequest ∷ []

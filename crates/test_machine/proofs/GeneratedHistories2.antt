@@ -8,7 +8,7 @@ use Rattle.gnap_model.specs.Values.{value_text, code_text}
 use Rattle.gnap_model.specs.declared.objects.Binding.TheVariants.{Httpsig, Bearer}
 use Rattle.gnap_model.specs.declared.objects.Verdict.TheVariants.{Grant, Deny}
 use Rattle.gnap_model.specs.declared.calls.Call.TheVariants.{Begin, Introspect, Look, FindCode, Decide, Continue, Modify, Cancel, Rotate, Revoke}
-use Rattle.gnap_model.specs.declared.objects.ErrorCode.TheVariants.{InvalidRequest, InvalidClient, InvalidInteraction, InvalidRotation, KeyRotationNotSupported, InvalidContinuation, UserDenied, RequestDenied, UnknownInteraction, TooFast, TooManyAttempts, InvalidAccess}
+use Rattle.gnap_model.specs.declared.objects.ErrorCode.TheVariants.{InvalidRequest, InvalidClient, InvalidInteraction, InvalidRotation, InvalidContinuation, UserDenied, RequestDenied, UnknownInteraction, TooFast, TooManyAttempts, InvalidAccess}
 use Rattle.gnap_model.specs.declared.calls.Reply.TheVariants.{Granted, Active, Inactive, Error, Pending, Shown, Handle, Decided, Continuing, Done, Rotated}
 use Rattle.gnap_model.specs.declared.notes.Why.TheVariants.{ByRotation, ByRevocation}
 use Rattle.gnap_model.specs.declared.notes.Note.TheVariants.{Approved, Door, Finalized, Wrong, Retired}
@@ -84,7 +84,7 @@ pub history_16 : outcomes rules_2 [] lines_16 ≡
     ∷ out (Error UserDenied) (Finalized 1 ∷ [])
     ∷ out (Granted text_48 ((token_out text_45 text_47 None ((object text_16 (Some (text_17 ∷ text_18 ∷ [])) (Some (text_19 ∷ [])) None None None text_20) ∷ (object text_16 (Some (text_17 ∷ text_18 ∷ [])) (Some (text_19 ∷ [])) None None None text_20) ∷ (object text_16 (Some (text_17 ∷ text_18 ∷ [])) (Some (text_19 ∷ [])) None None None text_20) ∷ []) 3600 true) ∷ []) true None None) (opened 2 text_3 false None 2593601 ∷ terms 2 ((ask_of None ((object text_16 (Some (text_17 ∷ text_18 ∷ [])) (Some (text_19 ∷ [])) None None None text_20) ∷ (object text_16 (Some (text_17 ∷ text_18 ∷ [])) (Some (text_19 ∷ [])) None None None text_20) ∷ (object text_16 (Some (text_17 ∷ text_18 ∷ [])) (Some (text_19 ∷ [])) None None None text_20) ∷ []) true) ∷ []) true false ∷ Approved 2 [] ∷ issued 5 2 None ((object text_16 (Some (text_17 ∷ text_18 ∷ [])) (Some (text_19 ∷ [])) None None None text_20) ∷ (object text_16 (Some (text_17 ∷ text_18 ∷ [])) (Some (text_19 ∷ [])) None None None text_20) ∷ (object text_16 (Some (text_17 ∷ text_18 ∷ [])) (Some (text_19 ∷ [])) None None None text_20) ∷ []) true text_3 1601 5201 text_45 text_47 ∷ Door 2 text_48 1606 ∷ [])
     ∷ out (Active ((object text_16 (Some (text_17 ∷ text_18 ∷ [])) (Some (text_19 ∷ [])) None None None text_20) ∷ (object text_16 (Some (text_17 ∷ text_18 ∷ [])) (Some (text_19 ∷ [])) None None None text_20) ∷ (object text_16 (Some (text_17 ∷ text_18 ∷ [])) (Some (text_19 ∷ [])) None None None text_20) ∷ []) 1601 5201 text_3 true) []
-    ∷ out (Error KeyRotationNotSupported) []
+    ∷ out (Error InvalidRotation) []
     ∷ []
 unfolding value_text encode_symbols code_text
 history_16 = refl

@@ -8,7 +8,7 @@ use Rattle.gnap_model.specs.Values.{value_text, code_text}
 use Rattle.gnap_model.specs.declared.objects.Binding.TheVariants.{Httpsig, Bearer}
 use Rattle.gnap_model.specs.declared.objects.Verdict.TheVariants.{Grant, Unknown}
 use Rattle.gnap_model.specs.declared.calls.Call.TheVariants.{Begin, Introspect, Lapse, Look, FindCode, Decide, Continue, Modify, Cancel, Rotate, Revoke}
-use Rattle.gnap_model.specs.declared.objects.ErrorCode.TheVariants.{InvalidRequest, InvalidClient, InvalidInteraction, InvalidRotation, KeyRotationNotSupported, InvalidContinuation, RequestDenied, UnknownInteraction, TooFast, TooManyAttempts, InvalidAccess}
+use Rattle.gnap_model.specs.declared.objects.ErrorCode.TheVariants.{InvalidRequest, InvalidClient, InvalidInteraction, InvalidRotation, InvalidContinuation, RequestDenied, UnknownInteraction, TooFast, TooManyAttempts, InvalidAccess}
 use Rattle.gnap_model.specs.declared.calls.Reply.TheVariants.{Granted, Active, Inactive, Error, Lapsed, Pending, Shown, Handle, Decided, Continuing, Done, Rotated}
 use Rattle.gnap_model.specs.declared.notes.Why.TheVariants.{ByRotation, ByModification, ByRevocation}
 use Rattle.gnap_model.specs.declared.notes.Note.TheVariants.{Approved, Door, Finalized, Wrong, Retired}
@@ -94,7 +94,7 @@ pub history_29 : outcomes rules_0 [] lines_29 ≡
     ∷ out (Continuing text_36) (Door 1 text_36 1700000015 ∷ [])
     ∷ out (Error InvalidClient) []
     ∷ out (Rotated (token_out text_45 text_47 None ((Reference text_5) ∷ []) 3600 true)) (Retired 1 ByRotation ∷ issued 5 1 None ((Reference text_5) ∷ []) true text_3 1700000016 1700003616 text_45 text_47 ∷ [])
-    ∷ out (Error KeyRotationNotSupported) []
+    ∷ out (Error InvalidRotation) []
     ∷ out (Pending text_48 (modes_of true false false (Some (finish_by false text_64 text_33 false))) text_49 (replicate 8 0) text_42 600 None) (Retired 5 ByModification ∷ terms 1 ((ask_of (Some text_31) ((Reference text_5) ∷ []) false) ∷ (ask_of (Some text_41) ((Reference text_5) ∷ (Reference text_5) ∷ (Reference text_6) ∷ []) false) ∷ (ask_of (Some text_66) ((Reference text_6) ∷ []) true) ∷ (ask_of (Some text_67) ((Reference text_5) ∷ []) false) ∷ []) false false ∷ Door 1 text_48 1700000027 ∷ pended 1 1700000622 1700001222 (modes_of true false false (Some (finish_by false text_64 text_33 false))) text_49 None (Some text_42) ∷ [])
     ∷ out (Decided (Some (finish_out (finish_by false text_64 text_33 false) text_42 text_91))) (decided 1 Grant (Some text_91) ((Reference text_5) ∷ (Reference text_5) ∷ (Reference text_5) ∷ (Reference text_6) ∷ (Reference text_6) ∷ (Reference text_5) ∷ []) (Some text_56) ∷ [])
     ∷ []
@@ -225,7 +225,7 @@ lines_34 = line 1002 (words (5095309531097254090 ∷ 3959168819985563520 ∷ 110
 
 pub history_34 : outcomes rules_2 [] lines_34 ≡
     out (Granted text_39 ((token_out text_97 text_96 None ((object text_16 (Some (text_17 ∷ text_18 ∷ [])) (Some (text_19 ∷ [])) None None None text_20) ∷ []) 3600 false) ∷ []) true None None) (opened 1 text_3 false None 2593002 ∷ terms 1 ((ask_of None ((object text_16 (Some (text_17 ∷ text_18 ∷ [])) (Some (text_19 ∷ [])) None None None text_20) ∷ []) false) ∷ []) true false ∷ Approved 1 [] ∷ issued 1 1 None ((object text_16 (Some (text_17 ∷ text_18 ∷ [])) (Some (text_19 ∷ [])) None None None text_20) ∷ []) false text_3 1002 4602 text_97 text_96 ∷ Door 1 text_39 1007 ∷ [])
-    ∷ out (Error KeyRotationNotSupported) []
+    ∷ out (Rotated (token_out text_36 text_45 None ((object text_16 (Some (text_17 ∷ text_18 ∷ [])) (Some (text_19 ∷ [])) None None None text_20) ∷ []) 3600 false)) (Retired 1 ByRotation ∷ issued 4 1 None ((object text_16 (Some (text_17 ∷ text_18 ∷ [])) (Some (text_19 ∷ [])) None None None text_20) ∷ []) false text_7 1002 4602 text_36 text_45 ∷ [])
     ∷ out (Error TooManyAttempts) (Finalized 1 ∷ [])
     ∷ out (Error InvalidContinuation) []
     ∷ []

@@ -56,14 +56,14 @@ fn documents_name_the_endpoints(rt: HostRuntime) -> Result<(), Fail> {
         document.as_slice(),
         b"{\"grant_request_endpoint\":\"https://as.example/gnap\",\"interaction_finish_methods_supported\":[\"redirect\",\"push\"],\
             \"interaction_start_modes_supported\":[\"redirect\",\"user_code\",\"user_code_uri\"],\"key_proofs_supported\":[\"httpsig\"],\
-            \"key_rotation_supported\":false,\"sub_id_formats_supported\":[\"opaque\"]}"
+            \"key_rotation_supported\":true,\"sub_id_formats_supported\":[\"opaque\"]}"
             .as_slice()
     );
     let document = print_server_discovery(rt.alloc(), b"https://as.example")?;
     assert_eq!(rt;
         document.as_slice(),
         b"{\"grant_request_endpoint\":\"https://as.example/gnap\",\"introspection_endpoint\":\"https://as.example/introspect\",\
-            \"key_proofs_supported\":[\"httpsig\"]}"
+            \"key_proofs_supported\":[\"httpsig\"],\"resource_registration_endpoint\":\"https://as.example/resource\"}"
             .as_slice()
     );
     Ok(())

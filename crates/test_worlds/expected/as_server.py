@@ -4,7 +4,7 @@ from calls import ROLES, Server
 from http_forms import Refused, Unfinished, next_request, reply_bytes
 from json_forms import NotJson, NoWholeNumber, read_json
 from rights import compact
-from signatures import Fault, mark_of, verified
+from signatures import Fault, mark_of, rotated, verified
 
 MESSAGES_MOST = 1_000
 GATHERED = 4_096
@@ -28,7 +28,7 @@ def discovery(base):
         "interaction_finish_methods_supported": ["redirect", "push"],
         "interaction_start_modes_supported": ["redirect", "user_code", "user_code_uri"],
         "key_proofs_supported": ["httpsig"],
-        "key_rotation_supported": False,
+        "key_rotation_supported": True,
         "sub_id_formats_supported": ["opaque"],
     }
 
@@ -36,6 +36,7 @@ def discovery(base):
 def rs_discovery(base):
     return {
         "grant_request_endpoint": base + "/gnap", "introspection_endpoint": base + "/introspect", "key_proofs_supported": ["httpsig"],
+        "resource_registration_endpoint": base + "/resource",
     }
 
 
@@ -84,7 +85,16 @@ class Service(Server):
         if ROLES[call] != "server" and mark is None:
             key = None
         value = presented_value(request)
-        status, form, reached = self.answer(moment, words, call, key, value, body_value(call, request.body), mark)
+
+        def signs_too(named):
+            """Whether the key that a rotation names signed the request too."""
+            try:
+                return rotated(request, self.setup.base, self.secrets, moment)[1] == named
+            except Fault:
+                return False
+
+        body = body_value(call, request.body)
+        status, form, reached = self.answer(moment, words, call, key, value, body, mark, signs_too)
         return reply_bytes(status, b"" if form is None else compact(form).encode(), request.last), reached
 
 

@@ -75,12 +75,17 @@ class Server:
         self.setup = setup
         self.machine = Machine(setup)
 
-    def answer(self, moment, words, call, key, value, body, mark=None):
-        """Status and body of the answer to a call, and whether the machine was reached. The mark of an introspection isn't looked at."""
+    def answer(self, moment, words, call, key, value, body, mark=None, signs_too=None):
+        """Status and body of the answer to a call, and whether the machine was reached. The mark of an introspection isn't looked at.
+
+        `signs_too` tells whether the key that a rotation names signed too; a line of a replay has no signatures, so there it isn't asked.
+        """
         try:
             if self.setup.role(key) != ROLES[call]:
                 raise Refused(stranger(call))
             arguments = read_call(call, key, value, body)
+            if call == "rotate" and arguments[2] is not None and signs_too is not None and not signs_too(arguments[2]):
+                raise Refused("invalid_client")
         except Refused as refused:
             return (*error_form(refused.code), False)
         if mark is None or call == "introspect":
@@ -147,12 +152,12 @@ def active_form(reply, setup):
     token = reply.token
     form = {
         "access": reply.access, "active": True, "exp": token.until, "iat": token.issued,
-        "instance_id": token.grant.key, "iss": setup.base + "/gnap",
+        "instance_id": token.key, "iss": setup.base + "/gnap",
     }
     if token.ask.bearer:
         form["flags"] = ["bearer"]
     else:
-        form["key"] = token.grant.key
+        form["key"] = token.key
     return form
 
 

@@ -84,7 +84,7 @@ def whole_runs():
         begin, call("continue", "c1", 1_004, value=V(3)), call("continue", "c1", 1_005, value=V(3)),
         call("continue", "c1", 1_010, {}, V(4)), call("modify", "c1", 1_011, PHOTOS, V(5)),
         call("introspect", "r1", 1_011, introspection(V(1))), call("rotate", "c1", 1_012, value=V(7)),
-        call("rotate", "c1", 1_012, {"key": "c2"}, V(10)), call("rotate", "c1", 1_012, {"key": 7}, V(10)),
+        call("rotate", "c1", 1_012, {"key": "r1"}, V(10)), call("rotate", "c1", 1_012, {"key": 7}, V(10)),
         call("introspect", "r1", 1_012, introspection(V(9), proof="httpsig")), call("revoke", "c1", 1_013, value=V(10)),
     ], [
         call("introspect", "r1", 1_013, introspection(V(9))), call("revoke", "c1", 1_013, value=V(7)),

@@ -125,14 +125,14 @@ class Machine:
         self.doors[grant.door] = grant
         return grant.door
 
-    def issue(self, grant, ask):
-        token = Token(grant, ask, self.now, min(self.now + TOKEN_SECONDS, grant.end), self.draw(), self.draw())
+    def issue(self, grant, key, ask):
+        token = Token(grant, key, ask, self.now, min(self.now + TOKEN_SECONDS, grant.end), self.draw(), self.draw())
         self.tokens[token.value] = token
         self.managed[token.manage] = token
         return token
 
     def issue_all(self, grant, asks):
-        tokens = [self.issue(grant, ask) for ask in asks]
+        tokens = [self.issue(grant, grant.key, ask) for ask in asks]
         return tokens, self.new_door(grant)
 
     def granted(self, grant, asks, subject=None, instance=None):
@@ -267,18 +267,18 @@ class Machine:
         token = self.named_token(manage)
         if token is None or not self.is_live(token):
             return refusal("invalid_rotation")
-        if token.grant.key != key:
+        if token.key != key:
             return refusal("invalid_client")
-        if new_key is not None:
-            return refusal("key_rotation_not_supported")
+        if new_key is not None and (token.ask.bearer or self.setup.client(new_key) is None):
+            return refusal("invalid_rotation")
         token.retired = token.replaced = True
-        return Reply("Rotated", now=self.now, token=self.issue(token.grant, token.ask))
+        return Reply("Rotated", now=self.now, token=self.issue(token.grant, key if new_key is None else new_key, token.ask))
 
     def call_revoke(self, key, manage):
         token = self.named_token(manage)
         if token is None:
             return refusal("invalid_request")
-        if token.grant.key != key:
+        if token.key != key:
             return refusal("invalid_client")
         token.retired = True
         return Reply("Done")

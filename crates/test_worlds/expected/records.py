@@ -97,6 +97,7 @@ class Grant:
 @dataclass
 class Token:
     grant: Grant
+    key: str
     ask: Ask
     issued: int
     until: int

@@ -4,7 +4,7 @@ from calls import Server
 from http_forms import request_bytes
 from json_forms import read_setup
 from rights import compact
-from signatures import Request, signed
+from signatures import Request, signed, signed_again
 
 ROUTES = {
     "begin": ("POST", "/gnap"), "introspect": ("POST", "/introspect"),
@@ -28,12 +28,16 @@ def secret_of(setup, key):
 
 
 def signed_request(step, setup, created, nonce):
-    """The bytes of a step's call as its key signs it. Introspections have no nonce."""
+    """The bytes of a step's call as its key signs it. Introspections have no nonce. A key that a rotation names signs too."""
     method, path = ROUTES[step.call]
     body = b"" if step.body is None else compact(step.body).encode()
     fields = [(b"authorization", b"GNAP " + step.value.encode())] if step.value else []
     request = Request(method.encode(), path.encode(), fields, body)
-    return request_bytes(signed(request, setup.base, step.key, secret_of(setup, step.key), created, None if step.call == "introspect" else nonce))
+    request = signed(request, setup.base, step.key, secret_of(setup, step.key), created, None if step.call == "introspect" else nonce)
+    if step.call == "rotate" and step.body and "key" in step.body:
+        named = step.body["key"]
+        request = signed_again(request, setup.base, named, secret_of(setup, named), created)
+    return request_bytes(request)
 
 
 def signed_case(run):

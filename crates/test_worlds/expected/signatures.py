@@ -9,10 +9,11 @@ import hmac
 from dataclasses import dataclass, field
 
 from records import Mark
-from structured import NotAField, print_bare, print_inner_list, read_dictionary
+from structured import NotAField, print_bare, print_inner_list, print_member, print_parameters, read_dictionary
 
 NONCE_BYTES = 64
 LATEST_CREATED = 253_402_301_099
+FIRST_TAG, SECOND_TAG = "gnap", "gnap-rotate"
 DIGESTS = {"sha-256": hashlib.sha256, "sha-512": hashlib.sha512}
 
 
@@ -67,15 +68,34 @@ def component_value(name, message, base):
     return message.joined(name.encode()) if name == name.lower() else None
 
 
-def signature_base(message, base, items, parameters):
+def label_of(item):
+    """The label of the signature of which a covered component is a part (RFC 9421, section 2.1.2); None where it is none."""
+    (_, name), parameters = item
+    kind, label = parameters.get("key", (None, None))
+    return label if name in ("signature", "signature-input") and len(parameters) == 1 and kind == "String" else None
+
+
+def member_value(name, label, message):
+    """The member under a label of one of the two fields of signatures, as its canonical text."""
+    try:
+        member = read_dictionary(message.joined(name.encode()) or b"").get(label)
+    except NotAField:
+        return None
+    return None if member is None else print_member(member).encode()
+
+
+def signature_base(message, base, items, parameters, again=False):
+    """The text that is signed. A signature that comes again may cover parts of another one."""
     lines = []
-    names = set()
-    for (_, name), of_item in items:
-        value = component_value(name, message, base)
-        if value is None or of_item or name in names:
+    found = set()
+    for item in items:
+        (_, name), of_item = item
+        label = label_of(item) if again else None
+        value = component_value(name, message, base) if label is None else member_value(name, label, message)
+        if value is None or (of_item and label is None) or (name, label) in found:
             raise Fault("Unsupported")
-        names.add(name)
-        lines.append(print_bare(("String", name)).encode() + b": " + value)
+        found.add((name, label))
+        lines.append((print_bare(("String", name)) + print_parameters(of_item)).encode() + b": " + value)
     lines.append(b'"@signature-params": ' + print_inner_list(items, parameters).encode())
     return b"\n".join(lines)
 
@@ -93,7 +113,7 @@ def must_cover(message):
     return names
 
 
-def signed(message, base, key, secret, created, nonce=None, tag="gnap", names=None, label="sig1", more=(), with_digest=True):
+def signed(message, base, key, secret, created, nonce=None, tag=FIRST_TAG, names=None, label="sig1", more=(), with_digest=True):
     """The message with a signature; `names` are the covered components where they aren't those that are asked for, `more` further parameters."""
     fields = list(message.fields)
     if message.body and with_digest and message.joined(b"content-digest") is None:
@@ -102,11 +122,24 @@ def signed(message, base, key, secret, created, nonce=None, tag="gnap", names=No
     items = [(("String", name), {}) for name in (names or must_cover(message))]
     told = {} if nonce is None else {"nonce": ("String", nonce)}
     parameters = {"created": ("Integer", created), "keyid": ("String", key), **told, "tag": ("String", tag), **dict(more)}
-    parameters = {name: value for name, value in parameters.items() if value is not None}
-    code = mac(secret, signature_base(message, base, items, parameters))
-    fields.append((b"signature-input", f"{label}={print_inner_list(items, parameters)}".encode()))
-    fields.append((b"signature", f"{label}=".encode() + print_bare(("Binary", code)).encode()))
+    return with_signature(message, base, secret, label, items, {name: value for name, value in parameters.items() if value is not None})
+
+
+def with_signature(message, base, secret, label, items, parameters, again=False):
+    """The message with a signature under a label. What is signed may have its own list, and not its own bytes."""
+    listed = [*message.fields, (b"signature-input", f"{label}={print_inner_list(items, parameters)}".encode())]
+    message = Request(message.method, message.target, listed, message.body, message.last)
+    code = mac(secret, signature_base(message, base, items, parameters, again))
+    message.fields.append((b"signature", f"{label}=".encode() + print_bare(("Binary", code)).encode()))
     return message
+
+
+def signed_again(message, base, key, secret, created, covers=(("signature", "sig1"), ("signature-input", "sig1"))):
+    """The signed message with a signature of a new key over the first one; `covers` are the parts of signatures that it covers, with their labels."""
+    items = [(("String", name), {}) for name in must_cover(message)]
+    items += [(("String", name), {"key": ("String", label)}) for name, label in covers]
+    parameters = {"created": ("Integer", created), "keyid": ("String", key), "tag": ("String", SECOND_TAG)}
+    return with_signature(message, base, secret, "sig2", items, parameters, True)
 
 
 def lists_tagged(inputs, tag):
@@ -128,7 +161,7 @@ def mark_of(message, tag="gnap"):
 
 
 def tagged_list(message, tag):
-    """The one list of covered components with this tag, its parameters, and the signature under its label."""
+    """The one list of covered components with this tag, its parameters, the signature under its label, and the label."""
     inputs, signatures = message.joined(b"signature-input"), message.joined(b"signature")
     if inputs is None or signatures is None:
         raise Fault("NoField")
@@ -145,13 +178,13 @@ def tagged_list(message, tag):
     if (any(bare[0] != "String" for bare, _ in items) or code[0] != "Binary"
             or any(parameters[name][0] != kind for name, kind in kinds.items() if name in parameters)):
         raise Fault("Malformed")
-    return items, parameters, code[1]
+    return items, parameters, code[1], label
 
 
-def verified(message, base, secrets, now, tag="gnap"):
+def verified(message, base, secrets, now, tag=FIRST_TAG):
     """The id of the key that signed the message; a Fault where there is none."""
-    items, parameters, code = tagged_list(message, tag)
-    text = signature_base(message, base, items, parameters)
+    items, parameters, code, _ = tagged_list(message, tag)
+    text = signature_base(message, base, items, parameters, tag == SECOND_TAG)
     if not set(must_cover(message)) <= {bare[1] for bare, _ in items}:
         raise Fault("Uncovered")
     value = {name: bare[1] for name, bare in parameters.items()}
@@ -169,3 +202,13 @@ def verified(message, base, secrets, now, tag="gnap"):
     if (message.body or digest is not None) and not (digest is not None and digest_fits(digest, message.body)):
         raise Fault("Digest")
     return value["keyid"]
+
+
+def rotated(message, base, secrets, now):
+    """The ids of the old and the new key of a message that both signed, the new one over the old one's signature (RFC 9635, section 6.1.1)."""
+    old, new = (verified(message, base, secrets, now, tag) for tag in (FIRST_TAG, SECOND_TAG))
+    label, second = tagged_list(message, FIRST_TAG)[3], tagged_list(message, SECOND_TAG)[0]
+    covered = {(item[0][1], label_of(item)) for item in second}
+    if not {("signature", label), ("signature-input", label)} <= covered:
+        raise Fault("NotChained")
+    return old, new

@@ -175,8 +175,7 @@ def pending(door, modes, handle, code, nonce, expires_in, instance):
 
 
 def active(access, issued, until, instance, bearer):
-    grant = Grant(instance, None, 0, GrantRequest([]))
-    return Reply("Active", access=access, token=Token(grant, Ask(access, None, bearer), issued, until, "", ""))
+    return Reply("Active", access=access, token=Token(None, instance, Ask(access, None, bearer), issued, until, "", ""))
 
 
 def shown(asks, client, expires_in, subject, user):
@@ -215,7 +214,7 @@ WORDS = {
     "modes_of": Modes,
     "request_of": request_of,
     "decide_of": lambda handle, verdict, rights, subject: (text(handle), verdict, rights, subject),
-    "token_out": lambda value, manage, label, rights, expires_in, bearer: Token(None, Ask(rights, label, bearer), 0, expires_in, value, manage),
+    "token_out": lambda value, manage, label, rights, expires_in, bearer: Token(None, None, Ask(rights, label, bearer), 0, expires_in, value, manage),
     "finish_out": lambda finish, nonce, reference: {"finish": finish, "nonce": nonce, "reference": reference},
     "line": lambda moment, drawn, call: (moment, drawn, call),
     "out": lambda reply, notes: (reply, notes),

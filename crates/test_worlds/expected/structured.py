@@ -167,3 +167,9 @@ def print_parameters(parameters):
 def print_inner_list(items, parameters):
     printed = (print_bare(bare) + print_parameters(of_item) for bare, of_item in items)
     return "(" + " ".join(printed) + ")" + print_parameters(parameters)
+
+
+def print_member(member):
+    """A member of a dictionary, as it stands behind its name and `=`."""
+    value, parameters = member
+    return print_inner_list(value[1], parameters) if value[0] == "list" else print_bare(value) + print_parameters(parameters)

@@ -17,9 +17,11 @@ import marked_histories
 import outside_cases
 import resource_cases
 import rights_cases
+import rotation_cases
 import run_cases
 import scripted_grants
 import scripted_interactions
+import set_cases
 import stored_histories
 import written_cases
 from checks import check_all
@@ -28,10 +30,10 @@ from worlds import outcome
 
 
 def cases():
-    for module in (http_cases, edge_cases, outside_cases, rights_cases, line_cases, mark_cases, marked_histories, written_cases, client_cases, resource_cases):
+    for module in (http_cases, edge_cases, outside_cases, rights_cases, line_cases, mark_cases, rotation_cases, marked_histories, written_cases, client_cases, resource_cases, set_cases):
         yield from module.cases()
     yield from run_cases.cases(scripted_grants.RUNS + scripted_interactions.RUNS)
-    yield from map(run_cases.replay_case, generated_histories.runs() + stored_histories.runs())
+    yield from map(run_cases.replay_case, scripted_grants.REPLAYS + generated_histories.runs() + stored_histories.runs())
 
 
 def lines_of(values):

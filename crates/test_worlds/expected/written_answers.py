@@ -24,7 +24,7 @@ def compare(name, file, lines):
 
 def count_differences():
     wrong = 0
-    for run in scripted_grants.RUNS + scripted_interactions.RUNS:
+    for run in scripted_grants.RUNS + scripted_grants.REPLAYS + scripted_interactions.RUNS:
         wrong += compare(run.name, run.file().encode(), [(line, step.answer) for line, step in zip(run.lines(), run.steps)])
     for name, lines in [*line_cases.GROUPS.items(), *mark_cases.GROUPS.items()]:
         wrong += compare(name, line_cases.file_of(lines), [pair for pair in lines if pair[1] is not None])

@@ -15,6 +15,9 @@ returns-in-Sign-clause-carried g c =
 pub returns-in-As-clause-carried : goal.returns-in-As-clause-carried
 returns-in-As-clause-carried g c = carried_as _ _ _ _ _ c.in-As.is _ _ _ (c.serve.ensures.carried (g.O.Device.told c.args.out.now))
 
+pub returns-in-Sets-clause-carried : goal.returns-in-Sets-clause-carried
+returns-in-Sets-clause-carried g c = carried_as _ _ _ _ _ c.in-Sets.is _ _ _ (c.serve_sets.ensures.carried (g.O.Device.told c.args.out.now))
+
 pub returns-in-Rs-clause-carried : goal.returns-in-Rs-clause-carried
 returns-in-Rs-clause-carried g c = carried_as _ _ _ _ _ c.in-Rs.is _ _ _ (c.serve_rs.ensures.carried (g.O.Device.told c.args.out.now))
 

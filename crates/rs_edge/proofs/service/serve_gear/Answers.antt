@@ -6,7 +6,8 @@ use Rattle.rs_edge.proofs.service.serve_gear.Goals as goal
 
 pub serve_door-requires-clause-gear : goal.serve_door-requires-clause-gear
 serve_door-requires-clause-gear g c lifetimes outlive =
-    subst (λ x. IsUnused (g.G.Counted.state x)) (sym c.index_mut-gear.ensures.value) (c.requires.unused 0 c.index_mut-gear.result.now (omega (arith, c.requires.one)))
+    subst (λ x. IsUnused (g.G.Counted.state x)) (sym c.index_mut-gear.ensures.value)
+    (c.requires.unused 0 c.index_mut-gear.result.now (omega (arith, c.requires.one)))
 
 pub serve_door-requires-clause-link : goal.serve_door-requires-clause-link
 serve_door-requires-clause-link g c lifetimes outlive = ap (λ (l : LinkState). l.asked) c.requires.link

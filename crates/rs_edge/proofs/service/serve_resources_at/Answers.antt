@@ -6,15 +6,18 @@ pub returns-in-Err-clause-served : goal.returns-in-Err-clause-served
 returns-in-Err-clause-served g c = not_linked c.in-Err.fault c.in-Err.ensures.state c.in-Err.ensures.link
 
 pub returns-in-Err-start_gears-clause-served : goal.returns-in-Err-start_gears-clause-served
-returns-in-Err-start_gears-clause-served g c = unstarted g.K.RequestGuard.guards c.args.setup.now (g.K.RequestGuard.kept c.args.guard.now) c.args.listen.now c.args.server.now c.args.quota _ _ _ _ _ c.in-Err-start_gears.fault
+returns-in-Err-start_gears-clause-served g c = unstarted g.K.RequestGuard.guards c.args.setup.now
+    (g.K.RequestGuard.kept c.args.guard.now) c.args.listen.now c.args.server.now c.args.quota _ _ _ _ _ c.in-Err-start_gears.fault
     c.in-Ok.ensures.state c.in-Err-start_gears.ensures.state c.in-Err-start_gears.ensures.gears c.in-Ok.ensures.link c.close_link.ensures.state
 
 pub returns-then-failed-clause-served : goal.returns-then-failed-clause-served
-returns-then-failed-clause-served g c = served_failed g.K.RequestGuard.guards c.args.setup.now (g.K.RequestGuard.kept c.args.guard.now) _ c.args.listen.now c.args.server.now c.args.quota _ _ _ _ _ _ _
+returns-then-failed-clause-served g c = served_failed g.K.RequestGuard.guards c.args.setup.now
+    (g.K.RequestGuard.kept c.args.guard.now) _ c.args.listen.now c.args.server.now c.args.quota _ _ _ _ _ _ _
     c.in-Ok.ensures.state c.in-Ok-start_gears.ensures.state c.stop_gears.ensures.state c.close_link-in-Ok-start_gears.ensures.state
     (as_told _ _ _ _ _ _ _ _ c.if-failed.true c.serve_gear-gears.ensures)
 
 pub returns-else-failed-clause-served : goal.returns-else-failed-clause-served
-returns-else-failed-clause-served g c = served_well g.K.RequestGuard.guards c.args.setup.now (g.K.RequestGuard.kept c.args.guard.now) _ c.args.listen.now c.args.server.now c.args.quota _ _ _ _ _ _ _
+returns-else-failed-clause-served g c = served_well g.K.RequestGuard.guards c.args.setup.now
+    (g.K.RequestGuard.kept c.args.guard.now) _ c.args.listen.now c.args.server.now c.args.quota _ _ _ _ _ _ _
     c.in-Ok.ensures.state c.in-Ok-start_gears.ensures.state c.stop_gears.ensures.state c.close_link-in-Ok-start_gears.ensures.state _
     (as_told _ _ _ _ _ _ _ _ c.if-failed.false c.serve_gear-gears.ensures)

@@ -1,4 +1,4 @@
-use Rattle.std.proofs.Common.{◌≡◌, ◌∙◌, ◌<◌, ◌≤◌, List, [], refl, ap, sym, subst, reverse}
+use Rattle.std.proofs.Common.{◌≡◌, ◌∙◌, ◌<◌, ◌≤◌, ◌^◌, List, [], length, refl, ap, sym, subst, reverse}
 use Rattle.std.proofs.lemmas.List.{reverse-reverse}
 use Rattle.histories.specs.History.{Legal, now, notes_of}
 use Rattle.gnap_model.specs.declared.notes.Note.{Note}
@@ -12,7 +12,7 @@ use Rattle.gnap_laws.specs.Provenance.{tells_all, drawn_by, IsOnce, IsRefusedAft
 use Rattle.signed_calls.specs.Marks.{SignedEvent, signed_law}
 use Rattle.signed_calls.specs.PlainPast.{is_refused_after, plain_entry, plain_past, plain_history, bare_past}
 use Rattle.signed_calls.proofs.Alike.{tells_all-alike, drawn-alike, once-alike}
-use Rattle.signed_calls.proofs.SignedPasts.{past_alike, reversed_legal, history_legal, history_notes, history_now, history_few, history_next, signed_cause, signed_says, refused_since}
+use Rattle.signed_calls.proofs.SignedPasts.{past_alike, reversed_legal, history_legal, history_notes, history_now, history_few, few_before, history_next, signed_cause, signed_says, signed_bound, refused_since}
 use Rattle.signed_calls.proofs.laws.signed_histories_hold.Goals as goal
 
 pub returns : goal.returns
@@ -49,5 +49,8 @@ returns c = λ rules h legal few.
           ∙ sym (ap (λ n. round_by_code (reverse (notes_of (plain_history before))) n code) (history_now before e.moment))
           ∙ c.drawn_codes_are_free.ensures rules (plain_history before) (plain_entry (is_refused_after before e) e) [] round code
           (history_next rules before e after (is_refused_after before e) refl (subst (λ (x : List SignedEvent). Legal signed_law rules x) is legal)) pended drawn;
+      keys_bind = λ before e after rotation token key is among rotates.
+          signed_bound rules before e after rotation token key c.rotated_keys_bind.ensures
+          (subst (λ (x : List SignedEvent). Legal signed_law rules x) is legal) (few_before before e after (subst (λ (x : List SignedEvent). length x ≤ 2 ^ 58) is few)) among rotates;
       marks_once = λ key mark. c.marks_pass_once.ensures rules h key mark legal;
     }

@@ -37,7 +37,7 @@ rotate-requires c = record { room = (c.args.next, c.requires.room) }
 
 pub returns-in-Rotate-clause-ok : goal.returns-in-Rotate-clause-ok
 returns-in-Rotate-clause-ok c =
-    rw c.in-Rotate.is (IfOk-weaker c.rotate.result _ _ (λ answered acts. acts c.args.rules.now c.args.next) c.rotate.ensures.ok)
+    rw c.in-Rotate.is (IfOk-weaker c.rotate.result _ _ (λ answered acts. acts c.args.next) c.rotate.ensures.ok)
 
 pub returns-in-Rotate-clause-doors : goal.returns-in-Rotate-clause-doors
 returns-in-Rotate-clause-doors c =

@@ -1,18 +1,21 @@
-use Rattle.std.proofs.Common.{ap, ◌∙◌}
-use Rattle.structured_fields.specs.Named.{with_value}
-use Rattle.structured_fields.proofs.Places.{set_once}
+use Rattle.std.proofs.Common.{◌≡◌, Some, ap, sym, subst, ◌∙◌}
+use Rattle.structured_fields.specs.Named.{IsDistinct, Finds, place_of, with_value}
+use Rattle.structured_fields.proofs.Entries.{distinct_set}
+use Rattle.structured_fields.proofs.Places.{written, finds_still}
 use Rattle.structured_fields.proofs.named.Named.set.Goals as goal
 
-pub invariant_of-self-2 : goal.invariant_of-self-2
-invariant_of-self-2 g c =
-    let s = set_once c.self.inside.map.entries c.reserve.new.self.entries c.insert.new.self.entries c.self.inside.places c.place_or.new.places
-    c.args.name c.as_slice.result.now c.args.value c.len-next.result c.in_ok-place.place c.self.invariant.0 c.self.invariant.1 c.self.invariant.2
-    c.reserve.ensures.entries c.len-next.ensures.len c.as_slice.ensures.value c.in_ok-place.ensures.place c.in_ok-place.ensures.finds c.in-Ok.ensures.entries in
-    (s.placed, s.finds, s.distinct)
+pub returns-in-Some-clause-ok : goal.returns-in-Some-clause-ok
+returns-in-Some-clause-ok g c =
+    let es = c.self.inside.entries.items in
+    let there : place_of c.args.self.now c.args.name ≡ Some c.in-Some.place = sym (c.in-Some.ensures.place ∙ ap (place_of c.args.self.now) c.as_slice.ensures.value) in
+    written es c.args.name c.args.value c.in-Some.place c.index_mut.result.now (ap (λ l. place_of l c.args.name) c.self.view_is ∙ there) c.index_mut.ensures.value
+    ∙ ap (λ l. with_value l c.args.name c.args.value) c.self.view_is
 
-pub returns-clause-ok : goal.returns-clause-ok
-returns-clause-ok g c =
-    let s = set_once c.self.inside.map.entries c.reserve.new.self.entries c.insert.new.self.entries c.self.inside.places c.place_or.new.places
-    c.args.name c.as_slice.result.now c.args.value c.len-next.result c.in_ok-place.place c.self.invariant.0 c.self.invariant.1 c.self.invariant.2
-    c.reserve.ensures.entries c.len-next.ensures.len c.as_slice.ensures.value c.in_ok-place.ensures.place c.in_ok-place.ensures.finds c.in-Ok.ensures.entries in
-    s.is ∙ ap (λ l. with_value l c.args.name c.args.value) c.self.view_is
+pub invariant_of-self : goal.invariant_of-self
+invariant_of-self g c =
+    let es = c.self.inside.entries.items in
+    let there : place_of es c.args.name ≡ Some c.in-Some.place = ap (λ l. place_of l c.args.name) c.self.view_is ∙ sym (c.in-Some.ensures.place ∙ ap (place_of c.args.self.now) c.as_slice.ensures.value) in
+    let is = sym (written es c.args.name c.args.value c.in-Some.place c.index_mut.result.now there c.index_mut.ensures.value) in (
+      subst (Finds c.self.inside.places) is (finds_still c.self.inside.places es c.args.name c.args.value c.in-Some.place there c.self.invariant.0),
+      subst IsDistinct is (distinct_set es c.args.name c.args.value c.self.invariant.1),
+    )

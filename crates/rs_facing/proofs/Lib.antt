@@ -1,0 +1,2 @@
+pub mod WholeSets
+mod SetsServed

@@ -1,0 +1,5 @@
+pub mod SetRequests
+pub mod SetReplies
+pub mod SetFace
+pub mod SetSessions
+pub mod SetServices

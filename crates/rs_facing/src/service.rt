@@ -1,0 +1,49 @@
+//! Serving at an address.
+ghost use Rattle.std.specs.Prelude.{◌≡◌, ◌≤◌};
+ghost use Rattle.gnap_objects.specs.Setups.{IsSetup};
+ghost use Rattle.rs_facing.specs.SetServices.{IsSetService};
+
+use crate::set_server::SetServer;
+use as_requests::Edge;
+use bytes_and_lists::bytes::Bytes;
+use bytes_and_lists::memory::Duplicate;
+use gnap_io::world::{World, WorldFault};
+use gnap_model::objects::Setup;
+use resource_sets::laws::set_histories_hold;
+use resource_sets::set_table::SetTable;
+use serving::service::serve_front_at;
+use std::alloc::Global;
+use std::sync::Wait;
+use std::thread::Threads;
+
+/// Serves the resource sets of a setup at an address of the world, by 1 to 64 workers on threads of their own, each for at most `quota` connections, and gives
+/// the workers' gears back to the world. There is no set before the first request.
+///
+/// `Ok` where all these connections came and were served. `Failed` where the address couldn't be listened at, or later no connection be accepted any more;
+/// `OutOfMemory` where memory ran out before the first connection. Later want of memory ends the connection that it meets, not the service.
+pub fn serve_sets_at<R: Threads + Wait + Sync, W: World>(
+    rt: &R,
+    alloc: Global,
+    world: &mut W,
+    setup: Setup,
+    address: &Bytes,
+    workers: usize,
+    quota: u32,
+) -> Result<(), WorldFault>
+    requires some { 1 ≤ workers }
+    requires few { workers ≤ 64 }
+    requires setup { IsSetup setup }
+    ensures text { W.text world.new ≡ W.text world.old }
+    ensures served { IsSetService setup address.now workers quota (W.state world.old) (W.state world.new) result }
+{
+    let Ok(rules) = setup.copy() else {
+        return Err(WorldFault::OutOfMemory);
+    };
+    let Ok(edge) = Edge::new(alloc, setup) else {
+        return Err(WorldFault::OutOfMemory);
+    };
+    let server = SetServer { edge };
+    let core = SetTable::new(alloc, rules);
+    set_histories_hold();
+    serve_front_at(rt, alloc, world, core, &server, address, workers, quota)
+}
