@@ -1,6 +1,6 @@
 -- The turn of a message where tokens are derived, by what its calls did.
 use Rattle.std.proofs.Common.{◌≡◌, ◌≢◌, ◌∙◌, ℕ, ◌+◌, ◌<◌, Bool, true, false, List, [], ◌∷◌, ◌++◌, length, length-append, ap, sym, subst, refl, arith, Option, Some, None}
-use Rattle.std.specs.Prelude.{if◌then◌else◌, reverse}
+use Rattle.std.specs.Prelude.{if◌then◌else◌, reverse, IsUtf8}
 use Rattle.gnap_io.specs.Outside.{Told}
 use Rattle.gnap_io.specs.Gears.{GearState, with_moment, with_draw}
 use Rattle.bytes_and_lists.specs.declared.message.Message.{Message}
@@ -25,7 +25,6 @@ use Rattle.gnap_model.specs.declared.calls.Call.{Call}
 use Rattle.gnap_model.specs.declared.calls.Call.TheVariants.{Begin, Lapse}
 use Rattle.gnap_model.specs.declared.calls.Reply.{Reply}
 use Rattle.gnap_model.specs.declared.calls.Reply.TheVariants.{Inactive}
-use Rattle.gnap_objects.specs.CallsFit.{TextsFit}
 use Rattle.gnap_replies.specs.Responses.{response_of, error_response}
 use Rattle.signed_calls.specs.declared.signed.Signed.{Signed}
 use Rattle.signed_calls.specs.Marks.{plain_notes, unmarked_lapse}
@@ -67,21 +66,22 @@ told_inactive rules h moment draw server parent reply is none =
 
 -- ---- the calls may be made
 
-pub question_fits : (server parent : Text) → TextsFit (question server parent).call → SignedFits (question server parent)
-question_fits server parent fits = record { call = (tt, fits); mark = tt; lapse = λ is. absurd cc }
+pub question_fits : (asked : Signed) (server parent : Text) → asked ≡ question server parent → IsUtf8 server → SignedFits asked
+question_fits asked server parent is fits = subst SignedFits (sym is) (record { call = (tt, (fits, tt)); mark = tt; lapse = λ same. absurd cc })
 
-pub question_no_lapse : (server parent : Text) → question server parent ≢ unmarked_lapse
-question_no_lapse server parent is = let call = ap (λ (s : Signed). s.call) is in cc call
+pub question_no_lapse : (asked : Signed) (server parent : Text) → asked ≡ question server parent → asked ≢ unmarked_lapse
+question_no_lapse asked server parent is same = let call = ap (λ (s : Signed). s.call) (sym is ∙ same) in absurd cc
 
-pub ending_fits : (end : ℕ) (begin : Signed) → IsBegin begin.call → SignedFits begin → SignedFits (ending end begin)
-ending_fits end begin is fits = record {
-  call = subst (λ (call : Call). GnapFits (with_end end call)) (sym is.3) (subst GnapFits is.3 fits.call);
+pub ending_fits : (asked : Signed) (end : ℕ) (begin : Signed) → asked ≡ ending end begin → IsBegin begin.call → SignedFits begin → SignedFits asked
+ending_fits asked end begin is begins fits = subst SignedFits (sym is) (record {
+  call = subst (λ (call : Call). GnapFits (with_end end call)) (sym begins.3) (subst GnapFits begins.3 fits.call);
   mark = fits.mark;
-  lapse = λ same. let no = ap (with_end end) (sym is.3) ∙ same in absurd cc;
-}
+  lapse = λ same. let no = ap (with_end end) (sym begins.3) ∙ same in absurd cc;
+})
 
-pub ending_no_lapse : (end : ℕ) (begin : Signed) → IsBegin begin.call → ending end begin ≢ unmarked_lapse
-ending_no_lapse end begin is same = let no = ap (with_end end) (sym is.3) ∙ ap (λ (s : Signed). s.call) same in cc no
+pub ending_no_lapse : (asked : Signed) (end : ℕ) (begin : Signed) → asked ≡ ending end begin → IsBegin begin.call → asked ≢ unmarked_lapse
+ending_no_lapse asked end begin is begins same =
+    let no = ap (with_end end) (sym begins.3) ∙ ap (λ (s : Signed). s.call) (sym is ∙ same) in absurd cc
 
 -- there is room for the second entry
 pub room-again : (n n' : ℕ) → n' ≡ n → (h others : List GnapEntry) (e : GnapEntry) → NoneOf n others → e.number ≡ n → length (own_of n h) + 2 < 4503599627370496
@@ -159,26 +159,27 @@ module _ {D Home : Type 0} (rules : D → Setup) (number : D → ℕ) (home : D 
           (omega arith) written (follows_none after off) (derived.lapsed m begin e parent server step refl)
 
       -- the parent was asked about
-      module _ (told : Reply) (x : Enters gnap (rules b) (number b) h t draw (question server parent) told (seen c)) where
+      module _ (asked : Signed) (asked_is : asked ≡ question server parent) (told : Reply) (x : Enters gnap (rules b) (number b) h t draw asked told (seen c)) where
         abbrev pub e : GnapEntry
-        e = entry_of gnap (rules b) (h ++ x.others) (number b) t draw (question server parent)
+        e = entry_of gnap (rules b) (h ++ x.others) (number b) t draw asked
 
         -- what the desk has seen then
         abbrev pub then_seen : List GnapEntry
         then_seen = h ++ x.others ++ e ∷ []
 
         one : Entered (desk_backend rules number home seen setup) b h (e ∷ []) t g g2 c then_seen
-        one = entered-reply rules number home seen setup gnap b b c h [] h t g g1 g2 none same_rules same_number same_home draw drew (question server parent) told x
+        one = entered-reply rules number home seen setup gnap b b c h [] h t g g1 g2 none same_rules same_number same_home draw drew asked told x
 
         asks : AsksParent pairs setup m begin e
-        asks = record { parent = parent; server = server; step = step; asked = refl }
+        asks = record { parent = parent; server = server; step = step; asked = asked_is }
 
         pub parent-inactive : active_until told ≡ None → HasAnswered (reply_bytes (http_reply last (error_response RequestDenied))) conn conn' f f' after
             → TakesTurn (desk_backend rules number home seen setup) (IsDerivingTurn pairs setup) last m b h c g g2 conn conn' f f' after
         parent-inactive gone how = at how
           where
             inactive : e.reply ≡ Inactive
-            inactive = sym x.reply_is ∙ told_inactive (rules b) (h ++ x.others) t draw server parent told x.reply_is gone
+            inactive = sym x.reply_is
+                ∙ told_inactive (rules b) (h ++ x.others) t draw server parent told (x.reply_is ∙ ap (λ s. (gnap.answer (rules b) (h ++ x.others) t draw s).reply) asked_is) gone
 
             at : HasAnswered (reply_bytes (http_reply last (error_response RequestDenied))) conn conn' f f' after
                 → TakesTurn (desk_backend rules number home seen setup) (IsDerivingTurn pairs setup) last m b h c g g2 conn conn' f f' after
@@ -205,16 +206,16 @@ module _ {D Home : Type 0} (rules : D → Setup) (number : D → ℕ) (home : D 
               (entered-lapse rules number home seen setup gnap b c d h (e ∷ []) then_seen t g g2 g3 one rules_again number_again home_again draw' drew' y)
               (omega arith) written (follows_none after off) (derived.begin_lapsed m begin e k end (goes_on k refl) refl)
 
-          pub begin-answered : (reply : Reply) → (y : Enters gnap (rules c) (number c) then_seen t draw' (ending end begin) reply (seen d))
+          pub begin-answered : (begun : Signed) → begun ≡ ending end begin → (reply : Reply) → (y : Enters gnap (rules c) (number c) then_seen t draw' begun reply (seen d))
               → HasAnswered (reply_bytes (http_reply last (response_of setup reply))) conn conn' f f' after
               → TakesTurn (desk_backend rules number home seen setup) (IsDerivingTurn pairs setup) last m b h d g g3 conn conn' f f' after
-          begin-answered reply y how = at how
+          begin-answered begun begun_is reply y how = at how
             where
               k : GnapEntry
-              k = entry_of gnap (rules c) (then_seen ++ y.others) (number c) t draw' (ending end begin)
+              k = entry_of gnap (rules c) (then_seen ++ y.others) (number c) t draw' begun
 
               both : Entered (desk_backend rules number home seen setup) b h (e ∷ k ∷ []) t g g3 d (then_seen ++ y.others ++ k ∷ [])
-              both = entered-reply rules number home seen setup gnap b c d h (e ∷ []) then_seen t g g2 g3 one rules_again number_again home_again draw' drew' (ending end begin) reply y
+              both = entered-reply rules number home seen setup gnap b c d h (e ∷ []) then_seen t g g2 g3 one rules_again number_again home_again draw' drew' begun reply y
 
               at : HasAnswered (reply_bytes (http_reply last (response_of setup reply))) conn conn' f f' after
                   → TakesTurn (desk_backend rules number home seen setup) (IsDerivingTurn pairs setup) last m b h d g g3 conn conn' f f' after
@@ -222,7 +223,7 @@ module _ {D Home : Type 0} (rules : D → Setup) (number : D → ℕ) (home : D 
                   turn-of (desk_backend rules number home seen setup) (IsDerivingTurn pairs setup) last m b h d (then_seen ++ y.others ++ k ∷ []) t (e ∷ k ∷ []) g g3 conn conn' f f' after
                   (reply_bytes (http_reply last (response_of setup k.reply))) true both (omega arith)
                   (subst (λ (r : Reply). HasWrittenText (reply_bytes (http_reply last (response_of setup r))) conn conn' f f' after) y.reply_is written)
-                  (follows_on after on) (derived.begun m begin e k end (goes_on k refl) refl)
+                  (follows_on after on) (derived.begun m begin e k end (goes_on k refl) begun_is)
               at (answered.starved written off) =
                   turn-of (desk_backend rules number home seen setup) (IsDerivingTurn pairs setup) last m b h d (then_seen ++ y.others ++ k ∷ []) t (e ∷ k ∷ []) g g3 conn conn' f f' after
-                  (reply_bytes busy_reply) false both (omega arith) written (follows_none after off) (derived.begin_unsaid m begin e k end (goes_on k refl) refl)
+                  (reply_bytes busy_reply) false both (omega arith) written (follows_none after off) (derived.begin_unsaid m begin e k end (goes_on k refl) begun_is)

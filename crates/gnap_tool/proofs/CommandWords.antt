@@ -6,7 +6,7 @@ use Rattle.std.specs.Str.{bytes_eq}
 use Rattle.command_words.specs.Positionals.{exactly}
 use Rattle.gnap_tool.specs.declared.command.Command.{Command}
 use Rattle.gnap_tool.specs.declared.wrong_words.WrongWords.{WrongWords}
-use Rattle.gnap_tool.specs.Commands.{AreRead, replay_of, field_of, with_three, with_four, with_five, sign_words, marked_sign_words, sign_of, verify_words, as_words, rs_words, cached_rs_words, rs_of, client_words, hash_of, load_words, counts_of, count_among, command_named}
+use Rattle.gnap_tool.specs.Commands.{AreRead, replay_of, field_of, with_three, with_four, with_five, sign_words, marked_sign_words, sign_of, verify_words, as_words, deriving_as_words, as_of, rs_words, cached_rs_words, rs_of, client_words, hash_of, load_words, counts_of, count_among, command_named}
 
 no_replay : (words : List (List ℕ)) → exactly 1 words ≡ None → replay_of words ≡ None
 no_replay [] is = refl
@@ -29,14 +29,6 @@ not_three f (a ∷ b ∷ c ∷ d ∷ words) is = refl
 or_none : (reading : Option Command) → option_or reading None ≡ reading
 or_none None = refl
 or_none (Some command) = refl
-
-not_four : (f : List ℕ → List ℕ → List ℕ → List ℕ → Option Command) (words : List (List ℕ)) → exactly 4 words ≡ None → with_four f words ≡ None
-not_four f [] is = refl
-not_four f (a ∷ []) is = refl
-not_four f (a ∷ b ∷ []) is = refl
-not_four f (a ∷ b ∷ c ∷ []) is = refl
-not_four f (a ∷ b ∷ c ∷ d ∷ []) is = cc
-not_four f (a ∷ b ∷ c ∷ d ∷ e ∷ words) is = refl
 
 no_hash : (words : List (List ℕ)) → exactly 5 words ≡ None → hash_of words ≡ None
 no_hash [] is = refl
@@ -119,7 +111,17 @@ pub of_four : (result : Result Command WrongWords) (words : List (List ℕ))
     → AreRead result words (with_four sign_words words) → AreRead result words (sign_of words)
 of_four = by_four marked_sign_words sign_words
 
--- the same of a resource server
+-- the same of an authorization server
+pub as_of_five : (result : Result Command WrongWords) (words : List (List ℕ)) (a b c d e : List ℕ) → words ≡ a ∷ b ∷ c ∷ d ∷ e ∷ []
+    → AreRead result words (with_five deriving_as_words words) → AreRead result words (as_of words)
+as_of_five = by_five deriving_as_words as_words
+
+pub as_of_four : (result : Result Command WrongWords) (words : List (List ℕ))
+    → ((f : List ℕ → List ℕ → List ℕ → List ℕ → List ℕ → Option Command) → with_five f words ≡ None)
+    → AreRead result words (with_four as_words words) → AreRead result words (as_of words)
+as_of_four = by_four deriving_as_words as_words
+
+-- and of a resource server
 pub rs_of_five : (result : Result Command WrongWords) (words : List (List ℕ)) (a b c d e : List ℕ) → words ≡ a ∷ b ∷ c ∷ d ∷ e ∷ []
     → AreRead result words (with_five cached_rs_words words) → AreRead result words (rs_of words)
 rs_of_five = by_five cached_rs_words rs_words
@@ -132,13 +134,13 @@ rs_of_four = by_four cached_rs_words rs_words
 -- how many words there have to be, and what they are read as, by whether the name is each of those
 abbrev number_by : (a b c d e f g h i : Bool) → Option (ℕ × ℕ)
 number_by a b c d e f g h i =
-    if a then Some (1, 1) else if b then Some (2, 2) else if c then Some (4, 5) else if d then Some (3, 3) else if e then Some (4, 4)
+    if a then Some (1, 1) else if b then Some (2, 2) else if c then Some (4, 5) else if d then Some (3, 3) else if e then Some (4, 5)
     else if f then Some (4, 5) else if g then Some (3, 3) else if h then Some (5, 5) else if i then Some (3, 3) else None
 
 abbrev reading_by : (a b c d e f g h i : Bool) → List (List ℕ) → Option Command
 reading_by a b c d e f g h i words =
     if a then replay_of words else if b then field_of words else if c then sign_of words else if d then with_three verify_words words
-    else if e then with_four as_words words else if f then rs_of words else if g then with_three client_words words
+    else if e then as_of words else if f then rs_of words else if g then with_three client_words words
     else if h then hash_of words else if i then with_three load_words words else None
 
 counted : (a b c d e f g h i : Bool) (least most : ℕ) (words : List (List ℕ))
@@ -149,7 +151,7 @@ counted true b c d e f g h i least most words is none = no_replay words (at 1 le
 counted false true c d e f g h i least most words is none = no_field words (at 2 least most words is none)
 counted false false true d e f g h i least most words is none = either_miscount marked_sign_words sign_words least most words is none
 counted false false false true e f g h i least most words is none = not_three verify_words words (at 3 least most words is none)
-counted false false false false true f g h i least most words is none = not_four as_words words (at 4 least most words is none)
+counted false false false false true f g h i least most words is none = either_miscount deriving_as_words as_words least most words is none
 counted false false false false false true g h i least most words is none = either_miscount cached_rs_words rs_words least most words is none
 counted false false false false false false true h i least most words is none = not_three client_words words (at 3 least most words is none)
 counted false false false false false false false true i least most words is none = no_hash words (at 5 least most words is none)

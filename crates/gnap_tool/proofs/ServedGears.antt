@@ -16,6 +16,9 @@ use Rattle.gnap_io.proofs.OpeningLemmas.{gives-gears, back-all}
 use Rattle.gnap_model.specs.declared.objects.Setup.{Setup}
 use Rattle.serving.specs.ServiceEnds.{has_failed, IsUsedUp, IsEndOfService}
 use Rattle.as_service.specs.Services.{IsService, not_started, served}
+use Rattle.derivation_requests.specs.Pairs.{Pair}
+use Rattle.derived_tokens.specs.DerivedServices.{IsDerivingService}
+use Rattle.derived_tokens.specs.DerivedServices as deriving
 use Rattle.command_inputs.specs.declared.ended.Ended.{Ended}
 use Rattle.command_inputs.specs.declared.ended.Ended.TheVariants.{Done, Failed, Memory}
 use Rattle.gnap_tool.specs.Runs.{ended_service}
@@ -96,3 +99,10 @@ pub service_used : (setup : Setup) (address : List ℕ) (n quota : ℕ) (before 
     → IsService setup address n quota before after answer → UsesWorld (Gears address n quota ∷ []) None before after (ended_service answer)
 service_used setup address n quota before after (Err fault) (not_started _ same cause) = unopened_used (Gears address n quota ∷ []) None before after fault _ refl same cause
 service_used setup address n quota before after answer (served _ gears back many are ended) = gears_used address n quota before after gears answer back many ended
+
+pub deriving_used : (pairs : List Pair) (setup : Setup) (address : List ℕ) (n quota : ℕ) (before after : WorldState) (answer : Result (Unit {0}) WorldFault)
+    → IsDerivingService pairs setup address n quota before after answer → UsesWorld (Gears address n quota ∷ []) None before after (ended_service answer)
+deriving_used pairs setup address n quota before after (Err fault) (deriving.not_started _ same cause) =
+    unopened_used (Gears address n quota ∷ []) None before after fault _ refl same cause
+deriving_used pairs setup address n quota before after answer (deriving.served _ gears back many are ended) =
+    gears_used address n quota before after gears answer back many ended

@@ -8,7 +8,7 @@ use Rattle.message_signature.specs.Marks.{is_nonce}
 use Rattle.gnap_io.specs.declared.world.Opening.{Opening}
 use Rattle.gnap_io.specs.declared.world.Opening.TheVariants.{File, Gears, Link}
 use Rattle.gnap_tool.specs.declared.command.Command.{Command}
-use Rattle.gnap_tool.specs.declared.command.Command.TheVariants.{Replay, Field, Sign, Verify, As, Rs, Client, Hash, Load}
+use Rattle.gnap_tool.specs.declared.command.Command.TheVariants.{Replay, Field, Sign, Verify, As, AsDeriving, Rs, Client, Hash, Load}
 use Rattle.printed_answers.specs.declared.fields.Kind.{Kind}
 use Rattle.printed_answers.specs.declared.fields.Kind.TheVariants.{Item, List as AList, Dictionary}
 use Rattle.gnap_tool.specs.declared.wrong_words.WordForm.{WordForm}
@@ -86,6 +86,16 @@ as_words config listen workers quota =
     if are_arguments (config ∷ listen ∷ [])
     then option_and_then (λ n. option_map (λ most. As config listen n most) (number_within 0 1000000 quota)) (number_within 1 64 workers) else None
 
+-- the same, with a file of pairs
+abbrev pub deriving_as_words : List ℕ → List ℕ → List ℕ → List ℕ → List ℕ → Option Command
+deriving_as_words config listen workers quota pairs =
+    if are_arguments (config ∷ listen ∷ pairs ∷ [])
+    then option_and_then (λ n. option_map (λ most. AsDeriving config listen n most pairs) (number_within 0 1000000 quota)) (number_within 1 64 workers) else None
+
+-- four words, or five
+abbrev pub as_of : List (List ℕ) → Option Command
+as_of words = option_or (with_five deriving_as_words words) (with_four as_words words)
+
 -- at most 1,000,000 connections, and with a cache 1 to 16,384 replies
 abbrev pub rs_words : List ℕ → List ℕ → List ℕ → List ℕ → Option Command
 rs_words config listen server quota =
@@ -130,7 +140,7 @@ counts_of name =
     else if bytes_eq name (codes "field") then Some (2, 2)
     else if bytes_eq name (codes "sign") then Some (4, 5)
     else if bytes_eq name (codes "verify") then Some (3, 3)
-    else if bytes_eq name (codes "as") then Some (4, 4)
+    else if bytes_eq name (codes "as") then Some (4, 5)
     else if bytes_eq name (codes "rs") then Some (4, 5)
     else if bytes_eq name (codes "client") then Some (3, 3)
     else if bytes_eq name (codes "hash") then Some (5, 5)
@@ -143,7 +153,7 @@ command_named name arguments =
     else if bytes_eq name (codes "field") then field_of arguments
     else if bytes_eq name (codes "sign") then sign_of arguments
     else if bytes_eq name (codes "verify") then with_three verify_words arguments
-    else if bytes_eq name (codes "as") then with_four as_words arguments
+    else if bytes_eq name (codes "as") then as_of arguments
     else if bytes_eq name (codes "rs") then rs_of arguments
     else if bytes_eq name (codes "client") then with_three client_words arguments
     else if bytes_eq name (codes "hash") then hash_of arguments
@@ -191,6 +201,7 @@ IsWithinRanges (Field kind file) = Unit {0}
 IsWithinRanges (Sign config key created file nonce) = (created ≤ last_moment) × IfSome nonce (λ n. is_nonce n ≡ true)
 IsWithinRanges (Verify config now file) = now ≤ last_moment
 IsWithinRanges (As config listen workers quota) = (1 ≤ workers) × (workers ≤ 64)
+IsWithinRanges (AsDeriving config listen workers quota pairs) = (1 ≤ workers) × (workers ≤ 64)
 IsWithinRanges (Rs config listen server quota cache) = IfSome cache (λ n. (1 ≤ n) × (n ≤ 16384))
 IsWithinRanges (Client config address script) = Unit {0}
 IsWithinRanges (Hash texts) = Unit {0}
@@ -205,6 +216,7 @@ openings_of (Field kind file) = File file ∷ []
 openings_of (Sign config key created file _) = File config ∷ File file ∷ []
 openings_of (Verify config now file) = File config ∷ File file ∷ []
 openings_of (As config listen workers quota) = File config ∷ Gears listen workers quota ∷ []
+openings_of (AsDeriving config listen workers quota pairs) = File config ∷ File pairs ∷ Gears listen workers quota ∷ []
 openings_of (Rs config listen server quota cache) = File config ∷ Link server ∷ Gears listen 1 quota ∷ []
 openings_of (Client config address script) = File config ∷ Link address ∷ File script ∷ []
 openings_of (Hash texts) = []
@@ -217,6 +229,7 @@ input_place (Field kind file) = Some 0
 input_place (Sign config key created file _) = None
 input_place (Verify config now file) = None
 input_place (As config listen workers quota) = None
+input_place (AsDeriving config listen workers quota pairs) = None
 input_place (Rs config listen server quota cache) = None
 input_place (Client config address script) = Some 1
 input_place (Hash texts) = None

@@ -7,14 +7,16 @@ use Rattle.gnap_io.specs.Outside.{Told}
 use Rattle.gnap_io.specs.Worlds.{WorldState}
 use Rattle.gnap_io.specs.declared.world.WorldFault.{WorldFault}
 use Rattle.as_service.specs.Services.{IsService}
+use Rattle.derivation_requests.specs.Pairs.{Pair}
+use Rattle.derived_tokens.specs.DerivedServices.{IsDerivingService}
 use Rattle.gnap_tool.specs.declared.command.Command.{Command}
-use Rattle.gnap_tool.specs.declared.command.Command.TheVariants.{Replay, Field, Sign, Verify, As, Rs, Client, Hash, Load}
+use Rattle.gnap_tool.specs.declared.command.Command.TheVariants.{Replay, Field, Sign, Verify, As, AsDeriving, Rs, Client, Hash, Load}
 use Rattle.gnap_tool.specs.declared.purpose.Purpose.{Purpose}
 use Rattle.gnap_tool.specs.declared.purpose.Purpose.TheVariants as purposes
 use Rattle.command_inputs.specs.declared.ended.Ended.{Ended}
 use Rattle.command_inputs.specs.declared.ended.Ended.TheVariants.{Done, Failed, Memory}
 use Rattle.command_inputs.specs.Ends.{status_of}
-use Rattle.gnap_tool.specs.Configs.{client_config_in, rs_setup_in}
+use Rattle.gnap_tool.specs.Configs.{client_config_in, rs_setup_in, pairs_in}
 use Rattle.script_runs.specs.Scripts.{RunsClient}
 use Rattle.printed_answers.specs.Fields.{PrintsField}
 use Rattle.printed_answers.specs.HashLines.{PrintsHash}
@@ -66,6 +68,11 @@ abbrev pub Serves : Setup → List ℕ → ℕ → ℕ → WorldState → WorldS
 Serves setup listen workers quota before after ended = ((after ≡ before) × ((ended ≡ Failed) ⊎ (ended ≡ Memory)))
     ⊎ ((answer : Result (Unit {0}) WorldFault) × (ended ≡ ended_service answer) × IsService setup listen workers quota before after answer)
 
+-- the same of a setup with pairs, by which tokens are derived
+abbrev pub ServesDeriving : List Pair → Setup → List ℕ → ℕ → ℕ → WorldState → WorldState → Ended → Type 0
+ServesDeriving pairs setup listen workers quota before after ended = ((after ≡ before) × ((ended ≡ Failed) ⊎ (ended ≡ Memory)))
+    ⊎ ((answer : Result (Unit {0}) WorldFault) × (ended ≡ ended_service answer) × IsDerivingService pairs setup listen workers quota before after answer)
+
 -- the same of a resource server whose guard kept this first, with the authorization server at another address
 abbrev pub ServesGuarded : {K : Type 0} → GuardsKeeping K → K → RsSetup → List ℕ → List ℕ → ℕ → WorldState → WorldState → Ended → Type 0
 ServesGuarded {K} guards first setup listen server quota before after ended = ((after ≡ before) × ((ended ≡ Failed) ⊎ (ended ≡ Memory)))
@@ -94,6 +101,10 @@ CarriesOut (Verify config now file) text before after out out_now ended =
 CarriesOut (As config listen workers quota) text before after out out_now ended =
     BySetup setup_in (text config) before after out out_now ended (λ between setup.
     (out_now ≡ out) × Serves setup listen workers quota between after ended)
+CarriesOut (AsDeriving config listen workers quota pairs) text before after out out_now ended =
+    BySetup setup_in (text config) before after out out_now ended (λ between setup.
+    BySetup (pairs_in setup) (text pairs) between after out out_now ended (λ opened known.
+    (out_now ≡ out) × ServesDeriving known setup listen workers quota opened after ended))
 CarriesOut (Rs config listen server quota cache) text before after out out_now ended =
     BySetup rs_setup_in (text config) before after out out_now ended (λ between setup.
     (out_now ≡ out) × ServesRs setup listen server quota cache between after ended)

@@ -1,6 +1,6 @@
 //! The commands, and which of them words are.
 ghost use Rattle.std.specs.Prelude.{◌≡◌, ◌≤◌, ◌⊎◌, ℕ, List, Option, Some, None, false, true, drop, [], ◌∷◌, IfOk, IfErr, IfSome, IfNone, map, string_bytes};
-ghost use Rattle.gnap_tool.specs.Commands.{AreRead, IsWithinRanges, is_argument, is_nonce_word, kind_of, replay_of, field_of, with_three, with_four, with_five, sign_words, marked_sign_words, sign_of, verify_words, as_words, rs_words, cached_rs_words, rs_of, client_words, long_method, hash_of, load_words, counts_of, count_among, command_named, command_of};
+ghost use Rattle.gnap_tool.specs.Commands.{AreRead, IsWithinRanges, is_argument, is_nonce_word, kind_of, replay_of, field_of, with_three, with_four, with_five, sign_words, marked_sign_words, sign_of, verify_words, as_words, deriving_as_words, as_of, rs_words, cached_rs_words, rs_of, client_words, long_method, hash_of, load_words, counts_of, count_among, command_named, command_of};
 ghost use Rattle.message_signature.specs.Marks.{is_nonce};
 ghost use Rattle.gnap_tool.specs.Numbers.{number_within};
 ghost use Rattle.gnap_tool.specs.declared.wrong_words.WrongWords.TheVariants.{Word, OutOfMemory};
@@ -28,6 +28,8 @@ pub enum Command {
     Verify(Bytes, u64, Bytes),
     /// `as CONFIG LISTEN WORKERS QUOTA`: the authorization server of a setup is served at an address, by so many workers, each for so many connections.
     As(Bytes, Bytes, usize, u32),
+    /// `as CONFIG LISTEN WORKERS QUOTA PAIRS`: the same, and tokens are derived for the clients of the pairs in a file.
+    AsDeriving(Bytes, Bytes, usize, u32, Bytes),
     /// `rs CONFIG LISTEN SERVER QUOTA`, or that and `CACHE`: the resource server of a setup is served at an address, for so many connections, and introspects
     /// tokens at another. With CACHE it keeps so many replies for a while.
     Rs(Bytes, Bytes, Bytes, u32, Option<usize>),
@@ -240,7 +242,7 @@ fn verify_of(alloc: Global, words: &[String]) -> Result<Command, WrongWords>
 }
 
 // At most 64 workers, and at most 1,000,000 connections for each.
-fn as_of(alloc: Global, words: &[String]) -> Result<Command, WrongWords>
+fn plain_as_of(alloc: Global, words: &[String]) -> Result<Command, WrongWords>
     ensures read { AreRead result (map string_bytes words.now) (with_four as_words (map string_bytes words.now)) }
     ensures ranges { IfOk result IsWithinRanges }
 {
@@ -252,6 +254,34 @@ fn as_of(alloc: Global, words: &[String]) -> Result<Command, WrongWords>
     let workers = number(2, WordForm::Workers, workers, 1, 64)?;
     let quota = number(3, WordForm::Connections, quota, 0, 1_000_000)?;
     Ok(Command::As(config, listen, workers as usize, quota as u32))
+}
+
+// The same, with a file of pairs.
+fn deriving_as_of(alloc: Global, words: &[String]) -> Result<Command, WrongWords>
+    ensures read { AreRead result (map string_bytes words.now) (with_five deriving_as_words (map string_bytes words.now)) }
+    ensures ranges { IfOk result IsWithinRanges }
+{
+    let Some((config, listen, workers, quota, pairs)) = five(words) else {
+        return Err(WrongWords::Count);
+    };
+    let config = argument(alloc, 0, config)?;
+    let listen = argument(alloc, 1, listen)?;
+    let workers = number(2, WordForm::Workers, workers, 1, 64)? as usize;
+    let quota = number(3, WordForm::Connections, quota, 0, 1_000_000)? as u32;
+    let pairs = argument(alloc, 4, pairs)?;
+    Ok(Command::AsDeriving(config, listen, workers, quota, pairs))
+}
+
+// Four words, or five with pairs.
+#[tactic(auto, using(crate::proofs::CommandWords::as_of_five, crate::proofs::CommandWords::as_of_four))]
+fn as_of(alloc: Global, words: &[String]) -> Result<Command, WrongWords>
+    ensures read { AreRead result (map string_bytes words.now) (as_of (map string_bytes words.now)) }
+    ensures ranges { IfOk result IsWithinRanges }
+{
+    match five(words) {
+        Some(_) => deriving_as_of(alloc, words),
+        None => plain_as_of(alloc, words),
+    }
 }
 
 // At most 1,000,000 connections.
@@ -357,7 +387,7 @@ pub(crate) fn counts_of(name: &str) -> Option<(usize, usize)>
         "field" => Some((2, 2)),
         "sign" => Some((4, 5)),
         "verify" => Some((3, 3)),
-        "as" => Some((4, 4)),
+        "as" => Some((4, 5)),
         "rs" => Some((4, 5)),
         "client" => Some((3, 3)),
         "hash" => Some((5, 5)),

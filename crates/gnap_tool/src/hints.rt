@@ -40,6 +40,25 @@ pub(crate) fn tell_shown<E: Sink>(err: &mut E, text: &[u8]) {
     }
 }
 
+/// Which text is at fault.
+#[derive(Clone, Copy)]
+pub(crate) enum FaultyText {
+    /// A setup, or a configuration.
+    Setup,
+    /// Pairs of client keys and resource servers.
+    Pairs,
+}
+
+// The form of the member of this name, of pairs.
+fn pair_form_of(name: &Bytes) -> &'static str {
+    match str::from_utf8(name.as_slice()) {
+        Ok("pairs") => ": an array of 1 to 256 objects, each with `client` and `server`",
+        Ok("client") => ": the id of a client's key of the setup, which no other pair has",
+        Ok("server") => ": the id of a resource server's key of the setup",
+        Ok(_) | Err(_) => "",
+    }
+}
+
 // The form of the member of this name, of a setup or of one of its parts.
 fn form_of(name: &Bytes) -> &'static str {
     match str::from_utf8(name.as_slice()) {
@@ -70,6 +89,7 @@ fn form_of(name: &Bytes) -> &'static str {
 fn limit_of(name: &Bytes) -> &'static str {
     match str::from_utf8(name.as_slice()) {
         Ok("keys") => ": 0 to 4,096 keys",
+        Ok("pairs") => ": 1 to 256 pairs",
         Ok("serves") => ": 0 to 256 strings",
         Ok("routes") => ": 1 to 1,024 routes",
         Ok("auto" | "ask" | "right") => {
@@ -79,10 +99,13 @@ fn limit_of(name: &Bytes) -> &'static str {
     }
 }
 
-fn tell_member<E: Sink>(err: &mut E, fault: &ObjectFault) {
+fn tell_member<E: Sink>(err: &mut E, text: FaultyText, fault: &ObjectFault) {
     let (name, is, form): (&Bytes, &str, &str) = match fault {
         ObjectFault::Missing(name) => (name, "` is missing", ""),
-        ObjectFault::Wrong(name) => (name, "` isn't of its form", form_of(name)),
+        ObjectFault::Wrong(name) => match text {
+            FaultyText::Setup => (name, "` isn't of its form", form_of(name)),
+            FaultyText::Pairs => (name, "` isn't of its form", pair_form_of(name)),
+        },
         ObjectFault::TooMany(name) => (name, "` is too long or has too many items", limit_of(name)),
         ObjectFault::Flag(name) => (name, "` stands twice", ""),
         ObjectFault::Unknown(name) => (name, "` isn't known here", ""),
@@ -107,6 +130,7 @@ fn tell_no_setup<E: Sink>(err: &mut E, command: &Command) {
         Command::Sign(config, _, _, _, _)
         | Command::Verify(config, _, _)
         | Command::As(config, _, _, _)
+        | Command::AsDeriving(config, _, _, _, _)
         | Command::Rs(config, _, _, _, _) => {
             tell(err, &[b"gnap: ", config.as_slice(), b" is no setup: "])
         }
@@ -152,19 +176,41 @@ fn tell_key<E: Sink>(err: &mut E, number: usize, place: &FaultPlace) {
     tell(err, &[b" of `keys`, counted from 0"]);
 }
 
-fn tell_setup<E: Sink>(err: &mut E, command: &Command, why: &WrongSetup) {
-    tell_no_setup(err, command);
+// Why a text is none of what it should be.
+fn tell_why<E: Sink>(err: &mut E, text: FaultyText, why: &WrongSetup) {
     match why {
         WrongSetup::TooLong => tell(err, &[b"it has more than 1,048,576 bytes"]),
         WrongSetup::Faulty(SetupFault::NotJson, place) => tell_no_json(err, place),
-        WrongSetup::Faulty(SetupFault::InSetup(fault), _) => tell_member(err, fault),
+        WrongSetup::Faulty(SetupFault::InSetup(fault), _) => tell_member(err, text, fault),
         WrongSetup::Faulty(SetupFault::InKey(number, fault), place) => {
-            tell_member(err, fault);
+            tell_member(err, text, fault);
             tell_key(err, *number, place);
         }
         WrongSetup::Faulty(SetupFault::OutOfMemory, _) => {}
     }
     tell(err, &[b"\n"]);
+}
+
+fn tell_setup<E: Sink>(err: &mut E, command: &Command, why: &WrongSetup) {
+    // Which of its two files is at fault was told where that was read.
+    if let Command::AsDeriving(_, _, _, _, _) = command {
+        return;
+    }
+    tell_no_setup(err, command);
+    tell_why(err, FaultyText::Setup, why);
+}
+
+/// Tells why the text of a file is no setup, or no pairs, where that is why a command ended.
+pub(crate) fn explain_text<E: Sink>(err: &mut E, file: &Bytes, text: FaultyText, ended: &Ended) {
+    let Ended::NoSetup(why) = ended else {
+        return;
+    };
+    let is_none: &[u8] = match text {
+        FaultyText::Setup => b" is no setup: ",
+        FaultyText::Pairs => b" has no pairs of the setup: ",
+    };
+    tell(err, &[b"gnap: ", file.as_slice(), is_none]);
+    tell_why(err, text, why);
 }
 
 // The files of a command, or what it makes without one.
@@ -177,6 +223,16 @@ fn tell_files<E: Sink>(err: &mut E, command: &Command) {
         Command::As(config, listen, _, _) => {
             tell(err, &[config.as_slice(), b" or ", listen.as_slice()])
         }
+        Command::AsDeriving(config, listen, _, _, pairs) => tell(
+            err,
+            &[
+                config.as_slice(),
+                b", ",
+                pairs.as_slice(),
+                b" or ",
+                listen.as_slice(),
+            ],
+        ),
         Command::Rs(config, listen, server, _, _) => tell(
             err,
             &[
@@ -224,6 +280,7 @@ fn tell_refusal<E: Sink>(err: &mut E, command: &Command) {
         ),
         // Nothing that they read is refused.
         Command::As(_, _, _, _)
+        | Command::AsDeriving(_, _, _, _, _)
         | Command::Rs(_, _, _, _, _)
         | Command::Hash(_)
         | Command::Load(_, _, _) => {}

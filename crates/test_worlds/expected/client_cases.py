@@ -49,7 +49,7 @@ class Meeting:
         """The server's reply to these bytes."""
         self.sent.append(request)
         self.moments.append(at)
-        return self.service.reply(next_request(request)[0], at, [])[0]
+        return self.service.reply(next_request(request)[0], at, [[]])[0]
 
     def tell(self, do, at, **takes):
         """Has the client do this, and once more where the reply was lost."""

@@ -68,7 +68,7 @@ class Asked:
         self.replies.clear()
 
     def ask(self, request):
-        self.replies.append(self.service.reply(next_request(request)[0], 1_000, [])[0])
+        self.replies.append(self.service.reply(next_request(request)[0], 1_000, [[]])[0])
         return self.replies[-1]
 
 

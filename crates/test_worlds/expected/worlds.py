@@ -8,6 +8,7 @@ import re
 
 import as_server
 import client_side
+import derived_side
 import http_forms
 import replays
 import resource_side
@@ -182,16 +183,17 @@ def verify(world, config, now, name):
     return print_answer(world, name, lambda request: b"key " + verified(request, setup.base, secrets, now).encode() + b"\n")
 
 
-def serve(world, config, listen, workers, quota):
+def serve(world, config, listen, workers, quota, *pairs):
     """One worker after another: where there are several, the order in which their calls come makes no difference to any reply."""
-    argument(config), argument(listen)
+    argument(config), argument(listen), [argument(name) for name in pairs]
     workers, quota = number(workers, 1, 64), number(quota, 0, 1_000_000)
     setup = world.config(config)
+    servers = [world.config(name, derived_side.pairs_reader(setup)) for name in pairs]
     world.open()
     gears = world.case.get("gears", [])
     if listen != "a" or len(gears) != workers or any(len(gear["connections"]) > quota for gear in gears):
         raise Stop(4)
-    service = as_server.Service(setup)
+    service = derived_side.DerivingService(setup, *servers) if servers else as_server.Service(setup)
     answers = [as_server.served(world, service, gear) for gear in gears]
     world.served = [connections for connections, _ in answers]
     return 4 if any(failed for _, failed in answers) else 0
@@ -255,7 +257,7 @@ def load(world, grants, start, workers):
 
 
 COMMANDS = {
-    "replay": (replay, 1), "field": (field, 2), "sign": (sign, 4, 5), "verify": (verify, 3), "as": (serve, 4), "rs": (serve_resources, 4, 5), "client": (client, 3), "hash": (print_hash, 5), "load": (load, 3),
+    "replay": (replay, 1), "field": (field, 2), "sign": (sign, 4, 5), "verify": (verify, 3), "as": (serve, 4, 5), "rs": (serve_resources, 4, 5), "client": (client, 3), "hash": (print_hash, 5), "load": (load, 3),
 }
 
 

@@ -8,6 +8,7 @@ import json
 from pathlib import Path
 
 import client_cases
+import derived_cases
 import edge_cases
 import generated_histories
 import http_cases
@@ -28,7 +29,7 @@ from worlds import outcome
 
 
 def cases():
-    for module in (http_cases, edge_cases, outside_cases, rights_cases, line_cases, mark_cases, marked_histories, written_cases, client_cases, resource_cases):
+    for module in (http_cases, edge_cases, outside_cases, rights_cases, line_cases, mark_cases, marked_histories, written_cases, client_cases, resource_cases, derived_cases):
         yield from module.cases()
     yield from run_cases.cases(scripted_grants.RUNS + scripted_interactions.RUNS)
     yield from map(run_cases.replay_case, generated_histories.runs() + stored_histories.runs())

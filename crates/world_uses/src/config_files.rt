@@ -31,8 +31,8 @@ fn read_config<S: Source>(alloc: Global, source: &mut S) -> Result<Bytes, Ended>
     }
 }
 
-// Opens the file that should be a setup, reads its text, and gives it back.
-fn open_text<W: World>(alloc: Global, file: &Bytes, world: &mut W) -> Result<Bytes, Ended>
+/// The text of a file that should be a setup or a configuration. Of a file that is too long for one not much more is read.
+pub fn open_text<W: World>(alloc: Global, file: &Bytes, world: &mut W) -> Result<Bytes, Ended>
     ensures config { Over (W.text world.old file.now) (W.state world.old) (W.state world.new) (HasNoConfig result) (GivesText result) }
     ensures world { UsesWorld (Opening.File file.now ∷ []) None (W.state world.old) (W.state world.new) (ended_by result) }
     ensures text { W.text world.new ≡ W.text world.old }

@@ -8,5 +8,5 @@
 mod config_files;
 mod unopened;
 
-pub use config_files::open_config;
+pub use config_files::{open_config, open_text};
 pub use unopened::ended_by_fault;

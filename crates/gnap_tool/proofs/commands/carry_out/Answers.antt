@@ -15,6 +15,9 @@ returns-in-Sign-clause-carried g c =
 pub returns-in-As-clause-carried : goal.returns-in-As-clause-carried
 returns-in-As-clause-carried g c = carried_as _ _ _ _ _ c.in-As.is _ _ _ (c.serve.ensures.carried (g.O.Device.told c.args.out.now))
 
+pub returns-in-AsDeriving-clause-carried : goal.returns-in-AsDeriving-clause-carried
+returns-in-AsDeriving-clause-carried g c = carried_as _ _ _ _ _ c.in-AsDeriving.is _ _ _ (c.serve_deriving.ensures.carried (g.O.Device.told c.args.out.now))
+
 pub returns-in-Rs-clause-carried : goal.returns-in-Rs-clause-carried
 returns-in-Rs-clause-carried g c = carried_as _ _ _ _ _ c.in-Rs.is _ _ _ (c.serve_rs.ensures.carried (g.O.Device.told c.args.out.now))
 
