@@ -2,8 +2,8 @@
 //!
 //!     bench TASK TIMES
 //!
-//! measures one, done so often, and prints the nanoseconds of one, the mean. The tasks are `covering`, `requests`, `introspections`, `grants` and `adding`;
-//! a module of each name says what is done and printed. Without words each is done a few times, and no time is printed.
+//! measures one, done so often, and prints the nanoseconds of one, the mean. The tasks are `covering`, `requests`, `introspections`, `grants`, `adding`,
+//! and `few_sets`, `sets` and `long_sets`; a module of each name, or `sets`, says what is done and printed. Without words each is done a few times, and no time is printed.
 //!
 //! Standard input has the lines of two tasks, also where one of them is measured alone: four of the requests, and behind them those of the introspections.
 //! For another task alone it isn't read.
@@ -16,8 +16,10 @@ mod grants;
 mod hashes;
 mod introspections;
 mod requests;
+mod sets;
 mod timings;
 
+use crate::sets::Table;
 use crate::timings::input_lines;
 use std::rt::Clock;
 use std::sync::Wait;
@@ -34,14 +36,18 @@ enum Task {
     Introspections,
     Grants,
     Adding,
+    Sets(Table),
 }
 
-const TASKS: [Task; 5] = [
+const TASKS: [Task; 8] = [
     Task::Covering,
     Task::Requests,
     Task::Introspections,
     Task::Grants,
     Task::Adding,
+    Task::Sets(Table::Small),
+    Task::Sets(Table::Full),
+    Task::Sets(Table::Long),
 ];
 
 impl Task {
@@ -52,6 +58,9 @@ impl Task {
             "introspections" => Some(Task::Introspections),
             "grants" => Some(Task::Grants),
             "adding" => Some(Task::Adding),
+            "few_sets" => Some(Task::Sets(Table::Small)),
+            "sets" => Some(Task::Sets(Table::Full)),
+            "long_sets" => Some(Task::Sets(Table::Long)),
             _ => None,
         }
     }
@@ -59,7 +68,7 @@ impl Task {
     fn takes_lines(self) -> bool {
         match self {
             Task::Requests | Task::Introspections => true,
-            Task::Covering | Task::Grants | Task::Adding => false,
+            Task::Covering | Task::Grants | Task::Adding | Task::Sets(_) => false,
         }
     }
 
@@ -77,6 +86,7 @@ impl Task {
             Task::Introspections => introspections::measure(rt, introspections, asked),
             Task::Grants => grants::measure(rt, asked),
             Task::Adding => adding::measure(rt, asked),
+            Task::Sets(table) => sets::measure(rt, table, asked),
         }
     }
 }
@@ -105,7 +115,9 @@ impl Order {
 fn main(rt: HostRuntime) -> io::Result<()> {
     let words: Vec<String> = env::args(&rt)?.skip(1).collect(rt.alloc())?;
     let Some(order) = Order::told_by(words.as_slice()) else {
-        return println!(rt; "usage: bench [covering|requests|introspections|grants|adding TIMES]");
+        return println!(rt;
+            "usage: bench [covering|requests|introspections|grants|adding|few_sets|sets|long_sets TIMES]"
+        );
     };
     match order {
         Order::Each => {
