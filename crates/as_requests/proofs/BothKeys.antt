@@ -43,7 +43,8 @@ use Rattle.as_requests.specs.declared.desk_calls.RequestStep.{RequestStep}
 use Rattle.as_requests.specs.declared.desk_calls.RequestStep.TheVariants.{Direct, Ask}
 use Rattle.as_requests.specs.declared.signers.Signer.{Signer}
 use Rattle.as_requests.specs.Rings.{secrets_of}
-use Rattle.as_requests.specs.Routes.{path_of, route_at, methods_of}
+use Rattle.message_signature.specs.Components.{target_path}
+use Rattle.as_requests.specs.Routes.{route_at, methods_of}
 use Rattle.as_requests.specs.Presented.{presented_value}
 use Rattle.as_requests.specs.Signers.{needs_mark, signer_with, signer}
 use Rattle.as_requests.specs.KeyRotations.{named_key, is_new_key, is_signed_by_named}
@@ -179,7 +180,7 @@ module _ (setup : Setup) (m : Message) (moment : ℕ) (signed : Signed) where
   made : (key value : Text) (new_key : Option Text) → signed.call ≡ calls.Rotate key value new_key → desk_call setup m moment ≡ Ask signed
       → IsMadeBy key
   unfolding desk_call
-  made key value new_key call e = by_route (route_at (path_of m.target)) e
+  made key value new_key call e = by_route (route_at (target_path m.target)) e
     where
       by_purpose : (route : Route) (p : Option Purpose) → method_step setup m moment route p ≡ Ask signed → IsMadeBy key
       by_purpose route None e = absurd cc

@@ -33,7 +33,8 @@ use Rattle.as_requests.specs.declared.desk_calls.DirectAnswer.TheVariants as dir
 use Rattle.as_requests.specs.declared.desk_calls.RequestStep.{RequestStep}
 use Rattle.as_requests.specs.declared.desk_calls.RequestStep.TheVariants.{Direct, Ask}
 use Rattle.as_requests.specs.declared.signers.Signer.{Signer}
-use Rattle.as_requests.specs.Routes.{path_of, route_at, methods_of}
+use Rattle.message_signature.specs.Components.{target_path}
+use Rattle.as_requests.specs.Routes.{route_at, methods_of}
 use Rattle.as_requests.specs.Presented.{presented_value}
 use Rattle.as_requests.specs.Signers.{needs_mark, signer}
 use Rattle.as_requests.specs.KeyRotations.{named_key, is_signed_by_named}
@@ -266,9 +267,9 @@ module _ (setup : Setup) (m : Message) (moment : ℕ) where
 
   caused : (code : ErrorCode) → desk_call setup m moment ≡ Direct (direct.Error code) → (kind : CallKind) × IsFor m kind × Cause kind code
   unfolding desk_call
-  caused code e = by_route (route_at (path_of m.target)) refl e
+  caused code e = by_route (route_at (target_path m.target)) refl e
     where
-      by_purpose : (route : Route) → route_at (path_of m.target) ≡ Some route → (p : Option Purpose) → value_at (methods_of route) m.method ≡ p
+      by_purpose : (route : Route) → route_at (target_path m.target) ≡ Some route → (p : Option Purpose) → value_at (methods_of route) m.method ≡ p
           → method_step setup m moment route p ≡ Direct (direct.Error code) → (kind : CallKind) × IsFor m kind × Cause kind code
       by_purpose route path None is e = absurd cc
       by_purpose route path (Some purpose.Discovery) is e = absurd cc
@@ -279,7 +280,7 @@ module _ (setup : Setup) (m : Message) (moment : ℕ) where
         rotation_refused kind code (signed_step setup kind m (signer setup (needs_mark kind) m moment)) refl e,
       )
 
-      by_route : (route : Option Route) → route_at (path_of m.target) ≡ route → route_step setup m moment route ≡ Direct (direct.Error code)
+      by_route : (route : Option Route) → route_at (target_path m.target) ≡ route → route_step setup m moment route ≡ Direct (direct.Error code)
           → (kind : CallKind) × IsFor m kind × Cause kind code
       by_route None path e = absurd cc
       by_route (Some route) path e = by_purpose route path (value_at (methods_of route) m.method) refl e

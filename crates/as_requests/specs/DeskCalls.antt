@@ -23,7 +23,8 @@ use Rattle.as_requests.specs.declared.desk_calls.RequestStep.TheVariants.{Direct
 use Rattle.as_requests.specs.declared.signers.Signer.{Signer}
 use Rattle.as_requests.specs.Signers.{needs_mark, signer}
 use Rattle.as_requests.specs.KeyRotations.{named_key, is_signed_by_named}
-use Rattle.as_requests.specs.Routes.{path_of, route_at, methods_of}
+use Rattle.message_signature.specs.Components.{target_path}
+use Rattle.as_requests.specs.Routes.{route_at, methods_of}
 use Rattle.as_requests.specs.Presented.{presented_value}
 
 -- the body as a call's reader takes it
@@ -64,7 +65,7 @@ route_step setup m moment (Some route) = method_step setup m moment route (value
 
 -- What the message asks at this moment, in seconds since 1970.
 unfoldable pub desk_call : Setup → Message → ℕ → RequestStep
-desk_call setup m moment = route_step setup m moment (route_at (path_of m.target))
+desk_call setup m moment = route_step setup m moment (route_at (target_path m.target))
 
 -- the machine takes the call, which isn't its lapse
 abbrev pub IsAskable : RequestStep → Type 0

@@ -24,7 +24,8 @@ use Rattle.as_requests.specs.declared.routes.Purpose.TheVariants as purpose
 use Rattle.as_requests.specs.declared.desk_calls.DirectAnswer.TheVariants as direct
 use Rattle.as_requests.specs.declared.desk_calls.RequestStep.TheVariants.{Direct, Ask}
 use Rattle.as_requests.specs.declared.signers.Signer.{Signer}
-use Rattle.as_requests.specs.Routes.{path_of, route_at, methods_of}
+use Rattle.message_signature.specs.Components.{target_path}
+use Rattle.as_requests.specs.Routes.{route_at, methods_of}
 use Rattle.as_requests.specs.Signers.{needs_mark, signer}
 use Rattle.as_requests.specs.KeyRotations.{is_signed_by_named}
 use Rattle.as_requests.specs.DeskCalls.{message_body, signed_step, desk_call}
@@ -34,7 +35,7 @@ use Rattle.as_requests.specs.DeskCalls.{message_body, signed_step, desk_call}
 -- a route has the message's path, and its method there is for this call
 pub record IsFor (m : Message) (kind : CallKind) : Type 0 where
   pub route : Route
-  pub path_is : route_at (path_of m.target) ≡ Some route
+  pub path_is : route_at (target_path m.target) ≡ Some route
   pub method_is : value_at (methods_of route) m.method ≡ Some (purpose.Calls kind)
 
 -- a signature passes, and it has the mark that the call needs

@@ -1,19 +1,14 @@
 -- The routes of the authorization server, and what their methods are for.
--- Bytes stand by their numbers: 32 SP, 44 `,`, 63 `?`.
-use Rattle.std.specs.Prelude.{ℕ, List, [], ◌∷◌, take, Option, Some, None, if◌then◌else◌, codes}
+-- Bytes stand by their numbers: 32 SP, 44 `,`.
+use Rattle.std.specs.Prelude.{ℕ, List, [], ◌∷◌, Option, Some, None, if◌then◌else◌, codes}
 use Rattle.std.specs.Str.{bytes_eq}
 use Rattle.structured_fields.specs.Canonical.{separated_text}
-use Rattle.message_signature.specs.Components.{until}
 use Rattle.gnap_objects.specs.declared.call_reading.CallKind.{CallKind}
 use Rattle.gnap_objects.specs.declared.call_reading.CallKind.TheVariants.{Begin, Continue, Modify, Cancel, Rotate, Revoke, Introspect, Look, FindCode, Decide}
 use Rattle.as_requests.specs.declared.routes.Route.{Route}
 use Rattle.as_requests.specs.declared.routes.Route.TheVariants as route
 use Rattle.as_requests.specs.declared.routes.Purpose.{Purpose}
 use Rattle.as_requests.specs.declared.routes.Purpose.TheVariants as purpose
-
--- what stands before the `?` of a request target (RFC 9112, section 3.2.1)
-abbrev pub path_of : List ℕ → List ℕ
-path_of target = take (until 63 target) target
 
 abbrev pub route_at : List ℕ → Option Route
 route_at path = if bytes_eq path (codes "/gnap") then Some route.Grants

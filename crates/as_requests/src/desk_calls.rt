@@ -9,12 +9,13 @@ ghost use Rattle.as_requests.specs.DeskCalls.{message_body, step_of, signed_step
 use crate::authorization::presented_value;
 use crate::edge::Edge;
 use crate::key_rotations::is_signed_by_named;
-use crate::routes::{Purpose, Route, path_of};
+use crate::routes::{Purpose, Route};
 use crate::signers::{Signer, find_signer, needs_mark};
 use bytes_and_lists::memory::Mem;
 use bytes_and_lists::message::Message;
 use gnap_objects::{BodyForm, CallKind, CallOrRefusal, ErrorCode, read_call, stranger};
 use json_objects::{BodyFault, read_body};
+use message_signature::target_path;
 use signed_calls::signed::{Mark, Signed};
 use std::alloc::Global;
 
@@ -169,7 +170,7 @@ pub fn desk_call(
     ensures step { IfOk result (λ s. s ≡ desk_call edge.now message.now moment) }
     ensures askable { IfOk result IsAskable }
 {
-    match Route::at(path_of(message.target.as_slice())) {
+    match Route::at(target_path(message.target.as_slice())) {
         None => Ok(RequestStep::Direct(DirectAnswer::NotFound)),
         Some(route) => route_step(alloc, edge, route, message, moment),
     }

@@ -1,8 +1,7 @@
 //! The routes of the authorization server, and what their methods are for.
-ghost use Rattle.std.specs.Prelude.{◌≡◌, ◌≤◌, length};
+ghost use Rattle.std.specs.Prelude.{◌≡◌};
 ghost use Rattle.structured_fields.specs.Named.{value_at};
-ghost use Rattle.message_signature.specs.Components.{until};
-ghost use Rattle.as_requests.specs.Routes.{path_of, route_at, posts, methods_of, allowed_methods};
+ghost use Rattle.as_requests.specs.Routes.{route_at, posts, methods_of, allowed_methods};
 
 use gnap_objects::CallKind;
 
@@ -36,21 +35,6 @@ pub enum Purpose {
     Discovery,
     /// What the server says of itself to resource servers (RFC 9767, section 3.1). Nobody has to sign.
     RsDiscovery,
-}
-
-// How many bytes stand before the `?`.
-fn path_len(target: &[u8]) -> usize
-    ensures len { result ≡ until 63 target.now }
-    ensures within { result ≤ length target.now }
-{
-    target.iter().take_while(|b| **b != b'?').count()
-}
-
-/// The path of a request target: what stands before its first `?` (RFC 9112, section 3.2.1).
-pub fn path_of(target: &[u8]) -> &[u8]
-    ensures { result.now ≡ path_of target.now }
-{
-    &target[..path_len(target)]
 }
 
 // What a method is for where `POST` alone is there, for this call.

@@ -7,7 +7,7 @@ use Rattle.base64.specs.Rfc4648.{encode_symbols}
 use Rattle.bytes_and_lists.specs.declared.message.Field.{Field}
 use Rattle.bytes_and_lists.specs.declared.message.Message.{Message}
 use Rattle.structured_fields.specs.declared.item.InnerList.{InnerList}
-use Rattle.structured_fields.specs.Reading.{key_at, decimal_at, unsigned_at, number_at, string_rest, decoded, binary_rest, bare_at, value_of, group_at, params_from, params_at, item_at, items_from, items_at, inner_at, member_at, entry_value_at, entry_at, next_at, members_from, members_of, dictionary_of}
+use Rattle.structured_fields.specs.Reading.{key_at, decimal_at, unsigned_at, number_at, string_rest, decoded, binary_rest, bare_at, value_of, parameter_at, params_from, params_at, item_at, items_from, items_at, inner_at, member_at, entry_value_at, entry_at, next_at, members_from, members_of, dictionary_of}
 use Rattle.message_signature.specs.Components.{component, field_value}
 use Rattle.key_rotation.specs.RotationBase.{rotation_lines, base_with, rotation_base}
 use Rattle.message_signature.specs.Signed.{component_item, covered}
@@ -31,7 +31,7 @@ request = record {
 
 pub second_base : rotation_base request (codes "https://as.example") (rotation_input request (codes "c2") 1002) ≡ Some (
     codes "\"@method\": POST\n\"@target-uri\": https://as.example/token\n\"content-digest\": sha-256=:pFiaIJZh9GLNTAoqcW+jrnQfACwNB4pusYF/q4pSj7I=:\n\"authorization\": GNAP AAAAAAAAAAIAAAAAAAAAAAAAAAAAAAAA\n\"signature\";key=\"sig1\": :QPMXrzu1re75AzYLirPUSq1++Kh5BuzFopiM093gt5k=:\n\"signature-input\";key=\"sig1\": (\"@method\" \"@target-uri\" \"content-digest\" \"authorization\");created=1002;keyid=\"c1\";nonce=\"n7\";tag=\"gnap\"\n\"@signature-params\": (\"@method\" \"@target-uri\" \"content-digest\" \"authorization\" \"signature\";key=\"sig1\" \"signature-input\";key=\"sig1\");created=1002;keyid=\"c2\";tag=\"gnap-rotate\"")
-unfolding base_with rotation_lines component field_value digits key_at decimal_at unsigned_at number_at string_rest decoded binary_rest bare_at value_of group_at params_from params_at item_at items_from items_at inner_at member_at entry_value_at entry_at next_at members_from members_of dictionary_of decoded_of groups_error scan_steps groups_bytes encode_symbols
+unfolding base_with rotation_lines component field_value digits key_at decimal_at unsigned_at number_at string_rest decoded binary_rest bare_at value_of parameter_at params_from params_at item_at items_from items_at inner_at member_at entry_value_at entry_at next_at members_from members_of dictionary_of decoded_of groups_error scan_steps groups_bytes encode_symbols
 second_base = refl
 
 -- ---- what covers the first signature

@@ -51,9 +51,13 @@ scheme_of base = take (until 58 base) base
 abbrev pub authority_of : List ℕ → List ℕ
 authority_of base = drop (until 58 base + 3) base
 
+-- what stands before the first `?` of a request target (RFC 9112, section 3.2.1)
+abbrev pub target_path : List ℕ → List ℕ
+target_path target = take (until 63 target) target
+
 -- what stands before the `?` of the request target, and from the `?` on
 abbrev pub path_of : List ℕ → List ℕ
-path_of target = or_default (codes "/") (take (until 63 target) target)
+path_of target = or_default (codes "/") (target_path target)
 
 abbrev pub query_of : List ℕ → List ℕ
 query_of target = or_default (codes "?") (drop (until 63 target) target)

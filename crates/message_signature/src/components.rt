@@ -4,7 +4,7 @@ ghost use Rattle.std.specs.List.{list_any};
 ghost use Rattle.std.specs.Option.{option_map};
 ghost use Rattle.std.specs.Str.{bytes_eq};
 ghost use Rattle.message_signature.specs.Faults.{GivesBase};
-ghost use Rattle.message_signature.specs.Components.{field_value, with_next, text_of, until, or_default, scheme_of, authority_of, path_of, query_of, begins_with_at, is_upper, component};
+ghost use Rattle.message_signature.specs.Components.{field_value, with_next, text_of, until, or_default, scheme_of, authority_of, target_path, path_of, query_of, begins_with_at, is_upper, component};
 ghost use Rattle.message_signature.specs.Verified.{has_body, has_field};
 
 use crate::fault::BaseFault;
@@ -135,10 +135,17 @@ fn authority_of(base: &[u8]) -> &[u8]
     }
 }
 
+/// The path of a request target: what stands before its first `?` (RFC 9112, section 3.2.1).
+pub fn target_path(target: &[u8]) -> &[u8]
+    ensures { result.now ≡ target_path target.now }
+{
+    &target[..until(b'?', target)]
+}
+
 fn path_of(target: &[u8]) -> &[u8]
     ensures { result.now ≡ path_of target.now }
 {
-    or_default(b"/", &target[..until(b'?', target)])
+    or_default(b"/", target_path(target))
 }
 
 fn query_of(target: &[u8]) -> &[u8]

@@ -16,7 +16,7 @@ mod tags;
 mod verifying;
 
 pub use base::base_of;
-pub use components::{FieldValue, append_component, field_value};
+pub use components::{FieldValue, append_component, field_value, target_path};
 pub use fault::{BaseFault, SigFault, SignFault};
 pub use marks::{LATEST_CREATED, LONGEST_NONCE, SignatureMark, is_nonce, mark_of};
 pub use signing::{covered_items, labelled, sign, sign_marked, signature_params};

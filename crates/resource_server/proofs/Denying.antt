@@ -6,7 +6,7 @@ use Rattle.std.specs.Str.{bytes_eq}
 use Rattle.std.proofs.lemmas.Iterator.Adapters.{position_from-zero}
 use Rattle.std.proofs.lemmas.Slice.Eq.{bytes_eq-Decides}
 use Rattle.bytes_and_lists.specs.declared.message.Message.{Message}
-use Rattle.as_requests.specs.Routes.{path_of}
+use Rattle.message_signature.specs.Components.{target_path}
 use Rattle.gnap_model.specs.declared.rights.Right.{Right}
 use Rattle.gnap_model.specs.Rights.{covers}
 use Rattle.message_signature.specs.declared.fault.SigFault.{SigFault}
@@ -45,9 +45,9 @@ none_there test routes e = none_from test 0 routes (sym (position_from-zero test
 
 -- what a refusal that was made at once means, without the exchanges
 abbrev AtOnce : List Route → Message → Guarded → Type 0
-AtOnce routes m (guarded.Deny status why.NoRoute) = (status ≡ 404) × (list_any (has_path (path_of m.target)) routes ≡ false)
+AtOnce routes m (guarded.Deny status why.NoRoute) = (status ≡ 404) × (list_any (has_path (target_path m.target)) routes ≡ false)
 AtOnce routes m (guarded.Deny status why.NoMethod) =
-    (status ≡ 405) × (list_any (has_path (path_of m.target)) routes ≡ true) × (list_any (is_route m.method (path_of m.target)) routes ≡ false)
+    (status ≡ 405) × (list_any (has_path (target_path m.target)) routes ≡ true) × (list_any (is_route m.method (target_path m.target)) routes ≡ false)
 AtOnce routes m (guarded.Deny status why.NoToken) =
     (status ≡ 401) × (i : ℕ) × (route_of routes m ≡ Ok i) × (presented_at (only_value (filter is_authorization m.fields)) ≡ None)
 AtOnce routes m (guarded.Deny status (why.BadReply reply)) = ⊥
@@ -58,12 +58,12 @@ AtOnce routes m (guarded.Allow i) = ⊥
 AtOnce routes m guarded.LinkFault = ⊥
 AtOnce routes m guarded.Memory = ⊥
 
-not_placed : (routes : List Route) (m : Message) (path : Bool) (o : Option ℕ) (answer : Guarded) → list_any (has_path (path_of m.target)) routes ≡ path
-    → position (is_route m.method (path_of m.target)) routes ≡ o → placed path o ≡ Err answer → AtOnce routes m answer
+not_placed : (routes : List Route) (m : Message) (path : Bool) (o : Option ℕ) (answer : Guarded) → list_any (has_path (target_path m.target)) routes ≡ path
+    → position (is_route m.method (target_path m.target)) routes ≡ o → placed path o ≡ Err answer → AtOnce routes m answer
 not_placed routes m path (Some i) answer any at e = absurd (cc)
 not_placed routes m true None answer any at e =
     let is : guarded.Deny 405 why.NoMethod ≡ answer = cc in
-    subst (AtOnce routes m) is (refl, any, none_there (is_route m.method (path_of m.target)) routes at)
+    subst (AtOnce routes m) is (refl, any, none_there (is_route m.method (target_path m.target)) routes at)
 not_placed routes m false None answer any at e =
     let is : guarded.Deny 404 why.NoRoute ≡ answer = cc in
     subst (AtOnce routes m) is (refl, any)

@@ -5,7 +5,7 @@ use Rattle.gnap_io.specs.Links.{Exchange}
 use Rattle.bytes_and_lists.specs.declared.message.Message.{Message}
 use Rattle.gnap_model.specs.declared.rights.Right.{Right}
 use Rattle.gnap_model.specs.Rights.{covers}
-use Rattle.as_requests.specs.Routes.{path_of}
+use Rattle.message_signature.specs.Components.{target_path}
 use Rattle.message_signature.specs.Verified.{verified}
 use Rattle.reply_readers.specs.declared.judgement.Judgement.TheVariants.{Active, Inactive}
 use Rattle.signed_requests.specs.declared.unsigned.Scheme.{Scheme}
@@ -84,10 +84,10 @@ pub record GotReply (setup : RsSetup) (m : Message) (now : ℕ) (route : Route) 
 -- What each reason for a refusal takes. For the first three nothing is asked, for the others one reply came.
 abbrev pub IsCause : RsSetup → Message → ℕ → List Exchange → Why → Type 0
 -- no route has the message's path
-IsCause setup m now exchanges why.NoRoute = (exchanges ≡ []) × (list_any (has_path (path_of m.target)) setup.routes ≡ false)
+IsCause setup m now exchanges why.NoRoute = (exchanges ≡ []) × (list_any (has_path (target_path m.target)) setup.routes ≡ false)
 -- a route has it, and none of those has the message's method
 IsCause setup m now exchanges why.NoMethod =
-    (exchanges ≡ []) × (list_any (has_path (path_of m.target)) setup.routes ≡ true) × (list_any (is_route m.method (path_of m.target)) setup.routes ≡ false)
+    (exchanges ≡ []) × (list_any (has_path (target_path m.target)) setup.routes ≡ true) × (list_any (is_route m.method (target_path m.target)) setup.routes ≡ false)
 -- a route has both, and no token is presented in the one `Authorization` field
 IsCause setup m now exchanges why.NoToken =
     (exchanges ≡ []) × (i : ℕ) × (route_of setup.routes m ≡ Ok i) × (presented_at (only_value (filter is_authorization m.fields)) ≡ None)

@@ -4,7 +4,7 @@ use Rattle.std.specs.List.{list_any}
 use Rattle.std.specs.Str.{bytes_eq, str_eq_ignore_ascii_case}
 use Rattle.bytes_and_lists.specs.declared.message.Field.{Field}
 use Rattle.bytes_and_lists.specs.declared.message.Message.{Message}
-use Rattle.as_requests.specs.Routes.{path_of}
+use Rattle.message_signature.specs.Components.{target_path}
 use Rattle.reply_readers.specs.Members.{is_value}
 use Rattle.signed_requests.specs.declared.unsigned.Scheme.{Scheme}
 use Rattle.signed_requests.specs.declared.unsigned.Scheme.TheVariants.{Gnap, Bearer}
@@ -33,7 +33,7 @@ placed path None = if path then Err (Deny 405 why.NoMethod) else Err (Deny 404 w
 
 -- the place of the route with the message's method and path
 abbrev pub route_of : List Route → Message → Result ℕ Guarded
-route_of routes m = placed (list_any (has_path (path_of m.target)) routes) (position (is_route m.method (path_of m.target)) routes)
+route_of routes m = placed (list_any (has_path (target_path m.target)) routes) (position (is_route m.method (target_path m.target)) routes)
 
 -- ---- the token
 

@@ -7,8 +7,8 @@ ghost use Rattle.resource_server.specs.Routing.{has_path, is_route, route_of, is
 
 use crate::guarded::{Guarded, Why};
 use crate::setup::{Route, Routes, RsSetup};
-use as_requests::routes::path_of;
 use bytes_and_lists::message::{Field, Fields, Message};
+use message_signature::target_path;
 use reply_readers::values::is_value;
 use signed_requests::Scheme;
 
@@ -39,7 +39,7 @@ pub(crate) fn route_of(routes: &Routes, message: &Message) -> Result<usize, Guar
     ensures within { IfOk result (λ i. i < length routes.now) }
     ensures answer { (setup : RsSetup) → IfErr result (IsAnswer setup) }
 {
-    let path = path_of(message.target.as_slice());
+    let path = target_path(message.target.as_slice());
     match place_of(routes.as_slice(), message.method.as_slice(), path) {
         Some(i) => Ok(i),
         None => if any_path(routes.as_slice(), path) {

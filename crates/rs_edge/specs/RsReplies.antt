@@ -9,7 +9,7 @@ use Rattle.structured_fields.specs.Canonical.{separated_text}
 use Rattle.http_edge.specs.declared.reply.HttpReply.{HttpReply}
 use Rattle.http_edge.specs.declared.reply.Extra.TheVariants.{Allow}
 use Rattle.http_edge.specs.Replies.{plain_reply, busy_reply}
-use Rattle.as_requests.specs.Routes.{path_of}
+use Rattle.message_signature.specs.Components.{target_path}
 use Rattle.resource_server.specs.declared.setup.Route.{Route}
 use Rattle.resource_server.specs.declared.setup.RsSetup.{RsSetup}
 use Rattle.resource_server.specs.declared.guarded.Guarded.{Guarded}
@@ -34,7 +34,7 @@ abbrev pub allow_text : List (List ℕ) → List ℕ
 allow_text methods = separated_text (44 ∷ 32 ∷ []) (λ m. m) methods
 
 abbrev pub allow_reply : List Route → Message → Bool → HttpReply
-allow_reply routes m last = record { status = 405; extra = Allow (allow_text (methods_at (path_of m.target) routes)); body = None; last = last }
+allow_reply routes m last = record { status = 405; extra = Allow (allow_text (methods_at (target_path m.target) routes)); body = None; last = last }
 
 -- the reply to a refusal: none has a body
 abbrev pub refusal_reply : RsSetup → Message → Bool → ℕ → Why → HttpReply

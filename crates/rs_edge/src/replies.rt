@@ -9,12 +9,12 @@ ghost use Rattle.resource_server.specs.Fits.{RsSetupFits};
 ghost use Rattle.resource_server.specs.Guarding.{status_of, IsAnswer};
 ghost use Rattle.rs_edge.specs.RsReplies.{shown_fields, shown_text, methods_at, allow_text, allow_reply, refusal_reply, rs_reply};
 
-use as_requests::routes::path_of;
 use bytes_and_lists::bytes::Bytes;
 use bytes_and_lists::memory::Mem;
 use bytes_and_lists::message::Message;
 use http_edge::HttpReply;
 use json_objects::{compact_text, put, text_value};
+use message_signature::target_path;
 use resource_server::{Guarded, Route, Routes, RsSetup, Why};
 use serde_json::{Map, Value};
 use std::alloc::Global;
@@ -77,7 +77,7 @@ fn allow_reply(
     ensures value { IfOk result (λ r. r ≡ allow_reply setup.now.routes message.now last) }
     ensures fits { IfOk result MayWrite }
 {
-    let path = path_of(message.target.as_slice());
+    let path = target_path(message.target.as_slice());
     Ok(HttpReply::not_allowed(allow_text(alloc, path, &setup.routes)?, last))
 }
 

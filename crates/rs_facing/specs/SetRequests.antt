@@ -16,7 +16,7 @@ use Rattle.gnap_objects.specs.declared.fault.ObjectFault.{ObjectFault}
 use Rattle.gnap_objects.specs.declared.registrations.Registration.{Registration}
 use Rattle.gnap_objects.specs.CallReading.{is_server, is_front}
 use Rattle.gnap_objects.specs.Registrations.{registration_of, resolution_of}
-use Rattle.as_requests.specs.Routes.{path_of}
+use Rattle.message_signature.specs.Components.{target_path}
 use Rattle.as_requests.specs.declared.signers.Signer.{Signer}
 use Rattle.as_requests.specs.Signers.{signer}
 use Rattle.resource_sets.specs.declared.sets.SetCall.TheVariants.{Register, Resolve, Lapse}
@@ -79,7 +79,7 @@ route_step setup m moment (Some route) = method_step setup route m moment
 
 -- What the message asks at this moment, in seconds since 1970 (RFC 9767, section 3.4).
 unfoldable pub set_call : Setup → Message → ℕ → SetStep
-set_call setup m moment = route_step setup m moment (set_route_at (path_of m.target))
+set_call setup m moment = route_step setup m moment (set_route_at (target_path m.target))
 
 -- the machine takes the call, which isn't its lapse
 abbrev pub IsAskableSet : SetStep → Type 0

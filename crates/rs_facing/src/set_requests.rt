@@ -8,7 +8,6 @@ ghost use Rattle.gnap_objects.specs.Registrations.{registration_of, resolution_o
 ghost use Rattle.as_requests.specs.Signers.{signer};
 ghost use Rattle.rs_facing.specs.SetRequests.{set_route_at, may_ask, refused, registered_by, resolved_by, body_step, key_step, signed_step, method_step, set_call, IsAskableSet};
 
-use as_requests::routes::path_of;
 use as_requests::{Edge, Signer, find_signer};
 use bytes_and_lists::bytes::Bytes;
 use bytes_and_lists::memory::Mem;
@@ -16,6 +15,7 @@ use bytes_and_lists::message::Message;
 use gnap_model::objects::{ErrorCode, KeyRow, Role};
 use gnap_objects::{ObjectFault, Registration, read_registration, read_resolution};
 use json_objects::{BodyFault, read_body};
+use message_signature::target_path;
 use resource_sets::sets::SetCall;
 use serde_json::Value;
 use std::alloc::Global;
@@ -211,7 +211,7 @@ pub fn set_call(alloc: Global, message: &Message, edge: &Edge, moment: u64) -> R
     ensures step { IfOk result (λ s. s ≡ set_call edge.now message.now moment) }
     ensures askable { IfOk result IsAskableSet }
 {
-    match SetRoute::at(path_of(message.target.as_slice())) {
+    match SetRoute::at(target_path(message.target.as_slice())) {
         None => Ok(SetStep::Direct(SetAnswer::NotFound)),
         Some(route) => method_step(alloc, edge, route, message, moment),
     }

@@ -22,9 +22,13 @@ pub record Wire (Message Fault : Type 0) : Type 1 where
   pub refusal : Fault → List ℕ
   pub starved : List ℕ
 
+-- the place of the last message that a connection may bring, counted from 0
+abbrev pub last_place : ℕ
+last_place = 999
+
 -- how many messages a connection may bring
 abbrev pub most_messages : ℕ
-most_messages = 1000
+most_messages = suc last_place
 
 module _ {Message Fault : Type 0} (wire : Wire Message Fault) where
   -- the bytes begin with these messages, and these come after them
@@ -34,7 +38,7 @@ module _ {Message Fault : Type 0} (wire : Wire Message Fault) where
 
   -- whether the response to the message at a place, counted from 0, is the last one
   abbrev pub is_closing : ℕ → Message → Bool
-  is_closing place m = wire.is_last m || place == 999
+  is_closing place m = wire.is_last m || place == last_place
 
 module _ {Message Fault E : Type 0} (wire : Wire Message Fault) where
   -- another message may come after each of the turns, the first of which is at this place

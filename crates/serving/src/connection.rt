@@ -1,7 +1,7 @@
 //! A connection's messages, one after another.
 ghost use Rattle.std.specs.Prelude.{◌≡◌};
 ghost use Rattle.gnap_io.specs.Outside.{IsUntouched, served_of};
-ghost use Rattle.serving.specs.Connections.{ServesTurns, is_closing};
+ghost use Rattle.serving.specs.Connections.{ServesTurns, is_closing, most_messages};
 ghost use Rattle.serving.specs.Reading.{Stops};
 
 use crate::ends::{AfterTurn, ConnectionEnd, NoMessage};
@@ -11,11 +11,14 @@ use gnap_io::device::{Failed, Sink, Source};
 use gnap_io::gear::Clock;
 use std::alloc::Global;
 
+// The place of the last message that a connection may bring, counted from 0.
+const LAST_PLACE: u64 = 999;
+
 // Whether the response to the message of a place, counted from 0, is the last one.
 fn closes<V: MessageReader>(server: &V, message: &V::Message, place: u64) -> bool
     ensures { result ≡ is_closing V.wire place message.now }
 {
-    server.is_last(message) || place == 999
+    server.is_last(message) || place == LAST_PLACE
 }
 
 // Says what is said where there is no message.
@@ -49,7 +52,7 @@ pub fn serve_connection<V: TurnTaker<B, G>, B, S: Source + Sink, G: Clock>(
     conn: &mut S,
     gear: &mut G,
 ) -> ConnectionEnd<V::Fault>
-    requires room { (V.backend_kind server.now).has_room backend.old 1000 }
+    requires room { (V.backend_kind server.now).has_room backend.old most_messages }
     requires untouched { IsUntouched (S.told conn.old) (S.faults conn.old) }
     ensures { (past : _) → (V.backend_kind server.now).seen backend.old past
         → ServesTurns (V.backend_kind server.now) V.wire (V.is_turn server.now) backend.old past backend.new (G.state gear.old) (G.state gear.new)
@@ -65,7 +68,7 @@ pub fn serve_connection<V: TurnTaker<B, G>, B, S: Source + Sink, G: Clock>(
                 match server.turn(alloc, backend, conn, gear, &message, last) {
                     AfterTurn::MoreMayCome => {
                         if last {
-                            if place == 999 {
+                            if place == LAST_PLACE {
                                 return ConnectionEnd::Quota;
                             }
                             return ConnectionEnd::Closed;

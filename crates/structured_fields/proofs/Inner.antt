@@ -7,7 +7,7 @@ use Rattle.structured_fields.specs.declared.bare.Bare.{Bare}
 use Rattle.structured_fields.specs.declared.item.Item.{Item}
 use Rattle.structured_fields.specs.declared.item.InnerList.{InnerList}
 use Rattle.structured_fields.specs.Letters.{is_space}
-use Rattle.structured_fields.specs.Grammar.{IsItem, IsGap, IsInner, AreSeparated}
+use Rattle.structured_fields.specs.Grammar.{IsItem, SeparatesItems, IsInner, AreSeparated}
 use Rattle.structured_fields.specs.Reading.{◌>>=◌, behind, begins, item_at, params_at, is_item_end, items_from, items_at, inner_at}
 use Rattle.structured_fields.proofs.Fronts.{bind_some, behind_again, chosen, given, some_is, begun}
 use Rattle.structured_fields.proofs.Bares.{rest_bytes}
@@ -29,7 +29,7 @@ pub record TakesItems (held : List Item) (t : List ℕ) (y : List Item × List �
   pub text : List ℕ
   pub items : List Item
   pub parts : t ≡ spaces before ++ (text ++ (spaces after ++ 41 ∷ y.1))
-  pub are : AreSeparated IsGap IsItem text items
+  pub are : AreSeparated SeparatesItems IsItem text items
   pub value : y.0 ≡ held ++ items
 
 -- no item begins with what ends one
@@ -41,7 +41,7 @@ item_no_end text rest v is =
 module _ (held : List Item) (t rest : List ℕ) (b : ℕ) (x : Item) (y : List Item × List ℕ) (first : List ℕ)
     (whole : t ≡ spaces b ++ (first ++ rest)) (is : IsItem first x) (end : is_item_end rest ≡ true) where
   joined : (items : List Item) (before after : ℕ) (text : List ℕ) → rest ≡ spaces before ++ (text ++ (spaces after ++ 41 ∷ y.1))
-      → AreSeparated IsGap IsItem text items → y.0 ≡ (held ++ x ∷ []) ++ items → TakesItems held t y
+      → AreSeparated SeparatesItems IsItem text items → y.0 ≡ (held ++ x ∷ []) ++ items → TakesItems held t y
   joined [] before after text parts are value = record {
     before = b;
     after = before + after;
@@ -117,7 +117,7 @@ inner_takes t x fits e =
     subst (TakesInner t) (some_is made x b.2) (record {
       text = 40 ∷ spaces i.before ++ (i.text ++ (spaces i.after ++ 41 ∷ p.text));
       parts = ap (λ (u : List ℕ). 40 ∷ u) (i.parts ∙ ap (λ (u : List ℕ). spaces i.before ++ (i.text ++ (spaces i.after ++ 41 ∷ u))) p.parts ∙ regrouped (spaces i.before) i.text (spaces i.after) p.text b.0.1);
-      is = record { before = i.before; after = i.after; items_text = i.text; params_text = p.text; is = refl; items = subst (AreSeparated IsGap IsItem i.text) (sym i.value) i.are; params = p.are };
+      is = record { before = i.before; after = i.after; items_text = i.text; params_text = p.text; is = refl; items = subst (AreSeparated SeparatesItems IsItem i.text) (sym i.value) i.are; params = p.are };
     })
 
 -- ---- what is written is read
@@ -145,7 +145,7 @@ items_end n held before after rest =
     let left : behind is_space (spaces before ++ (spaces after ++ 41 ∷ rest)) ≡ 41 ∷ rest = ap (behind is_space) (spaces_more before after (41 ∷ rest)) ∙ behind_again is_space (spaces (before + after)) (41 ∷ rest) (are_spaces (before + after)) refl in
     rw left refl
 
-items_again : (items : List Item) (n : ℕ) (held : List Item) (before after : ℕ) (text rest : List ℕ) → AreSeparated IsGap IsItem text items → length items < n
+items_again : (items : List Item) (n : ℕ) (held : List Item) (before after : ℕ) (text rest : List ℕ) → AreSeparated SeparatesItems IsItem text items → length items < n
     → items_from n held (spaces before ++ (text ++ (spaces after ++ 41 ∷ rest))) ≡ Some (held ++ items, rest)
 items_again items zero held before after text rest are lt = absurd (omega arith)
 items_again [] (suc n) held before after text rest are lt =
@@ -173,7 +173,7 @@ inner_again text rest v i h =
     let tail : List ℕ = spaces i.after ++ 41 ∷ q in
     let t : List ℕ = spaces i.before ++ (i.items_text ++ tail) in
     let whole : text ++ rest ≡ 40 ∷ t = ap (λ (u : List ℕ). u ++ rest) i.is ∙ ap (λ (u : List ℕ). 40 ∷ u) (sym (regrouped (spaces i.before) i.items_text (spaces i.after) i.params_text rest)) in
-    let few : length v.items ≤ length i.items_text = count_separated IsGap IsItem (λ text x is. opens_some is_plain text (item_opens text x is)) v.items i.items_text i.items in
+    let few : length v.items ≤ length i.items_text = count_separated SeparatesItems IsItem (λ text x is. opens_some is_plain text (item_opens text x is)) v.items i.items_text i.items in
     let long : length t ≡ length (spaces i.before) + (length i.items_text + (length (spaces i.after) + suc (length q))) =
     length-append (spaces i.before) (i.items_text ++ tail) ∙ ap (λ (n : ℕ). length (spaces i.before) + n) (length-append i.items_text tail ∙ ap (λ (n : ℕ). length i.items_text + n) (length-append (spaces i.after) (41 ∷ q))) in
     let items : items_at t ≡ Some (v.items, q) = items_again v.items (length t) [] i.before i.after i.items_text q i.items (omega arith) in

@@ -11,8 +11,8 @@ use Rattle.structured_fields.specs.declared.bare.Bare.{Bare}
 use Rattle.structured_fields.specs.declared.bare.Bare.TheVariants.{Boolean}
 use Rattle.structured_fields.specs.declared.item.Item.{Item}
 use Rattle.structured_fields.specs.Letters.{is_space, is_key, is_key_start, is_token_byte, is_key_byte}
-use Rattle.structured_fields.specs.Grammar.{IsValue, IsGroup, AreGroups, AreParams, IsItem}
-use Rattle.structured_fields.specs.Reading.{◌>>=◌, front, behind, begins, key_at, bare_at, value_of, group_at, params_from, params_at, item_at}
+use Rattle.structured_fields.specs.Grammar.{IsValue, IsParameter, ListsParameters, AreParams, IsItem}
+use Rattle.structured_fields.specs.Reading.{◌>>=◌, front, behind, begins, key_at, bare_at, value_of, parameter_at, params_from, params_at, item_at}
 use Rattle.structured_fields.proofs.Fronts.{bind_some, behind_again, parts, chosen, some_is, begun, ends, ends_key, stops}
 use Rattle.structured_fields.proofs.Runs.{front_all}
 use Rattle.structured_fields.proofs.Entries.{over}
@@ -70,11 +70,11 @@ pub closes_follows : (t : List ℕ) → first_is is_close t ≡ true → first_i
 closes_follows [] h = refl
 closes_follows (c ∷ t) h = any_holds is_end c (32 ∷ 9 ∷ 44 ∷ 41 ∷ []) h refl
 
-pub closes_no_group : (t : List ℕ) → first_is is_close t ≡ true → begins 59 t ≡ false
-closes_no_group [] h = refl
-closes_no_group (c ∷ t) h = not-true (c == 59) (any_holds (λ k. not (k == 59)) c (32 ∷ 9 ∷ 44 ∷ 41 ∷ []) h refl)
+pub closes_no_parameter : (t : List ℕ) → first_is is_close t ≡ true → begins 59 t ≡ false
+closes_no_parameter [] h = refl
+closes_no_parameter (c ∷ t) h = not-true (c == 59) (any_holds (λ k. not (k == 59)) c (32 ∷ 9 ∷ 44 ∷ 41 ∷ []) h refl)
 
--- ---- values and groups
+-- ---- values and parameters
 
 pub record TakesValue (t : List ℕ) (x : Bare × List ℕ) : Type 0 where
   pub text : List ℕ
@@ -98,14 +98,14 @@ value_again [] rest v is h = rw (follows_no_value rest h) (ap (λ (w : Bare). So
 value_again (c ∷ text) rest v is h =
     ap (λ (d : ℕ). cond (d == 61) (bare_at (text ++ rest)) (Some (Boolean true, d ∷ (text ++ rest)))) is.0 ∙ bare_text_again text v rest is.1 (follows_ends rest h)
 
-pub record TakesGroup (t : List ℕ) (x : (List ℕ × Bare) × List ℕ) : Type 0 where
+pub record TakesParameter (t : List ℕ) (x : (List ℕ × Bare) × List ℕ) : Type 0 where
   pub text : List ℕ
   pub parts : 59 ∷ t ≡ text ++ x.1
-  pub is : IsGroup text x.0.0 x.0.1
+  pub is : IsParameter text x.0.0 x.0.1
 
-group_takes : (t : List ℕ) (x : (List ℕ × Bare) × List ℕ) → IsBytes t → group_at t ≡ Some x → TakesGroup t x
-unfolding group_at
-group_takes t x fits e =
+parameter_takes : (t : List ℕ) (x : (List ℕ × Bare) × List ℕ) → IsBytes t → parameter_at t ≡ Some x → TakesParameter t x
+unfolding parameter_at
+parameter_takes t x fits e =
     let left = behind is_space t in
     let a = bind_some (key_at left) (λ k. value_of k.1 >>= λ v. Some ((k.0, v.0), v.1)) x e in
     let b = bind_some (value_of a.0.1) (λ v. Some ((a.0.0, v.0), v.1)) x a.2 in
@@ -115,7 +115,7 @@ group_takes t x fits e =
     let key_bytes = rest_bytes (replicate n 32) left (subst IsBytes s fits) in
     let v = value_takes a.0.1 b.0 (rest_bytes a.0.0 a.0.1 (subst IsBytes k.parts key_bytes)) b.1 in
     let made : (List ℕ × Bare) × List ℕ = ((a.0.0, b.0.0), b.0.1) in
-    subst (TakesGroup t) (some_is made x b.2) (record {
+    subst (TakesParameter t) (some_is made x b.2) (record {
       text = 59 ∷ replicate n 32 ++ a.0.0 ++ v.text;
       parts = ap (λ (r : List ℕ). 59 ∷ r) (s ∙ ap (λ (r : List ℕ). replicate n 32 ++ r) (k.parts ∙ ap (λ (r : List ℕ). a.0.0 ++ r) v.parts)
           ∙ sym (append_assoc (replicate n 32 ++ a.0.0) v.text b.0.1 ∙ append_assoc (replicate n 32) a.0.0 (v.text ++ b.0.1)));
@@ -132,10 +132,10 @@ value_ends : (text rest : List ℕ) (v : Bare) → IsValue text v → first_is i
 value_ends [] rest v is h = ends_key rest (follows_ends rest h)
 value_ends (c ∷ text) rest v is h = rw is.0 refl
 
-group_again : (text name : List ℕ) (v : Bare) (rest : List ℕ) (g : IsGroup text name v) → first_is is_end rest ≡ true
-    → (t : List ℕ) × (text ++ rest ≡ 59 ∷ t) × (group_at t ≡ Some ((name, v), rest))
-unfolding group_at
-group_again text name v rest g h =
+parameter_again : (text name : List ℕ) (v : Bare) (rest : List ℕ) (g : IsParameter text name v) → first_is is_end rest ≡ true
+    → (t : List ℕ) × (text ++ rest ≡ 59 ∷ t) × (parameter_at t ≡ Some ((name, v), rest))
+unfolding parameter_at
+parameter_again text name v rest g h =
     let spaces : List ℕ = replicate g.spaces 32 in
     let tail : List ℕ = name ++ (g.rest ++ rest) in
     let t : List ℕ = spaces ++ tail in
@@ -143,60 +143,60 @@ group_again text name v rest g h =
     let left : behind is_space t ≡ tail = behind_again is_space spaces tail (are_spaces g.spaces) (key_no_space name (g.rest ++ rest) g.key) in
     let key : key_at (behind is_space t) ≡ Some (name, g.rest ++ rest) = ap key_at left ∙ key_again name (g.rest ++ rest) g.key (value_ends g.rest rest v g.value h) in
     let value : value_of (g.rest ++ rest) ≡ Some (v, rest) = value_again g.rest rest v g.value h in
-    let read : group_at t ≡ Some ((name, v), rest) =
+    let read : parameter_at t ≡ Some ((name, v), rest) =
     ap (λ (o : Option (List ℕ × List ℕ)). o >>= λ k. value_of k.1 >>= λ w. Some ((k.0, w.0), w.1)) key ∙ ap (λ (o : Option (Bare × List ℕ)). o >>= λ w. Some ((name, w.0), w.1)) value in
     (t, regrouped, read)
 
 -- ---- parameters
 
-pub record TakesGroups (ps : List (List ℕ × Bare)) (t : List ℕ) (x : List (List ℕ × Bare) × List ℕ) : Type 0 where
+pub record TakesParameters (ps : List (List ℕ × Bare)) (t : List ℕ) (x : List (List ℕ × Bare) × List ℕ) : Type 0 where
   pub text : List ℕ
-  pub groups : List (List ℕ × Bare)
+  pub listed : List (List ℕ × Bare)
   pub parts : t ≡ text ++ x.1
-  pub are : AreGroups text groups
-  pub value : x.0 ≡ over ps groups
+  pub are : ListsParameters text listed
+  pub value : x.0 ≡ over ps listed
 
-params_take : (n : ℕ) (ps : List (List ℕ × Bare)) (t : List ℕ) (x : List (List ℕ × Bare) × List ℕ) → IsBytes t → params_from n ps t ≡ Some x → TakesGroups ps t x
+params_take : (n : ℕ) (ps : List (List ℕ × Bare)) (t : List ℕ) (x : List (List ℕ × Bare) × List ℕ) → IsBytes t → params_from n ps t ≡ Some x → TakesParameters ps t x
 unfolding params_from
-params_take zero ps t x fits e = subst (TakesGroups ps t) (some_is (ps, t) x e) (record { text = []; groups = []; parts = refl; are = refl; value = refl })
+params_take zero ps t x fits e = subst (TakesParameters ps t) (some_is (ps, t) x e) (record { text = []; listed = []; parts = refl; are = refl; value = refl })
 params_take (suc n) ps t x fits e =
-    elim (chosen (begins 59 t) (group_at (drop 1 t) >>= λ g. params_from n (with_value ps g.0.0 g.0.1) g.1) (Some (ps, t)) (Some x) e) [
+    elim (chosen (begins 59 t) (parameter_at (drop 1 t) >>= λ g. params_from n (with_value ps g.0.0 g.0.1) g.1) (Some (ps, t)) (Some x) e) [
       | inl p ↦
           let whole = begun 59 t p.0 in
           let bytes = rest_bytes (59 ∷ []) (drop 1 t) (subst IsBytes whole fits) in
-          let b = bind_some (group_at (drop 1 t)) (λ g. params_from n (with_value ps g.0.0 g.0.1) g.1) x p.1 in
-          let g = group_takes (drop 1 t) b.0 bytes b.1 in
+          let b = bind_some (parameter_at (drop 1 t)) (λ g. params_from n (with_value ps g.0.0 g.0.1) g.1) x p.1 in
+          let g = parameter_takes (drop 1 t) b.0 bytes b.1 in
           let all = whole ∙ g.parts in
           let r = params_take n (with_value ps b.0.0.0 b.0.0.1) b.0.1 x (rest_bytes g.text b.0.1 (subst IsBytes all fits)) b.2 in
           record {
             text = g.text ++ r.text;
-            groups = b.0.0 ∷ r.groups;
+            listed = b.0.0 ∷ r.listed;
             parts = all ∙ ap (λ (u : List ℕ). g.text ++ u) r.parts ∙ sym (append_assoc g.text r.text x.1);
             are = (g.text, r.text, refl, g.is, r.are);
             value = r.value;
           }
-      | inr p ↦ subst (TakesGroups ps t) (some_is (ps, t) x p.1) (record { text = []; groups = []; parts = refl; are = refl; value = refl })
+      | inr p ↦ subst (TakesParameters ps t) (some_is (ps, t) x p.1) (record { text = []; listed = []; parts = refl; are = refl; value = refl })
     ]
 
--- groups begin with `;`
-groups_follow : (gs : List (List ℕ × Bare)) (text rest : List ℕ) → AreGroups text gs → first_is is_end rest ≡ true → first_is is_end (text ++ rest) ≡ true
-groups_follow [] text rest are h = rw are h
-groups_follow (g ∷ gs) text rest are h =
-    let first = group_again are.0 g.0 g.1 rest are.3 h in
+-- parameters begin with `;`
+parameters_follow : (gs : List (List ℕ × Bare)) (text rest : List ℕ) → ListsParameters text gs → first_is is_end rest ≡ true → first_is is_end (text ++ rest) ≡ true
+parameters_follow [] text rest are h = rw are h
+parameters_follow (g ∷ gs) text rest are h =
+    let first = parameter_again are.0 g.0 g.1 rest are.3 h in
     rw (are.2, are.3.is) refl
 
-params_again : (gs : List (List ℕ × Bare)) (n : ℕ) (ps : List (List ℕ × Bare)) (text rest : List ℕ) → AreGroups text gs → first_is is_close rest ≡ true → length text ≤ n
+params_again : (gs : List (List ℕ × Bare)) (n : ℕ) (ps : List (List ℕ × Bare)) (text rest : List ℕ) → ListsParameters text gs → first_is is_close rest ≡ true → length text ≤ n
     → params_from n ps (text ++ rest) ≡ Some (over ps gs, rest)
 unfolding params_from
 params_again [] zero ps text rest are h le = rw are refl
-params_again [] (suc n) ps text rest are h le = rw (are, closes_no_group rest h) refl
+params_again [] (suc n) ps text rest are h le = rw (are, closes_no_parameter rest h) refl
 params_again (g ∷ gs) zero ps text rest are h le =
     let long : length text ≡ length are.0 + length are.1 = ap length are.2 ∙ length-append are.0 are.1 in
     let short : length are.0 ≡ suc (length (replicate are.3.spaces 32 ++ g.0 ++ are.3.rest)) = ap length are.3.is in
     absurd (omega arith)
 params_again (g ∷ gs) (suc n) ps text rest are h le =
-    let follow = groups_follow gs are.1 rest are.4 (closes_follows rest h) in
-    let first = group_again are.0 g.0 g.1 (are.1 ++ rest) are.3 follow in
+    let follow = parameters_follow gs are.1 rest are.4 (closes_follows rest h) in
+    let first = parameter_again are.0 g.0 g.1 (are.1 ++ rest) are.3 follow in
     let long : length text ≡ length are.0 + length are.1 = ap length are.2 ∙ length-append are.0 are.1 in
     let short : length are.0 ≡ suc (length (replicate are.3.spaces 32 ++ g.0 ++ are.3.rest)) = ap length are.3.is in
     let again = params_again gs n (with_value ps g.0 g.1) are.1 rest are.4 h (omega arith) in
@@ -210,7 +210,7 @@ pub record TakesParams (t : List ℕ) (x : List (List ℕ × Bare) × List ℕ) 
 
 pub params_at_takes : (t : List ℕ) (x : List (List ℕ × Bare) × List ℕ) → IsBytes t → params_at t ≡ Some x → TakesParams t x
 unfolding params_at
-params_at_takes t x fits e = let p = params_take (length t) [] t x fits e in record { text = p.text; parts = p.parts; are = (p.groups, p.are, p.value) }
+params_at_takes t x fits e = let p = params_take (length t) [] t x fits e in record { text = p.text; parts = p.parts; are = (p.listed, p.are, p.value) }
 
 pub params_at_again : (text rest : List ℕ) (ps : List (List ℕ × Bare)) → AreParams text ps → first_is is_close rest ≡ true → params_at (text ++ rest) ≡ Some (ps, rest)
 unfolding params_at
@@ -239,7 +239,7 @@ item_takes t x fits e =
     })
 
 pub params_follow : (text rest : List ℕ) (ps : List (List ℕ × Bare)) → AreParams text ps → first_is is_close rest ≡ true → first_is is_end (text ++ rest) ≡ true
-params_follow text rest ps are h = groups_follow are.0 text rest are.1 (closes_follows rest h)
+params_follow text rest ps are h = parameters_follow are.0 text rest are.1 (closes_follows rest h)
 
 pub item_again : (text rest : List ℕ) (v : Item) → IsItem text v → first_is is_close rest ≡ true → item_at (text ++ rest) ≡ Some (v, rest)
 unfolding item_at

@@ -4,7 +4,7 @@ use Rattle.structured_fields.specs.Named.{with_value}
 use Rattle.structured_fields.specs.declared.bare.Bare.{Bare}
 use Rattle.structured_fields.specs.declared.fault.FieldFault.{FieldFault}
 use Rattle.structured_fields.specs.declared.fault.FieldFault.TheVariants.{NotInGrammar, OutOfMemory}
-use Rattle.structured_fields.specs.Reading.{Fails, begins, group_at, params_from, params_at, behind, item_at, is_item_end, items_from, items_at, next_at, members_from}
+use Rattle.structured_fields.specs.Reading.{Fails, begins, parameter_at, params_from, params_at, behind, item_at, is_item_end, items_from, items_at, next_at, members_from}
 use Rattle.structured_fields.specs.declared.item.Item.{Item}
 use Rattle.structured_fields.specs.Letters.{is_space}
 
@@ -22,7 +22,7 @@ unfolding params_from
 spent n ps t total z e = sym (rw z at e)
 
 pub more : (len i : ℕ) (ps : List (List ℕ × Bare)) (t : List ℕ) (name : List ℕ) (v : Bare) (rest : List ℕ) (total : Option (List (List ℕ × Bare) × List ℕ)) → i < len → begins 59 t ≡ true
-    → group_at (drop 1 t) ≡ Some ((name, v), rest) → params_from (len - i) ps t ≡ total → params_from (len - (i + 1)) (with_value ps name v) rest ≡ total
+    → parameter_at (drop 1 t) ≡ Some ((name, v), rest) → params_from (len - i) ps t ≡ total → params_from (len - (i + 1)) (with_value ps name v) rest ≡ total
 unfolding params_from
 more len i ps t name v rest total lt h g e =
     let k : len - i ≡ suc (len - (i + 1)) = omega arith in
@@ -30,7 +30,7 @@ more len i ps t name v rest total lt h g e =
     sym one ∙ e
 
 pub failed : (e : FieldFault) (len i : ℕ) (ps : List (List ℕ × Bare)) (t : List ℕ) (total : Option (List (List ℕ × Bare) × List ℕ)) → i < len → begins 59 t ≡ true
-    → Fails e (group_at (drop 1 t)) → params_from (len - i) ps t ≡ total → Fails e total
+    → Fails e (parameter_at (drop 1 t)) → params_from (len - i) ps t ≡ total → Fails e total
 unfolding params_from
 failed OutOfMemory len i ps t total lt h g e = tt
 failed NotInGrammar len i ps t total lt h g e =

@@ -14,7 +14,7 @@ use Rattle.structured_fields.specs.declared.item.InnerList.{InnerList}
 use Rattle.structured_fields.specs.declared.item.Member.{Member}
 use Rattle.structured_fields.specs.declared.item.Member.TheVariants.{Item as Single, Inner}
 use Rattle.structured_fields.specs.Letters.{is_ows, is_key, is_key_start, is_key_byte}
-use Rattle.structured_fields.specs.Grammar.{IsComma, AreSeparated, IsMember, IsGiven, IsBareTrue, IsEntry}
+use Rattle.structured_fields.specs.Grammar.{SeparatesMembers, AreSeparated, IsMember, IsGiven, IsBareTrue, IsEntry}
 use Rattle.structured_fields.specs.Reading.{◌>>=◌, front, behind, begins, key_at, params_at, item_at, inner_at, member_at, entry_value_at, entry_at, next_at, members_from}
 use Rattle.structured_fields.proofs.Fronts.{bind_some, mapped, behind_again, parts, chosen, given, some_is, begun, ends_key, stops}
 use Rattle.structured_fields.proofs.Runs.{front_all}
@@ -150,7 +150,7 @@ next_again before after u b a stop =
 pub record TakesComma (t u : List ℕ) : Type 0 where
   pub between : List ℕ
   pub parts : t ≡ between ++ u
-  pub is : IsComma between
+  pub is : SeparatesMembers between
 
 next_takes : (t : List ℕ) (next : Option (List ℕ)) → next_at t ≡ Some next
     → ((next ≡ None) × (list_all is_ows t ≡ true)) ⊎ ((u : List ℕ) × (next ≡ Some u) × TakesComma t u)
@@ -189,7 +189,7 @@ module _ {H M : Type 0} (read : List ℕ → Option (M × List ℕ)) (add : H �
     pub tail : List ℕ
     pub parts : t ≡ body ++ tail
     pub ows : list_all is_ows tail ≡ true
-    pub are : AreSeparated IsComma Is body (head ∷ others)
+    pub are : AreSeparated SeparatesMembers Is body (head ∷ others)
     pub value : h ≡ fold add held (head ∷ others)
 
   module _ (takes : (t : List ℕ) (x : M × List ℕ) → IsBytes t → read t ≡ Some x → TakesMember Is t x) where
@@ -225,7 +225,7 @@ module _ {H M : Type 0} (read : List ℕ → Option (M × List ℕ)) (add : H �
 
   module _ (again : (text rest : List ℕ) (m : M) → Is text m → first_is is_close rest ≡ true → read (text ++ rest) ≡ Some (m, rest))
       (opens : (text : List ℕ) (m : M) → Is text m → Opens (λ c. not (is_ows c)) text) where
-    pub members_again : (ms : List M) (n : ℕ) (held : H) (m : M) (text tail : List ℕ) → AreSeparated IsComma Is text (m ∷ ms) → list_all is_ows tail ≡ true → length ms < n
+    pub members_again : (ms : List M) (n : ℕ) (held : H) (m : M) (text tail : List ℕ) → AreSeparated SeparatesMembers Is text (m ∷ ms) → list_all is_ows tail ≡ true → length ms < n
         → members_from read add n held (text ++ tail) ≡ Some (fold add held (m ∷ ms))
     unfolding members_from
     members_again ms zero held m text tail are h lt = absurd (omega arith)

@@ -12,7 +12,7 @@ use Rattle.structured_fields.specs.declared.item.Member.{Member}
 use Rattle.structured_fields.specs.declared.item.Member.TheVariants.{Item as Single, Inner}
 use Rattle.structured_fields.specs.Named.{IsDistinct}
 use Rattle.structured_fields.specs.Letters.{is_digit, is_key, number, number_after, signed}
-use Rattle.structured_fields.specs.Grammar.{AreDigits, IsInteger, IsDecimal, IsBare, IsValue, AreGroups, AreParams, IsItem, AreFurther, AreSeparated, IsInner, IsMember, IsGiven, IsBareTrue, IsEntry, IsItemText, IsListText, IsDictionaryText}
+use Rattle.structured_fields.specs.Grammar.{AreDigits, IsInteger, IsDecimal, IsBare, IsValue, ListsParameters, AreParams, IsItem, AreFurther, AreSeparated, IsInner, IsMember, IsGiven, IsBareTrue, IsEntry, IsItemText, IsListText, IsDictionaryText}
 use Rattle.structured_fields.specs.Canonical.{IsInRange, AreInRange, IsItemInRange, IsInnerInRange, IsMemberInRange, IsListInRange, IsDictionaryInRange}
 use Rattle.structured_fields.proofs.Entries.{distinct_over, all_over}
 
@@ -77,15 +77,15 @@ value_range : (text : List ℕ) (v : Bare) → IsValue text v → IsInRange v
 value_range [] v is = subst IsInRange (sym is) tt
 value_range (c ∷ text) v is = bare_range text v is.1
 
-groups_range : (gs : List (List ℕ × Bare)) (text : List ℕ) → AreGroups text gs → AreInRange gs
-groups_range [] text are = tt
-groups_range (g ∷ gs) text are = ((are.3.key, value_range are.3.rest g.1 are.3.value), groups_range gs are.1 are.4)
+listed_range : (gs : List (List ℕ × Bare)) (text : List ℕ) → ListsParameters text gs → AreInRange gs
+listed_range [] text are = tt
+listed_range (g ∷ gs) text are = ((are.3.key, value_range are.3.rest g.1 are.3.value), listed_range gs are.1 are.4)
 
 abbrev Keyed : List ℕ × Bare → Type 0
 Keyed p = (is_key p.0 ≡ true) × IsInRange p.1
 
 params_range : (text : List ℕ) (ps : List (List ℕ × Bare)) → AreParams text ps → AreInRange ps
-params_range text ps are = subst AreInRange (sym are.2) (all_over Keyed [] are.0 tt (groups_range are.0 text are.1))
+params_range text ps are = subst AreInRange (sym are.2) (all_over Keyed [] are.0 tt (listed_range are.0 text are.1))
 
 params_distinct : (text : List ℕ) (ps : List (List ℕ × Bare)) → AreParams text ps → IsDistinct ps
 params_distinct text ps are = subst IsDistinct (sym are.2) (distinct_over [] are.0 tt)

@@ -8,7 +8,7 @@ use Rattle.base64.specs.GeneralPurpose.{IsBytes}
 use Rattle.structured_fields.specs.declared.item.Item.{Item}
 use Rattle.structured_fields.specs.declared.item.Member.{Member}
 use Rattle.structured_fields.specs.Letters.{is_space, is_ows}
-use Rattle.structured_fields.specs.Grammar.{IsItemText, IsComma, IsMember, IsEntry, AreMembersText, IsListText, IsDictionaryText}
+use Rattle.structured_fields.specs.Grammar.{IsItemText, SeparatesMembers, IsMember, IsEntry, AreMembersText, IsListText, IsDictionaryText}
 use Rattle.structured_fields.specs.Reading.{◌>>=◌, behind, item_at, member_at, entry_at, members_from, members_of, with_last, with_entry, item_of, list_of, dictionary_of}
 use Rattle.structured_fields.proofs.Fronts.{bind_some, behind_again, chosen, given, some_is, stops}
 use Rattle.structured_fields.proofs.Bares.{rest_bytes}
@@ -94,7 +94,7 @@ module _ {H M : Type 0} (read : List ℕ → Option (M × List ℕ)) (add : H �
       let left : behind is_space t ≡ u = ap (behind is_space) i.is ∙ behind_again is_space (replicate i.before 32) u (are_spaces i.before) (opens_stops is_space u (opens_to (λ c. not (is_ows c)) (λ c. not (is_space c)) u ows_no_space start)) in
       let long : 1 ≤ length u = opens_some (λ c. not (is_ows c)) u start in
       let some : (length u == 0) ≡ false = grind (arith, nat_tests, long) in
-      let few : length (m ∷ ms) ≤ length i.body = count_separated IsComma Is (λ text m is. opens_some (λ c. not (is_ows c)) text (opens text m is)) (m ∷ ms) i.body are in
+      let few : length (m ∷ ms) ≤ length i.body = count_separated SeparatesMembers Is (λ text m is. opens_some (λ c. not (is_ows c)) text (opens text m is)) (m ∷ ms) i.body are in
       let lt : length ms < length u = let sum = length-append i.body i.after in omega arith in
       ap (λ (r : List ℕ). cond (length r == 0) (Some none) (members_from read add (length r) none r)) left
       ∙ ap (λ (b : Bool). cond b (Some none) (members_from read add (length u) none u)) some ∙ members_again read add Is again opens ms (length u) none m i.body i.after are i.end lt

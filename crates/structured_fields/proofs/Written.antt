@@ -16,7 +16,7 @@ use Rattle.structured_fields.specs.declared.item.InnerList.{InnerList}
 use Rattle.structured_fields.specs.declared.item.Member.{Member}
 use Rattle.structured_fields.specs.declared.item.Member.TheVariants.{Item as Single, Inner}
 use Rattle.structured_fields.specs.Letters.{is_digit, is_key, number, number_after, signed, sign}
-use Rattle.structured_fields.specs.Grammar.{AreDigits, IsInteger, IsDecimal, IsBare, IsValue, AreGroups, AreParams, IsItem, IsGap, IsComma, IsInner, IsMember, IsGiven, IsBareTrue, IsEntry, AreFurther, AreSeparated, MayEnd, AreMembersText, IsItemText, IsListText, IsDictionaryText}
+use Rattle.structured_fields.specs.Grammar.{AreDigits, IsInteger, IsDecimal, IsBare, IsValue, ListsParameters, AreParams, IsItem, SeparatesItems, SeparatesMembers, IsInner, IsMember, IsGiven, IsBareTrue, IsEntry, AreFurther, AreSeparated, MayEnd, AreMembersText, IsItemText, IsListText, IsDictionaryText}
 use Rattle.structured_fields.specs.Canonical.{part_text, shown, integer_text, thousandths_text, bare_text, value_text, params_text, item_text, further_text, separated_text, inner_text, member_text, single_text, entry_text, list_text, dictionary_text, IsInRange, AreInRange, IsItemInRange, IsInnerInRange, IsMemberInRange, IsListInRange, IsDictionaryInRange}
 use Rattle.structured_fields.proofs.Displays.{shown_are}
 use Rattle.structured_fields.proofs.Entries.{stays}
@@ -109,12 +109,12 @@ value_is (Display s) h = (refl, bare_is (Display s) h)
 
 -- ---- parameters
 
-groups_are : (ps : List (List ℕ × Bare)) → AreInRange ps → AreGroups (params_text ps) ps
-groups_are [] h = refl
-groups_are (p ∷ ps) h = (59 ∷ p.0 ++ value_text p.1, params_text ps, refl, record { spaces = 0; rest = value_text p.1; key = h.0.0; is = refl; value = value_is p.1 h.0.1 }, groups_are ps h.1)
+parameters_listed : (ps : List (List ℕ × Bare)) → AreInRange ps → ListsParameters (params_text ps) ps
+parameters_listed [] h = refl
+parameters_listed (p ∷ ps) h = (59 ∷ p.0 ++ value_text p.1, params_text ps, refl, record { spaces = 0; rest = value_text p.1; key = h.0.0; is = refl; value = value_is p.1 h.0.1 }, parameters_listed ps h.1)
 
 params_are : (ps : List (List ℕ × Bare)) → AreInRange ps → IsDistinct ps → AreParams (params_text ps) ps
-params_are ps h d = (ps, groups_are ps h, sym (stays [] ps d))
+params_are ps h d = (ps, parameters_listed ps h, sym (stays [] ps d))
 
 item_is : (v : Item) → IsItemInRange v → IsItem (item_text v) v
 item_is v h = record { bare_text = bare_text v.bare; params_text = params_text v.params; is = refl; bare = bare_is v.bare h.bare; params = params_are v.params h.params h.distinct }
@@ -155,7 +155,7 @@ inner_is v h = record {
   items_text = separated_text (32 ∷ []) item_text v.items;
   params_text = params_text v.params;
   is = refl;
-  items = separated_are IsGap IsItem IsItemInRange (32 ∷ []) item_text (0, refl) item_is v.items h.items;
+  items = separated_are SeparatesItems IsItem IsItemInRange (32 ∷ []) item_text (0, refl) item_is v.items h.items;
   params = params_are v.params h.params h.distinct;
 }
 
@@ -163,7 +163,7 @@ member_is : (m : Member) → IsMemberInRange m → IsMember (member_text m) m
 member_is (Single v) h = item_is v h
 member_is (Inner v) h = inner_is v h
 
-comma_is : IsComma (44 ∷ 32 ∷ [])
+comma_is : SeparatesMembers (44 ∷ 32 ∷ [])
 comma_is = record { before = []; after = 32 ∷ []; is = refl; before_ows = refl; after_ows = refl }
 
 abbrev single : Bare → List (List ℕ × Bare) → Member
@@ -203,7 +203,7 @@ module _ {M : Type 0} (Is : List ℕ → M → Type 0) (P : M → Type 0) (text 
     body = separated_text (44 ∷ 32 ∷ []) text ms;
     after = [];
     is = sym (append-nil (separated_text (44 ∷ 32 ∷ []) text ms));
-    members = separated_are IsComma Is P (44 ∷ 32 ∷ []) text comma_is each ms h;
+    members = separated_are SeparatesMembers Is P (44 ∷ 32 ∷ []) text comma_is each ms h;
     end = may_end ms;
   }
 

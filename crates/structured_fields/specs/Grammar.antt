@@ -100,7 +100,7 @@ IsValue [] v = v ≡ Boolean true
 IsValue (c ∷ text) v = (c ≡ 61) × IsBare text v
 
 -- a parameter: `;`, any number of SP, a key, and its value
-pub record IsGroup (text name : List ℕ) (v : Bare) : Type 0 where
+pub record IsParameter (text name : List ℕ) (v : Bare) : Type 0 where
   pub spaces : ℕ
   pub rest : List ℕ
   pub key : is_key name ≡ true
@@ -108,9 +108,9 @@ pub record IsGroup (text name : List ℕ) (v : Bare) : Type 0 where
   pub value : IsValue rest v
 
 -- parameters one after the other
-abbrev pub AreGroups : List ℕ → List (List ℕ × Bare) → Type 0
-AreGroups text [] = text ≡ []
-AreGroups text (g ∷ gs) = (front : List ℕ) × (back : List ℕ) × (text ≡ front ++ back) × IsGroup front g.0 g.1 × AreGroups back gs
+abbrev pub ListsParameters : List ℕ → List (List ℕ × Bare) → Type 0
+ListsParameters text [] = text ≡ []
+ListsParameters text (g ∷ gs) = (front : List ℕ) × (back : List ℕ) × (text ≡ front ++ back) × IsParameter front g.0 g.1 × ListsParameters back gs
 
 -- a key that comes again overwrites the value, and keeps its first place
 abbrev pub in_order : {V : Type 0} → List (List ℕ × V) → List (List ℕ × V)
@@ -118,7 +118,7 @@ in_order gs = fold (λ ps g. with_value ps g.0 g.1) [] gs
 
 -- the parameters of an item or an inner list
 abbrev pub AreParams : List ℕ → List (List ℕ × Bare) → Type 0
-AreParams text ps = (gs : List (List ℕ × Bare)) × AreGroups text gs × (ps ≡ in_order gs)
+AreParams text ps = (gs : List (List ℕ × Bare)) × ListsParameters text gs × (ps ≡ in_order gs)
 
 -- an item (section 3.3): a bare item and its parameters
 pub record IsItem (text : List ℕ) (v : Item) : Type 0 where
@@ -143,11 +143,11 @@ module _ {M : Type 0} (IsBetween : List ℕ → Type 0) (Is : List ℕ → M →
   AreSeparated text (m ∷ ms) = (first : List ℕ) × (others : List ℕ) × (text ≡ first ++ others) × Is first m × AreFurther others ms
 
 -- at least one SP
-abbrev pub IsGap : List ℕ → Type 0
-IsGap text = (more : ℕ) × (text ≡ replicate (suc more) 32)
+abbrev pub SeparatesItems : List ℕ → Type 0
+SeparatesItems text = (more : ℕ) × (text ≡ replicate (suc more) 32)
 
 -- OWS, a comma, OWS
-pub record IsComma (text : List ℕ) : Type 0 where
+pub record SeparatesMembers (text : List ℕ) : Type 0 where
   pub before : List ℕ
   pub after : List ℕ
   pub is : text ≡ before ++ 44 ∷ after
@@ -161,7 +161,7 @@ pub record IsInner (text : List ℕ) (v : InnerList) : Type 0 where
   pub items_text : List ℕ
   pub params_text : List ℕ
   pub is : text ≡ 40 ∷ replicate before 32 ++ (items_text ++ (replicate after 32 ++ 41 ∷ params_text))
-  pub items : AreSeparated IsGap IsItem items_text v.items
+  pub items : AreSeparated SeparatesItems IsItem items_text v.items
   pub params : AreParams params_text v.params
 
 -- a member of a list (section 3.1): an item or an inner list
@@ -210,7 +210,7 @@ pub record AreMembersText {M : Type 0} (Is : List ℕ → M → Type 0) (text : 
   pub body : List ℕ
   pub after : List ℕ
   pub is : text ≡ replicate before 32 ++ (body ++ after)
-  pub members : AreSeparated IsComma Is body ms
+  pub members : AreSeparated SeparatesMembers Is body ms
   pub end : MayEnd ms after
 
 -- a list: its members

@@ -192,17 +192,17 @@ unfoldable pub value_of : List ℕ → Option (Bare × List ℕ)
 value_of t = if begins 61 t then bare_at (drop 1 t) else Some (Boolean true, t)
 
 -- behind the `;`
-unfoldable pub group_at : List ℕ → Option ((List ℕ × Bare) × List ℕ)
-group_at t = do
+unfoldable pub parameter_at : List ℕ → Option ((List ℕ × Bare) × List ℕ)
+parameter_at t = do
   k ← key_at (behind is_space t)
   v ← value_of k.1
   Some ((k.0, v.0), v.1)
 
--- at most so many groups, over those that were read before
+-- at most so many parameters, over those that were read before
 unfoldable pub params_from : ℕ → List (List ℕ × Bare) → List ℕ → Option (List (List ℕ × Bare) × List ℕ)
 params_from zero ps t = Some (ps, t)
 params_from (suc n) ps t =
-    if begins 59 t then (group_at (drop 1 t) >>= λ g. params_from n (with_value ps g.0.0 g.0.1) g.1)
+    if begins 59 t then (parameter_at (drop 1 t) >>= λ g. params_from n (with_value ps g.0.0 g.0.1) g.1)
     else Some (ps, t)
 
 -- as many as there are bytes are never too few

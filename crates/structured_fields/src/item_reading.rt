@@ -1,6 +1,6 @@
 //! Reading parameters, items, inner lists, members and entries from the front of a text.
 ghost use Rattle.std.specs.Prelude.{◌≡◌};
-ghost use Rattle.structured_fields.specs.Reading.{Gives, value_of, group_at, params_at, item_at, is_item_end, items_at, inner_at, member_at, entry_value_at, entry_at};
+ghost use Rattle.structured_fields.specs.Reading.{Gives, value_of, parameter_at, params_at, item_at, is_item_end, items_at, inner_at, member_at, entry_value_at, entry_at};
 
 use crate::bare::Bare;
 use crate::bare_reading::{bare_of, key_of};
@@ -20,9 +20,9 @@ fn value_in(alloc: Global, bytes: &[u8]) -> Result<(Bare, &[u8]), FieldFault>
     }
 }
 
-#[tactic(auto, unfolding(crate::specs::Reading::group_at))]
-fn group_of(alloc: Global, bytes: &[u8]) -> Result<(Bytes, Bare, &[u8]), FieldFault>
-    ensures { Gives (λ x. ((x.0, x.1), x.2.now)) result (group_at bytes.now) }
+#[tactic(auto, unfolding(crate::specs::Reading::parameter_at))]
+fn parameter_of(alloc: Global, bytes: &[u8]) -> Result<(Bytes, Bare, &[u8]), FieldFault>
+    ensures { Gives (λ x. ((x.0, x.1), x.2.now)) result (parameter_at bytes.now) }
 {
     let (name, rest) = key_of(alloc, without_spaces(bytes))?;
     let (value, rest) = value_in(alloc, rest)?;
@@ -38,7 +38,7 @@ pub(crate) fn params_of(alloc: Global, bytes: &[u8]) -> Result<(Params, &[u8]), 
         let Some(after) = strip(b';', left) else {
             return Ok((params, left));
         };
-        let (name, value, rest) = group_of(alloc, after)?;
+        let (name, value, rest) = parameter_of(alloc, after)?;
         params.set(name, value)?;
         left = rest;
     }

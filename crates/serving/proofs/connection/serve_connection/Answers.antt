@@ -36,8 +36,8 @@ returns-in-Err g c p seen =
     closes-stop W g.V.MessageReader.stays K I c.loop-held.place inv.few _ p _ c.loop-held.backend _ _ (g.G.Counted.state c.loop-held.gear) _ (g.S.Device.told c.next_message.new.source) _ _
     (g.S.Device.faults c.next_message.new.source) _ _ _ so_far c.in-Err.why c.in-Err.ensures.reads c.in-Err.ensures.cause c.stop.result c.stop.ensures
 
-pub returns-then-place-eq999 : goal.returns-then-place-eq999
-returns-then-place-eq999 g c p seen =
+pub returns-then-place-eq-LAST_PLACE : goal.returns-then-place-eq-LAST_PLACE
+returns-then-place-eq-LAST_PLACE g c p seen =
     let W = g.V.MessageReader.wire in
     let K = g.V.TurnTaker.backend_kind c.args.server.now in
     let I = g.V.TurnTaker.is_turn c.args.server.now in
@@ -45,7 +45,7 @@ returns-then-place-eq999 g c p seen =
     let so_far = inv.so_far p seen in
     let t = c.in-MoreMayCome.ensures so_far.past_now (K.sees _ _ _ _ _ so_far.leads) in
     ends-quota W g.V.MessageReader.stays K I c.loop-held.place inv.few _ p _ _ _ _ _ _ _ _ _ _ _ _ _ so_far c.in-Ok-Some.message
-    (next_ok W _ _ _ _ _ _ c.in-Ok-Some.field-0-is c.in-Ok-Some.ensures.reads) c.in-Ok-Some.ensures.cause c.closes-last.result c.closes-last.ensures MoreMayCome t c.if-place-eq999.true t.follows t.written.0
+    (next_ok W _ _ _ _ _ _ c.in-Ok-Some.field-0-is c.in-Ok-Some.ensures.reads) c.in-Ok-Some.ensures.cause c.closes-last.result c.closes-last.ensures MoreMayCome t c.if-place-eq-LAST_PLACE.true t.follows t.written.0
 
 pub returns-then-last : goal.returns-then-last
 returns-then-last g c p seen =
@@ -56,7 +56,7 @@ returns-then-last g c p seen =
     let so_far = inv.so_far p seen in
     let t = c.in-MoreMayCome.ensures so_far.past_now (K.sees _ _ _ _ _ so_far.leads) in
     ends-last W g.V.MessageReader.stays K I c.loop-held.place inv.few _ p _ _ _ _ _ _ _ _ _ _ _ _ _ so_far c.in-Ok-Some.message
-    (next_ok W _ _ _ _ _ _ c.in-Ok-Some.field-0-is c.in-Ok-Some.ensures.reads) c.in-Ok-Some.ensures.cause c.closes-last.result c.closes-last.ensures MoreMayCome t c.if-last.true c.if-place-eq999.false t.follows t.written.0
+    (next_ok W _ _ _ _ _ _ c.in-Ok-Some.field-0-is c.in-Ok-Some.ensures.reads) c.in-Ok-Some.ensures.cause c.closes-last.result c.closes-last.ensures MoreMayCome t c.if-last.true c.if-place-eq-LAST_PLACE.false t.follows t.written.0
 
 pub returns-in-OutOfMemory : goal.returns-in-OutOfMemory
 returns-in-OutOfMemory g c p seen =
