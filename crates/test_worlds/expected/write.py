@@ -17,6 +17,7 @@ import marked_histories
 import outside_cases
 import resource_cases
 import rights_cases
+import rotated_histories
 import rotation_cases
 import run_cases
 import scripted_grants
@@ -30,7 +31,10 @@ from worlds import outcome
 
 
 def cases():
-    for module in (http_cases, edge_cases, outside_cases, rights_cases, line_cases, mark_cases, rotation_cases, marked_histories, written_cases, client_cases, resource_cases, set_cases):
+    for module in (
+        http_cases, edge_cases, outside_cases, rights_cases, line_cases, mark_cases, rotation_cases, marked_histories, rotated_histories, written_cases,
+        client_cases, resource_cases, set_cases,
+    ):
         yield from module.cases()
     yield from run_cases.cases(scripted_grants.RUNS + scripted_interactions.RUNS)
     yield from map(run_cases.replay_case, scripted_grants.REPLAYS + generated_histories.runs() + stored_histories.runs())
