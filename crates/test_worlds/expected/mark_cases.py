@@ -145,8 +145,8 @@ def messages():
     yield at_1000("a resource server's needs none", [begun(nonce="n1"), *looks])
     ahead = begun(1_300, nonce="n1")
     yield at_1000("it lasts from the creation on", *[[ahead]] * 6, [begun(1_601, nonce="n1")] * 2, moments=[1_000, 1_300, 1_301, 1_599, 1_600, 1_601])
-    yield at_1000("the same bytes a second later and 301 seconds later, and then a new request with it", [begun(nonce="n1")] * 3, [begun(1_301, nonce="n1")] * 2,
-                  moments=[1_000, 1_001, 1_301])
+    yield at_1000("the same bytes a second later and 301 seconds later, and then a new request with it",
+                  [begun(nonce="n1")] * 3, [begun(1_301, nonce="n1")] * 2, moments=[1_000, 1_001, 1_301])
     other = signed_by_c1(signed_by_c1(plain(), nonce="n1"), nonce="n2", label="sig2", tag="other")
     yield at_1000("that of another tag isn't looked at", [sent(other), sent(signed_by_c1(plain(), nonce="n2")), sent(other)])
     twice = sent(signed_by_c1(signed_by_c1(plain(), nonce="n1"), nonce="n2", label="sig2"))
@@ -170,7 +170,8 @@ def continuations():
         polled(1_004, 1, "w3", wrong), polled(1_004, 1, "w4", wrong), polled(1_004, 1, "w5", wrong)], moments=[1_000, 1_004])
     used = polled(1_005, 1, "n2")
     yield at_1000("a refused one is told before the value that is used up", [
-        call("begin", "c1", 1_000, MAIL_CODE), used, used, *[polled(1_005, 1, "n3")] * 2, polled(1_010, 3, "n4")], moments=[1_000, 1_005, 1_005, 1_005, 1_005, 1_010])
+        call("begin", "c1", 1_000, MAIL_CODE), used, used, *[polled(1_005, 1, "n3")] * 2, polled(1_010, 3, "n4"),
+    ], moments=[1_000, 1_005, 1_005, 1_005, 1_005, 1_010])
     cancelled, revoked = (call(name, "c1", 1_002, value=V(serial), nonce=nonce) for name, serial, nonce in (("cancel", 3, "n4"), ("revoke", 2, "n5")))
     yield at_1000("cancellations and revocations leave none, and are asked for it", [
         begun(nonce="n1"), call("revoke", "c1", 1_002, value=V(2), nonce="n1"), call("cancel", "c1", 1_002, value=V(3), nonce="n1"),

@@ -1,6 +1,6 @@
-"""Random histories in which tokens move from key to key, with marks as in marked_histories. Rotations name no key, the token's own, another client's, a resource
-server's, the front's and one that nobody has, of tokens that are bound to a key and of bearer tokens. They are asked by the token's key and by the other client's,
-and so are the rotations, revocations, modifications and cancellations behind them. The answers are the model's.
+"""Random histories in which tokens move from key to key, with marks as in marked_histories. Rotations name no key, the token's own, another client's, a
+resource server's, the front's and one that nobody has, of tokens that are bound to a key and of bearer tokens. They are asked by the token's key and by the
+other client's, and so are the rotations, revocations, modifications and cancellations behind them. The answers are the model's.
 
 Each history is a replay, and some of them are signed over one connection too, where the key that a rotation names mostly signs over the first signature.
 """

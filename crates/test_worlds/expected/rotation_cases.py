@@ -114,8 +114,8 @@ def moved_tokens():
         return of_one_connection(name, BEGIN, to_c2, LOOK, *messages, moments=(1_000, 1_001, 1_001, 1_002))
 
     yield moved("the token is the new key's from then on", look(4), of("rotate", "c1", 5), of("rotate", "c2", 5))
-    yield moved("the new key alone rotates and revokes the token", look(4), of("rotate", "c1", 5), of("rotate", "c2", 5), look(6), of("revoke", "c1", 7), look(6),
-                of("revoke", "c2", 7), of("revoke", "c1", 7), look(6), of("rotate", "c2", 7), to_itself(7))
+    yield moved("the new key alone rotates and revokes the token", look(4), of("rotate", "c1", 5), of("rotate", "c2", 5), look(6),
+                of("revoke", "c1", 7), look(6), of("revoke", "c2", 7), of("revoke", "c1", 7), look(6), of("rotate", "c2", 7), to_itself(7))
     yield moved("the grant stays the first key's", of("modify", "c2", 3, PHOTOS), of("cancel", "c2", 3), look(4), of("modify", "c1", 3, PHOTOS), look(4),
                 of("rotate", "c2", 5), of("revoke", "c2", 5), look(6), of("cancel", "c1", 8), look(6))
     back = again(rotation("c1", value=5, key="c2"), "c1")

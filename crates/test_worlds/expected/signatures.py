@@ -135,7 +135,7 @@ def with_signature(message, base, secret, label, items, parameters, again=False)
 
 
 def signed_again(message, base, key, secret, created, covers=(("signature", "sig1"), ("signature-input", "sig1"))):
-    """The signed message with a signature of a new key over the first one; `covers` are what it covers of signatures: of a field the member of a label, or all."""
+    """The signed message with a signature of a new key over the first one; `covers` is what it covers of signatures, by field and label, or a whole field."""
     items = [(("String", name), {}) for name in must_cover(message)]
     items += [(("String", name), {} if label is None else {"key": ("String", label)}) for name, label in covers]
     parameters = {"created": ("Integer", created), "keyid": ("String", key), "tag": ("String", SECOND_TAG)}
