@@ -88,8 +88,10 @@ GROUPS = {
         (begin()[:-1] + ',"created":1000.0}', INVALID), (begin(nonce=LONG), tokens(1)), (begin(nonce=LONG), STRANGER), (begin(nonce=LONG[1:]), tokens(4)),
         (begin(nonce=LONG_LETTERS), tokens(7)), (begin(nonce=LONG_LETTERS), STRANGER), (begin(nonce=" \u0000/"), tokens(10)),
         (begin(nonce="").replace('"begin"', '"dance"'), INVALID), (begin(nonce="n").replace('"begin"', '"dance"'), "404"),
-        (begin(created=-1).replace('"begin"', '"dance"'), INVALID), (line(1000, "r1", "introspect", looks_at(1), nonce=""), INVALID),
-        (line(1000, "r1", "introspect", looks_at(1), created=-1), INVALID), (begin(nonce=1, created=1).replace('"c1"', '"c9"'), INVALID),
+        (begin(created=-1).replace('"begin"', '"dance"'), INVALID), (begin(nonce=1, created=1).replace('"c1"', '"c9"'), INVALID),
+        *[(begin(nonce=nonce).replace('"begin"', '"dance"'), answer) for nonce, answer in ((LONG, "404"), (LONG + "a", INVALID), (1, INVALID))],
+        (line(1000, "r1", "introspect", looks_at(1), created=-1), INVALID), (line(1000, "r1", "introspect", looks_at(1), nonce=LONG), ACTIVE),
+        *[(line(1000, "r1", "introspect", looks_at(1), nonce=nonce), INVALID) for nonce in ("", LONG + "a", 1)],
     ],
     "an introspection uses neither": [
         (BEGUN.line(), BEGUN.answer), *[(line(1001, "r1", "introspect", looks_at(1), nonce="n1", created=0), ACTIVE)] * 2,
@@ -142,11 +144,42 @@ def messages():
     looks = [call("introspect", "r1", 1_000, introspection(V(1)), nonce=nonce) for nonce in (None, None, "n1", "n1")]
     yield at_1000("a resource server's needs none", [begun(nonce="n1"), *looks])
     ahead = begun(1_300, nonce="n1")
-    yield at_1000("it lasts from the creation on", *[[ahead]] * 5, moments=[1_000, 1_300, 1_301, 1_600, 1_601])
+    yield at_1000("it lasts from the creation on", *[[ahead]] * 6, [begun(1_601, nonce="n1")] * 2, moments=[1_000, 1_300, 1_301, 1_599, 1_600, 1_601])
+    yield at_1000("the same bytes a second later and 301 seconds later, and then a new request with it",
+                  [begun(nonce="n1")] * 3, [begun(1_301, nonce="n1")] * 2, moments=[1_000, 1_001, 1_301])
     other = signed_by_c1(signed_by_c1(plain(), nonce="n1"), nonce="n2", label="sig2", tag="other")
     yield at_1000("that of another tag isn't looked at", [sent(other), sent(signed_by_c1(plain(), nonce="n2")), sent(other)])
+    twice = sent(signed_by_c1(signed_by_c1(plain(), nonce="n1"), nonce="n2", label="sig2"))
+    yield at_1000("two signatures of the tag leave none", [twice, begun(nonce="n1"), begun(nonce="n2"), twice])
+    by_front = [("look", {"handle": V(2)}), ("find_code", {"code": "BBBBBBBB"}), ("decide", decide(2, "grant"))]
+    yield at_1000("each request of the front needs one", [
+        call("begin", "c1", 1_000, MAIL_CODE), *[call(name, "f1", 1_000, body, nonce=nonce) for name, body in by_front for nonce in (None, f"n-{name}")]])
+
+
+def polled(at, serial, nonce, body=None):
+    return call("continue", "c1", at, body, V(serial), nonce=nonce)
+
+
+def continuations():
+    """Continuations and cancellations over HTTP, whose bytes come again."""
+    wrong, early = {"interact_ref": "x"}, polled(1_004, 1, "n2")
+    yield at_1000("a refusal leaves it", [call("begin", "c1", 1_000, MAIL_CODE), early, early, polled(1_005, 1, "n3"), early],
+                  moments=[1_000, 1_004, 1_005])
+    yield at_1000("a refused one counts no wrong reference", [
+        call("begin", "c1", 1_000, MAIL_TOLD), early, polled(1_004, 1, "n2", wrong), *[polled(1_004, 1, f"w{count}", wrong) for count in range(4)],
+        polled(1_004, 1, "w3", wrong), polled(1_004, 1, "w4", wrong), polled(1_004, 1, "w5", wrong)], moments=[1_000, 1_004])
+    used = polled(1_005, 1, "n2")
+    yield at_1000("a refused one is told before the value that is used up", [
+        call("begin", "c1", 1_000, MAIL_CODE), used, used, *[polled(1_005, 1, "n3")] * 2, polled(1_010, 3, "n4"),
+    ], moments=[1_000, 1_005, 1_005, 1_005, 1_005, 1_010])
+    cancelled, revoked = (call(name, "c1", 1_002, value=V(serial), nonce=nonce) for name, serial, nonce in (("cancel", 3, "n4"), ("revoke", 2, "n5")))
+    yield at_1000("cancellations and revocations leave none, and are asked for it", [
+        begun(nonce="n1"), call("revoke", "c1", 1_002, value=V(2), nonce="n1"), call("cancel", "c1", 1_002, value=V(3), nonce="n1"),
+        revoked, revoked, cancelled, cancelled, begun(1_002, nonce="n4"), begun(1_002, nonce="n5"), cancelled], moments=[1_000, 1_002])
+
 
 
 def cases():
     yield from (replay_of("mark: " + name, file_of_lines(lines)) for name, lines in GROUPS.items())
     yield from messages()
+    yield from continuations()

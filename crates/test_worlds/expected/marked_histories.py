@@ -16,6 +16,8 @@ SEEDS = range(40)
 
 
 class MarkedGenerator(Generator):
+    repeated = 25  # of a hundred calls those that were sent before
+
     def __init__(self, seed):
         super().__init__(seed)
         self.server = Server(read_setup(compact(self.setup).encode()))
@@ -29,7 +31,7 @@ class MarkedGenerator(Generator):
 
     def next_step(self):
         """A new call with its mark, or one that was sent before, as it was, at a moment around the end of its signature's time."""
-        if self.sent and self.chance(25):
+        if self.sent and self.chance(self.repeated):
             call, key, value, body, mark = self.random.choice(self.sent)
             return max(0, mark.created + self.random.choice(LATER)), call, key, value, body, mark
         call, key, value, body = self.call()
@@ -38,13 +40,17 @@ class MarkedGenerator(Generator):
         self.sent.append((call, key, value, body, mark))
         return at, call, key, value, body, mark
 
+    def hear(self, call, key, value, body, form):
+        """Takes the answer to this call."""
+        self.observer.see(self.server.machine.now, form)
+
     def lines(self, length):
         yield compact(self.setup)
         for _ in range(length):
             at, call, key, value, body, mark = self.next_step()
             _, form, reached = self.server.answer(at, [], call, key, value or "", body, mark)
             if reached:
-                self.observer.see(self.server.machine.now, form)
+                self.hear(call, key, value, body, form)
             yield Step(at, key, call, value, body, "").line(nonce=mark.nonce.decode(), created=mark.created)
 
 

@@ -27,14 +27,14 @@ def secret_of(setup, key):
     return setup.keys[key].secret if key in setup.keys else b"of nobody"
 
 
-def signed_request(step, setup, created, nonce):
-    """The bytes of a step's call as its key signs it. Introspections have no nonce. A key that a rotation names signs too."""
+def signed_request(step, setup, created, nonce, signs_too=True):
+    """The bytes of a step's call as its key signs it. Introspections have no nonce. A key that a rotation names signs too, where it is to."""
     method, path = ROUTES[step.call]
     body = b"" if step.body is None else compact(step.body).encode()
     fields = [(b"authorization", b"GNAP " + step.value.encode())] if step.value else []
     request = Request(method.encode(), path.encode(), fields, body)
     request = signed(request, setup.base, step.key, secret_of(setup, step.key), created, None if step.call == "introspect" else nonce)
-    if step.call == "rotate" and step.body and "key" in step.body:
+    if signs_too and step.call == "rotate" and step.body and "key" in step.body:
         named = step.body["key"]
         request = signed_again(request, setup.base, named, secret_of(setup, named), created)
     return request_bytes(request)

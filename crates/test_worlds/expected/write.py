@@ -17,6 +17,7 @@ import marked_histories
 import outside_cases
 import resource_cases
 import rights_cases
+import rotated_histories
 import rotation_cases
 import run_cases
 import scripted_grants
@@ -30,7 +31,10 @@ from worlds import outcome
 
 
 def cases():
-    for module in (http_cases, edge_cases, outside_cases, rights_cases, line_cases, mark_cases, rotation_cases, marked_histories, written_cases, client_cases, resource_cases, set_cases):
+    for module in (
+        http_cases, edge_cases, outside_cases, rights_cases, line_cases, mark_cases, rotation_cases, marked_histories, rotated_histories, written_cases,
+        client_cases, resource_cases, set_cases,
+    ):
         yield from module.cases()
     yield from run_cases.cases(scripted_grants.RUNS + scripted_interactions.RUNS)
     yield from map(run_cases.replay_case, scripted_grants.REPLAYS + generated_histories.runs() + stored_histories.runs())
@@ -45,12 +49,20 @@ def is_plain_replay(case):
     return case["words"][:1] == ["replay"] and set(case) == {"name", "words", "files"}
 
 
+def is_utf8(text):
+    try:
+        return bool(text.decode())
+    except UnicodeDecodeError:
+        return False
+
+
 def histories(table):
-    """For each replay its lines, none of them empty, and what it prints without those that are."""
+    """For each replay of a file of UTF-8 its lines, none of them empty, and what it prints without those that are."""
     for case in filter(is_plain_replay, table):
-        lines = [line for line in case["files"][0][1].split("\n") if line]
-        if lines and outcome(case)["status"] == 0 and all(ord(c) < 128 for c in case["files"][0][1]):
-            yield lines, replay("\n".join(lines).encode())[1]
+        lines = [line for line in case["files"][0][1].encode("latin-1").split(b"\n") if line]
+        text = b"\n".join(lines)
+        if lines and outcome(case)["status"] == 0 and is_utf8(text):
+            yield text.decode(), replay(text)[1].encode()
 
 
 def main():
@@ -58,7 +70,7 @@ def main():
     table = list(cases())
     assert len({case["name"] for case in table}) == len(table)
     replays = list(histories(table))
-    replayed = "".join("\n".join(lines) + "\n\n" for lines, _ in replays)
+    replayed = "".join(lines + "\n\n" for lines, _ in replays)
     counts = "".join(f"{len(printed)} bytes\n" for _, printed in replays)
     folder = Path(__file__).resolve().parent.parent
     (folder / "stdin").write_text(lines_of(table) + "histories\n" + replayed, encoding="utf-8")
