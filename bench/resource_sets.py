@@ -2,6 +2,7 @@
 """What sets of rights cost at `gnap sets`: instructions while few and while many are registered, memory, and what a full table answers.
 
     bench/resource_sets.py [N..]
+    bench/resource_sets.py times [N..]
     bench/resource_sets.py memory [N..]
     bench/resource_sets.py rules
 
@@ -13,16 +14,20 @@ nothing at first. Then callgrind counts, and 200 registrations of known sets are
 before is there; and so are resolutions of their references. Which sets they are is drawn, the same at each run. The instructions of one are the difference,
 by 400: from the first byte that is read to the last that is written.
 
-The second has N sets registered, 65,536 where none is given, of 64 bytes and then, at a new process, of 4,096. Printed is the largest resident set, less that
+The second takes the same N and no valgrind. Printed is the processor time that the server took, by the system's count, for each of 3,000 registrations of known
+sets and of 3,000 resolutions, sent 50 in one piece.
+
+The third has N sets registered, 65,536 where none is given, of 64 bytes and then, at a new process, of 4,096. Printed is the largest resident set, less that
 before, and by how much that is more than the texts of the rights.
 
-The third has 65,536 sets registered, and looks at what is answered to known sets, to one more, to rights that aren't served, and to resolutions; then, at
+The fourth has 65,536 sets registered, and looks at what is answered to known sets, to one more, to rights that aren't served, and to resolutions; then, at
 a new process with two workers, whether a set that two connections register at once, 500 times each, has one reference.
 
 The program is ./gnap, or the one that GNAP names; for the first crates/gnap/out/gnap, since valgrind doesn't follow the script ./gnap to the program. Under
 valgrind some hundred registrations a second are taken on a busy machine.
 """
 
+import glob
 import json
 import os
 import random
@@ -122,6 +127,46 @@ def count(numbers):
         print(f"{many:,} sets: {'; '.join(said)}; {speed:,.0f} registrations a second before", flush=True)
 
 
+def processor_time(served):
+    """The seconds of a processor that the process took so far."""
+    nanos = 0
+    for path in glob.glob(f"/proc/{served.process.pid}/task/*/schedstat"):
+        with open(path) as file:
+            nanos += int(file.read().split()[0])
+    return nanos / 1e9
+
+
+def time_known(many):
+    """What one registration of a known set and one resolution take, in seconds."""
+    served = Served(1, 1_000_000, command="sets", stderr=subprocess.DEVNULL)
+    try:
+        references = fill(served, many, SHORT)
+        known = random.Random(1).choices(range(many), k=3 * ON_A_CONNECTION)
+        times = []
+        for kind in ("resource_reference", "access"):
+            took = 0
+            for first in range(0, len(known), ON_A_CONNECTION):
+                some = known[first:first + ON_A_CONNECTION]
+                asked = [resolution(references[n]) if kind == "access" else registration(rights(n, SHORT)) for n in some]
+                before = processor_time(served)
+                told(served, asked, kind, AT_ONCE)
+                took += processor_time(served) - before
+            times.append(took / len(known))
+        return times
+    finally:
+        served.stop()
+
+
+def tell_times(numbers):
+    first = None
+    for many in numbers:
+        times = time_known(many)
+        first = first or times
+        names = ("known registration", "resolution")
+        said = [f"{took * 1e6:.1f} µs for a {name}, {took / before:.2f} times" for name, took, before in zip(names, times, first)]
+        print(f"{many:,} sets: {'; '.join(said)}", flush=True)
+
+
 def peak(served):
     """The largest resident set, in bytes."""
     with open(f"/proc/{served.process.pid}/status") as file:
@@ -194,11 +239,13 @@ def look_at_two():
 
 
 def main():
-    mode, *words = sys.argv[1:] if sys.argv[1:2] in (["memory"], ["rules"]) else [None, *sys.argv[1:]]
+    mode, *words = sys.argv[1:] if sys.argv[1:2] in (["times"], ["memory"], ["rules"]) else [None, *sys.argv[1:]]
     numbers = [int(word) for word in words]
     if mode == "rules":
         look_when_full()
         look_at_two()
+    elif mode == "times":
+        tell_times(numbers or [1_000, MOST])
     elif mode == "memory":
         for many in numbers or [MOST]:
             for length in (SHORT, LONG):
