@@ -1,4 +1,4 @@
-"""What the scripts of this folder share: a setup, signed requests (RFC 9421), replies off a socket, and `gnap as` as a child process."""
+"""What the scripts of this folder share: a setup, signed requests (RFC 9421), replies off a socket, and `gnap as` or `gnap sets` as a child process."""
 
 import base64
 import hashlib
@@ -84,9 +84,10 @@ def first_reply(held):
 
 
 class Served:
-    """`gnap as` over the setup at a free port of this machine, behind the words of a program that runs it. The options are those of `subprocess.Popen`."""
+    """`gnap as`, or another command with its words, over the setup at a free port of this machine, behind the words of a program that runs it. The options are
+    those of `subprocess.Popen`."""
 
-    def __init__(self, workers, quota, under=(), **options):
+    def __init__(self, workers, quota, under=(), command="as", **options):
         self.folder = tempfile.TemporaryDirectory()
         config = os.path.join(self.folder.name, "setup.json")
         with open(config, "w") as file:
@@ -96,7 +97,7 @@ class Served:
             self.address = probe.getsockname()
         listen = f"{self.address[0]}:{self.address[1]}"
         program = os.environ.get("GNAP", os.path.join(TOP, "gnap"))
-        self.process = subprocess.Popen([*under, program, "as", config, listen, str(workers), str(quota)], **options)
+        self.process = subprocess.Popen([*under, program, command, config, listen, str(workers), str(quota)], **options)
 
     def connect(self):
         conn = socket.create_connection(self.address, timeout=30)
@@ -110,7 +111,7 @@ class Served:
                 return self.connect()
             except ConnectionRefusedError:
                 time.sleep(0.05)
-        raise SystemExit("gnap as doesn't listen")
+        raise SystemExit("gnap doesn't listen")
 
     def first_exchange(self, request):
         """The status and the body of the reply to one request on the first connection."""

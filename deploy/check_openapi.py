@@ -1,4 +1,4 @@
-"""Checks docs/openapi.yaml: starts `gnap as` on this machine, sends it signed requests of every operation, and compares replies with the description.
+"""Checks docs/openapi.yaml: starts `gnap as` and `gnap sets`, sends them signed requests of every operation, and compares replies with the description.
 
     python3 deploy/check_openapi.py
 
@@ -36,8 +36,10 @@ SETUP = {
 PHOTOS, MAIL = {"access": ["photos"]}, {"access": ["mail"]}
 AT_ONCE = {"access_token": PHOTOS, "client": "c1"}
 NOTHING = "A" * 32
-# Only at a full table of tokens.
-UNSEEN = {("continue", "400", "request_denied")}
+# The paths of `gnap sets`.
+SET_PATHS = ("/resource", "/resolve")
+# Only at a full table of tokens, or of sets.
+UNSEEN = {("continue", "400", "request_denied"), ("register", "400", "request_denied")}
 
 
 class Wrong(Exception):
@@ -64,25 +66,32 @@ class Reply:
         return self.body["interact"]["redirect"].rsplit("/", 1)[1]
 
 
-class Server:
-    """`gnap as` as a child process, at a port of 127.0.0.1."""
+class Servers:
+    """`gnap as` and `gnap sets` as child processes, each at a port of 127.0.0.1."""
 
     def __init__(self, folder: str):
         setup = Path(folder, "setup.json")
         setup.write_text(json.dumps(SETUP))
         program = os.environ.get("GNAP", str(TOP / "gnap"))
         subprocess.run([program, "replay", str(TOP / "examples" / "first.jsonl")], stdout=subprocess.DEVNULL, check=True)
+        self._processes: list[subprocess.Popen] = []
+        self._ports = {command: self._start(program, command, str(setup)) for command in ("as", "sets")}
+
+    def _start(self, program: str, command: str, setup: str) -> int:
         for _ in range(10):
-            self._port = random.randrange(20000, 32000)
-            self._process = subprocess.Popen([program, "as", str(setup), f"127.0.0.1:{self._port}", "2", "1000"], stderr=subprocess.DEVNULL)
+            port = random.randrange(20000, 32000)
+            process = subprocess.Popen([program, command, setup, f"127.0.0.1:{port}", "2", "1000"], stderr=subprocess.DEVNULL)
             time.sleep(0.3)
-            if self._process.poll() is None:
-                return
-        raise Wrong("gnap as doesn't start")
+            if process.poll() is None:
+                self._processes.append(process)
+                return port
+        self.stop()
+        raise Wrong(f"gnap {command} doesn't start")
 
     def send(self, method: str, path: str, fields: dict[str, str], body: bytes | None) -> Reply:
         """Sends one request and reads its reply."""
-        connection = http.client.HTTPConnection("127.0.0.1", self._port, timeout=20)
+        port = self._ports["sets" if path in SET_PATHS else "as"]
+        connection = http.client.HTTPConnection("127.0.0.1", port, timeout=20)
         try:
             connection.request(method, path, body=body, headers={"Host": "as.example", **fields})
             return Reply(connection.getresponse())
@@ -90,16 +99,17 @@ class Server:
             connection.close()
 
     def stop(self) -> None:
-        """Ends the process."""
-        self._process.terminate()
-        self._process.wait()
+        """Ends the processes."""
+        for process in self._processes:
+            process.terminate()
+            process.wait()
 
 
 class Checked:
-    """The server and its description, and what was seen of it."""
+    """The servers and their description, and what was seen of them."""
 
-    def __init__(self, server: Server, description: dict):
-        self.server = server
+    def __init__(self, servers: Servers, description: dict):
+        self.servers = servers
         self.description = description
         self.schemas = Schemas(description)
         self.seen: set[tuple[str, str, str]] = set()
@@ -122,7 +132,7 @@ class Checked:
         credential = None if value is None else f"GNAP {value}"
         new_key = Signer(again, SECRETS[again]) if again else None
         fields = Signer(key, SECRETS[key]).fields(method, BASE + path, data, credential, new_key) if key else {}
-        reply = self.server.send(method, path, fields, data)
+        reply = self.servers.send(method, path, fields, data)
         what = f"{operation['operationId']} {body}: {reply.status} {reply.body}"
         code = reply.body["error"]["code"] if reply.body and "error" in reply.body else ""
         if expect not in (reply.status, code):
@@ -194,12 +204,12 @@ def discoveries(checked: Checked) -> None:
     for path, methods in checked.description["paths"].items():
         allowed = {method.upper() for method in methods}
         for method in {"GET", "PUT", "OPTIONS", "POST", "PATCH", "DELETE"} - allowed:
-            reply = checked.server.send(method, path, {}, None)
+            reply = checked.servers.send(method, path, {}, None)
             if reply.status != 405 or set(reply.fields["Allow"].split(", ")) != allowed or reply.body is not None:
                 raise Wrong(f"{method} {path}: {reply.status} {reply.fields['Allow']}, and {allowed} is described")
     many = {f"X-{n}": "" for n in range(64)}
     for path, fields, status in (("/nowhere", {}, 404), ("/gnap", {"Content-Encoding": "gzip"}, 501), ("/gnap", many, 413)):
-        reply = checked.server.send("POST", path, fields, None)
+        reply = checked.servers.send("POST", path, fields, None)
         if reply.status != status or reply.body is not None:
             raise Wrong(f"{status} without a body is described: {reply.status} {reply.body}")
     for (_, path), operation in checked.operations().items():
@@ -273,6 +283,29 @@ def introspections(checked: Checked, bound: str, bearer: str) -> None:
     checked.refuse("POST", "/introspect", malformed, key="r1")
 
 
+def resource_sets(checked: Checked) -> None:
+    """Sets are registered, and references resolved."""
+    body = {**PHOTOS, "resource_server": "r1"}
+    first, again, other = [
+        checked.call("POST", "/resource", asked, key="r1").body["resource_reference"]
+        for asked in (body, {**PHOTOS, "resource_server": {"key": "r1"}}, {**body, "access": ["photos", FULL]})
+    ]
+    if first != again or first == other:
+        raise Wrong(f"two sets have the references {first}, {again} and {other}")
+    checked.call("POST", "/resource", {**body, "access": ["mail"]}, key="r1", expect="invalid_access")
+    checked.call("POST", "/resource", {**body, "resource_server": "r2"}, key="r1", expect="invalid_resource_server")
+    for key in ("c1", "f1", None):
+        checked.call("POST", "/resource", body, key=key, expect="invalid_resource_server")
+    malformed = [{}, b"", b"[]", PHOTOS, {**body, "access": []}, {**body, "access": ["photos"] * 17}, {**body, "resource_server": 1}]
+    checked.refuse("POST", "/resource", malformed, key="r1")
+    for key in ("r1", "f1"):
+        if checked.call("POST", "/resolve", {"resource_reference": other}, key=key).body["access"] != ["photos", FULL]:
+            raise Wrong(f"{other} means something else")
+    checked.call("POST", "/resolve", {"resource_reference": NOTHING}, key="f1", expect="invalid_request")
+    checked.call("POST", "/resolve", {"resource_reference": first}, key="c1", expect="invalid_resource_server")
+    checked.refuse("POST", "/resolve", [{}, b"", {"resource_reference": 1}], key="f1")
+
+
 def modifications(checked: Checked, value: str) -> None:
     """A grant is changed, and cancelled."""
     body = {"access_token": PHOTOS}
@@ -339,10 +372,10 @@ def main() -> int:
     """Checks all, and says what came of it."""
     description = json.loads((TOP / "docs" / "openapi.yaml").read_text())
     with tempfile.TemporaryDirectory() as folder:
-        server = Server(folder)
-        checked = Checked(server, description)
+        servers = Servers(folder)
+        checked = Checked(servers, description)
         try:
-            for visit in (discoveries, requests_and_tokens, interactions, polls):
+            for visit in (discoveries, requests_and_tokens, resource_sets, interactions, polls):
                 visit(checked)
             if unseen := checked.unseen():
                 raise Wrong(f"described and not seen: {sorted(unseen)}")
@@ -350,7 +383,7 @@ def main() -> int:
             print(f"check_openapi: {wrong}", file=sys.stderr)
             return 1
         finally:
-            server.stop()
+            servers.stop()
     print(f"{len(checked.operations())} operations as described, in {checked.exchanges} exchanges")
     return 0
 

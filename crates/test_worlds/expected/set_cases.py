@@ -2,9 +2,11 @@
 
 from http_cases import BASE, NOT_FOUND, SECRETS, case as server_case, head, latin, request
 from http_forms import sent
-from scripts import SETUP, V
+from scripts import F1, R1, R2, V, setup_of
 from signatures import signed
 
+# Both servers serve photos.
+SHARING = setup_of(R1, {**R2, "serves": ["photos"]}, F1)
 FULL = {"actions": ["read", "send"], "type": "mail", "x": {"b": 1, "a": [None]}}
 
 
@@ -37,10 +39,18 @@ def meanings():
         registered("r1", ["photos"]), registered("r1", ["photos"]), registered("r1", ["calendar"]), resolved("f1", V(1)), resolved("f1", V(2)),
         resolved("c1", V(1)), resolved("r1", V(1)), resolved("r2", V(1)),
     ]])
-    yield case("another server, another order, and a right twice are other sets", [[
+    yield case("another order, a right twice, and other members are other sets", [[
         registered("r1", ["photos", "mail"]), registered("r1", ["mail", "photos"]), registered("r1", ["photos", "photos"]), registered("r1", ["photos"]),
         registered("r1", [FULL]), registered("r1", [{**FULL, "actions": ["send", "read"]}]), registered("r1", [{"x": {"a": [None], "b": 1}, **FULL}]),
-        *(resolved("r1", V(serial)) for serial in range(1, 8)),
+        registered("r1", [{**FULL, "x": {"b": 2, "a": [None]}}]), registered("r1", [{"type": "mail", "actions": ["read", "send"]}]),
+        registered("r1", ["mail"]), registered("r1", [{"type": "mail"}]), *(resolved("r1", V(serial)) for serial in range(1, 12)),
+    ]])
+    yield case("the same rights of another server are another set", [[
+        registered("r1", ["photos"]), registered("r2", ["photos"]), registered("r1", ["photos"]), registered("r2", ["photos"]),
+        *(resolved(asker, V(serial)) for asker in ("r1", "r2", "f1") for serial in (1, 2)),
+    ]], setup=SHARING)
+    yield case("a signed body that comes again, also with a nonce", [[
+        *[registered("r1", ["photos"], nonce="n1")] * 2, *[resolved("f1", V(1), nonce="n1")] * 2, *[resolved("f1", V(1))] * 2,
     ]])
     words = [[2 ** 64 - 1, 1, 5], [7, 8], [9], [3, 4]]
     yield case("the words of a call are its own, and a known set draws too", [[
@@ -55,6 +65,10 @@ def meanings():
         {"connections": [latin(registered("r1", ["photos"]) * 3)], "moments": [1_000]},
         {"connections": [latin(resolved("f1", "x") * 3)], "moments": [1_000], "draws": [[7]] * 9},
     ]}
+    # All calls draw the same words, so one more set would show by its serial alone, whichever worker is first.
+    yield {**case("two workers register one set, each 500 times", [[b""]]), "words": ["sets", "setup", "a", "2", "1"], "gears": [
+        {"connections": [chr(256)], "moments": [1_000]} for _ in range(2)
+    ], "runs": [[latin(registered("r1", ["photos"])), 500]]}
 
 
 def refusals():
