@@ -2,6 +2,7 @@
 that is written here; and a whole story of a client, both servers and the front, of which each part is a case.
 """
 
+import base64
 import json
 
 from as_server import Service
@@ -161,9 +162,10 @@ def at(moment):
 
 
 def with_bit_changed(request):
-    mark = b"Signature: sig1=:"
-    before, _, code = request.partition(mark)
-    return before + mark + (b"B" if code[:1] == b"A" else b"A") + code[1:]
+    """The request, with another bit in the first byte of its signature."""
+    before, mark, code = request.partition(b"Signature: sig1=:")
+    first = base64.b64decode(code[:4])
+    return before + mark + base64.b64encode(bytes([first[0] ^ 1, *first[1:]])) + code[4:]
 
 
 def of_length(total):
