@@ -3,15 +3,20 @@
 
     bench/refused_memory.py
 
-A small library, compiled by `cc`, stands before the system's `malloc` and `realloc` and refuses the call of one number. `gnap replay` and `gnap as` are run
-anew for each number, from 1 on, until a run asks for less memory than that.
+A small library, compiled by `cc`, stands before the system's `malloc` and `realloc` and refuses the call of one number. `gnap replay`, `gnap as` and `gnap rs`
+are run anew for each number, from 1 on, until a run asks for less memory than that.
 
 A replay of a grant, introspections, a rotation and a cancellation has to end with 0 and all answers, or with 6 and whole answers from the first on. At
 `gnap as` with one worker the same is asked over HTTP, each request on a connection of its own. It may end with 6 before it listens. Else the refusal may
 show once, as a 503 in place of a reply, or as a connection that brings nothing; that request is sent again, and has to be answered as ever, or as one whose
 first entry stands (docs/HTTP.md). A grant request is sent again by the same bytes, and once more when it was answered: they act once. The requests behind it
-have to be answered as ever. Printed is how many refusals had which outcome, and each difference; the status is 1 where there was one. The program is ./gnap,
-or the one that GNAP names.
+have to be answered as ever.
+
+`gnap rs` keeps one reply, of a server that is played here. It is asked for a resource with a token, with the same again, with a wrong signature, with another
+token, with the first again, and with none. It may end with 6 before it listens. Else one request may be refused; it is sent again, and answered as ever. What
+was kept stays: where nothing is to be asked, nothing is. Where a question is to be asked, it is asked once, or twice where its reply wasn't kept.
+
+Printed is how many refusals had which outcome, and each difference; the status is 1 where there was one. The program is ./gnap, or the one that GNAP names.
 """
 
 import collections
@@ -21,6 +26,7 @@ import subprocess
 import sys
 import tempfile
 
+from cached_requests import Guarding, bound, bound_reply, playing
 from signed_http import SETUP, TOP, Served, first_reply, fresh_nonce, grant_request, signed_request
 
 SHIM = r"""
@@ -212,12 +218,76 @@ def served_runs(refusing):
     return found, differences
 
 
+# ---- a resource server with a cache
+
+def with_other_signature(request):
+    before, mark, code = request.partition(b"Signature: sig1=:")
+    return before + mark + (b"B" if code[:1] == b"A" else b"A") + code[1:]
+
+
+# Each request, the status of its reply, and whether its token is asked about where one reply is kept.
+GUARDED = [
+    (lambda: bound(1), 200, True), (lambda: bound(1), 200, False), (lambda: with_other_signature(bound(1)), 401, False), (lambda: bound(2), 200, True),
+    (lambda: bound(1), 200, True), (lambda: b"GET /photos HTTP/1.1\r\n\r\n", 401, False),
+]
+
+
+def status_of(guarding, request):
+    """The status of what comes, None where nothing does."""
+    with guarding.connect() as conn:
+        conn.sendall(request)
+        held = bytearray()
+        while (reply := first_reply(held)) is None:
+            piece = conn.recv(65_536)
+            if not piece:
+                return None
+            held += piece
+        return reply[0]
+
+
+def guard_all(guarding, server):
+    """How many requests were refused memory."""
+    refused = 0
+    for request, status, is_asked in GUARDED:
+        before, most = server.asked, int(is_asked)
+        came = status_of(guarding, request())
+        if came in (None, 503):
+            refused, most = refused + 1, 2 * most
+            came = status_of(guarding, request())
+        asked = server.asked - before
+        if came != status or refused > 1 or not is_asked <= asked <= most:
+            raise Difference(f"{came} in place of {status}, with {asked} questions, after {refused} refusals")
+    return refused
+
+
+def guarded_runs(refusing):
+    found, differences = collections.Counter(), []
+    with playing(bound_reply) as server:
+        for number in range(1, MOST):
+            guarding = Guarding(server.server_address, 1, env=refusing.environment(number), stderr=subprocess.DEVNULL)
+            try:
+                outcome = f"{guard_all(guarding, server)} requests refused"
+            except Difference as fault:
+                outcome = "different"
+                differences.append(f"rs {number}: {fault}")
+            except (SystemExit, OSError):
+                outcome = f"status {guarding.process.wait(10)}"
+                if guarding.process.returncode != 6:
+                    differences.append(f"rs {number}: {outcome}")
+            guarding.stop()
+            if refusing.was_past_the_last():
+                break
+            found[outcome] += 1
+    return found, differences
+
+
 def main():
     program = os.environ.get("GNAP", os.path.join(TOP, "gnap"))
     differences = []
     with tempfile.TemporaryDirectory() as folder:
         refusing = Refusing(folder)
-        for name, (found, odd) in (("replay", replays(folder, program, refusing)), ("as", served_runs(refusing))):
+        for name, (found, odd) in (("replay", replays(folder, program, refusing)), ("as", served_runs(refusing)),
+                                    ("rs", guarded_runs(refusing))):
             print(f"{name}: {sum(found.values())} refusals, {len(odd)} differences")
             for outcome, times in sorted(found.items()):
                 print(f"  {outcome}: {times}")

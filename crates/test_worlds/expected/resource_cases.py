@@ -2,6 +2,7 @@
 that is written here; and a whole story of a client, both servers and the front, of which each part is a case.
 """
 
+import base64
 import json
 
 from as_server import Service
@@ -161,9 +162,10 @@ def at(moment):
 
 
 def with_bit_changed(request):
-    mark = b"Signature: sig1=:"
-    before, _, code = request.partition(mark)
-    return before + mark + (b"B" if code[:1] == b"A" else b"A") + code[1:]
+    """The request, with another bit in the first byte of its signature."""
+    before, mark, code = request.partition(b"Signature: sig1=:")
+    first = base64.b64decode(code[:4])
+    return before + mark + base64.b64encode(bytes([first[0] ^ 1, *first[1:]])) + code[4:]
 
 
 def of_length(total):
@@ -188,6 +190,15 @@ def cached():
     yield cached_case("an old reply goes out, also where the link fails", 1, [[one, one, one]], [FREE] * 2, [1_000, 1_031, 1_030], bad_exchanges=[2])
     yield cached_case("13,500 bytes are kept", 1, [[one, one]], [of_length(13_500)] * 2, [1_000, 1_001])
     yield cached_case("13,501 bytes aren't", 1, [[one, one]], [of_length(13_501)] * 2, [1_000, 1_001])
+    yield cached_case("a wrong signature has its reply come first", 2, [[SIGNED, one, with_bit_changed(SIGNED), two, SIGNED, one]], [says(), FREE, FREE, FREE],
+                      [1_000] * 6)
+    refused = [sent(plain()), sent(plain(b"Bearer 2", target=b"/x")), sent(plain(b"Bearer 2", method=b"POST"))]
+    yield cached_case("what has no question leaves the replies", 1, [[one, *refused, one]], [FREE], [1_000] * 5)
+    yield cached_case("a kept reply is judged while the link fails", 2, [[one, two, one]], [FREE], [1_000] * 3, bad_exchanges=[2])
+    mail = sent(plain(b"Bearer 1", target=b"/mail"))
+    both = says(flags=["bearer"], key=None, access=["mail", "photos"])
+    yield cached_case("each right has its own reply", 2, [[one, mail, one, mail]], [both] * 2, [1_000] * 4)
+    yield cached_case("a token that has ended by its reply", 1, [[one, one]], [says(flags=["bearer"], key=None, exp=1_000)] * 2, [1_000] * 2)
     right = [{**ROUTES[0], "path": path, "text": path} for path in ("/a", "/b")]
     yield {**cached_case("two routes with one right share a reply", 1, [[sent(plain(b"Bearer 1", target=b"/a")), sent(plain(b"Bearer 1", target=b"/b"))]], [FREE],
                          [1_000, 1_001]), "files": [["s", latin(compact({**RS_SETUP, "routes": right}).encode())]]}
@@ -224,6 +235,17 @@ def setups():
     ]:
         text = compact({member: value for member, value in {**RS_SETUP, **changed}.items() if value is not None})
         yield {**case("a setup: " + name, [[SIGNED]], [says()]), "files": [["s", latin(text.encode())]]}
+    for count in (4_096, 4_097):
+        yield with_keys(count)
+
+
+def with_keys(count):
+    """A case whose setup has so many keys. The last one is that of c1; a run stands for what is between the ids of the others."""
+    ids = [f"k{place}" for place in range(count - 1)]
+    secret = f'","secret":"{TEXTS["c2"]}"}}'
+    text = latin(compact({**RS_SETUP, "keys": ["others", RS_SETUP["keys"][0]]}).encode())
+    text = text.replace('"others"', '{"id":"' + chr(256).join(ids) + secret)
+    return {**case(f"a setup: {count:,} keys", [[SIGNED]], [says()]), "files": [["s", text]], "runs": [[secret + ',{"id":"', 1]]}
 
 
 def many(count):
