@@ -3,6 +3,7 @@ ghost use Rattle.std.specs.Prelude.{◌≡◌};
 ghost use Rattle.introspection_cache.specs.Caching.{is_fresh};
 
 use bytes_and_lists::bytes::Bytes;
+use bytes_and_lists::memory::Duplicate;
 
 /// A reply that says that a token is live.
 #[derive(Drop)]
@@ -15,13 +16,15 @@ pub struct KeptReply {
     pub exp: u64,
 }
 
-/// The same bytes, without spare room. Where no smaller block is to be had, they keep theirs.
+/// The same bytes in a block of their own size. A block that is shrunk where it lies leaves a gap that is too short for the next reply. Where no block
+/// is to be had, they keep theirs.
 pub(crate) fn without_spare_room(bytes: Bytes) -> Bytes
     ensures { result ≡ bytes }
 {
-    let mut items = bytes.into_vec();
-    items.shrink_to_fit();
-    Bytes::from_vec(items)
+    match bytes.copy() {
+        Ok(fitted) => fitted,
+        Err(_) => bytes,
+    }
 }
 
 impl KeptReply {
