@@ -10,6 +10,7 @@ use Rattle.resource_server.specs.declared.setup.RsSetup.{RsSetup}
 use Rattle.introspection_cache.specs.Caching.{Cache, Caches, new_cache}
 use Rattle.rs_edge.specs.GuardedSteps.{GuardsKeeping}
 use Rattle.rs_edge.specs.RsServices.{IsRsService, not_linked, not_started, served}
+use Rattle.rs_edge.proofs.CachedTurns.{accounts_mean}
 use Rattle.command_inputs.specs.declared.ended.Ended.{Ended}
 use Rattle.command_inputs.specs.declared.ended.Ended.TheVariants.{Failed, Memory}
 use Rattle.gnap_tool.specs.Runs.{ServesGuarded, ServesRs, ended_service}
@@ -37,7 +38,7 @@ resources_used guards first _ setup listen server quota before after answer (ser
 pub unserved : (setup : RsSetup) (listen server : List ℕ) (quota : ℕ) (cache : Option ℕ) (world : WorldState) (ended : Ended) → (ended ≡ Failed) ⊎ (ended ≡ Memory)
     → ServesRs setup listen server quota cache world world ended
 unserved setup listen server quota None world ended is = inl (refl, is)
-unserved setup listen server quota (Some capacity) world ended is = inl (refl, is)
+unserved setup listen server quota (Some capacity) world ended is = (inl (refl, is), accounts_mean setup capacity)
 
 -- the openings of a resource server, where memory ran out before them
 pub unserved_used : (listen server : List ℕ) (quota : ℕ) (world : WorldState) → UsesWorld (Link server ∷ Gears listen 1 quota ∷ []) None world world Memory
@@ -49,4 +50,4 @@ pub with_cache : (setup : RsSetup) (listen server : List ℕ) (quota : ℕ) (cac
     → ServesRs setup listen server quota cache before after ended
 with_cache setup listen server quota cache capacity first before after ended is new serves =
     subst (λ (o : Option ℕ). ServesRs setup listen server quota o before after ended) (sym is)
-    (subst (λ (c : Cache). ServesGuarded Caches c setup listen server quota before after ended) new serves)
+    (subst (λ (c : Cache). ServesGuarded Caches c setup listen server quota before after ended) new serves, accounts_mean setup capacity)

@@ -27,6 +27,7 @@ use Rattle.resource_server.specs.declared.setup.RsSetup.{RsSetup}
 use Rattle.introspection_cache.specs.Caching.{Caches, new_cache}
 use Rattle.rs_edge.specs.GuardedSteps.{GuardsKeeping, guards_asking}
 use Rattle.rs_edge.specs.RsServices.{IsRsService}
+use Rattle.rs_edge.specs.CachedTurns.{AccountsMean}
 use Rattle.signed_files.specs.SignedText.{SignsFile}
 use Rattle.signed_files.specs.Verdicts.{VerifiesFile}
 use Rattle.gnap_model.specs.declared.objects.Setup.{Setup}
@@ -81,10 +82,13 @@ ServesGuarded {K} guards first setup listen server quota before after ended = ((
     ⊎ ((last : K) × (answer : Result (Unit {0}) WorldFault) × (ended ≡ ended_service answer)
     × IsRsService guards setup listen server quota before after first last answer)
 
--- Without a cache the token of each request is asked about. With one, which is empty first, a reply is kept for a while.
+-- Without a cache the token of each request is asked about. With one, which is empty first, a reply is kept for a while; and whatever the gear and the link
+-- tell of such a service, each request that was let through was so by a reply to the question about its token, which came in its own turn or in an earlier
+-- one, at most 30 seconds before (`IsByCache`).
 abbrev pub ServesRs : RsSetup → List ℕ → List ℕ → ℕ → Option ℕ → WorldState → WorldState → Ended → Type 0
 ServesRs setup listen server quota None before after ended = ServesGuarded guards_asking tt setup listen server quota before after ended
-ServesRs setup listen server quota (Some capacity) before after ended = ServesGuarded Caches (new_cache capacity) setup listen server quota before after ended
+ServesRs setup listen server quota (Some capacity) before after ended =
+    ServesGuarded Caches (new_cache capacity) setup listen server quota before after ended × AccountsMean setup capacity
 
 -- ---- the commands
 
