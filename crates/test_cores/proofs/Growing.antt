@@ -1,5 +1,5 @@
 -- A core that took a call more.
-use Rattle.std.proofs.Common.{ℕ, ◌≤◌, ◌<◌, ◌+◌, ◌^◌, List, [], ◌∷◌, ◌++◌, length, length-append, arith}
+use Rattle.std.proofs.Common.{ℕ, ◌<◌, ◌+◌, ◌^◌, List, [], ◌∷◌, ◌++◌, length, length-append, arith}
 use Rattle.histories.specs.History.{entry_of}
 use Rattle.histories.specs.Steps.{Answers}
 use Rattle.gnap_model.specs.declared.objects.Setup.{Setup}
