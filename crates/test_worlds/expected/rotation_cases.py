@@ -20,9 +20,9 @@ def rotation(named=None, label="sig1", value=2, key="c1", nonce="n2"):
     return signed(message, BASE, key, SECRETS[key], 1_001, nonce, label=label)
 
 
-def again(message, key, created=1_001, secret=None, covers=(BYTES, LIST)):
+def again(message, key, created=1_001, secret=None, covers=(BYTES, LIST), label="sig2"):
     """The message, signed by this key too."""
-    return signed_again(message, BASE, key, SECRETS[secret or key], created, covers)
+    return signed_again(message, BASE, key, SECRETS[secret or key], created, covers, label)
 
 
 def turned(message):
@@ -74,6 +74,7 @@ def rotations():
         ("the two signatures in one line of each field", in_one_line(again(to_c2, "c2"))),
         ("the second signature before the first", turned(again(to_c2, "c2"))),
         ("the first signature under another label", again(rotation("c2", "a"), "c2", covers=(("signature", "a"), ("signature-input", "a")))),
+        ("the second signature under another label", again(to_c2, "c2", label="b")),
         ("it covers the whole field of lists too", again(to_c2, "c2", covers=(("signature-input", None), BYTES, LIST))),
         ("it covers its own list too", again(to_c2, "c2", covers=(BYTES, LIST, ("signature-input", "sig2")))),
         ("no second signature", to_c2),

@@ -134,12 +134,12 @@ def with_signature(message, base, secret, label, items, parameters, again=False)
     return message
 
 
-def signed_again(message, base, key, secret, created, covers=(("signature", "sig1"), ("signature-input", "sig1"))):
+def signed_again(message, base, key, secret, created, covers=(("signature", "sig1"), ("signature-input", "sig1")), label="sig2"):
     """The signed message with a signature of a new key over the first one; `covers` is what it covers of signatures, by field and label, or a whole field."""
     items = [(("String", name), {}) for name in must_cover(message)]
-    items += [(("String", name), {} if label is None else {"key": ("String", label)}) for name, label in covers]
+    items += [(("String", name), {} if member is None else {"key": ("String", member)}) for name, member in covers]
     parameters = {"created": ("Integer", created), "keyid": ("String", key), "tag": ("String", SECOND_TAG)}
-    return with_signature(message, base, secret, "sig2", items, parameters, True)
+    return with_signature(message, base, secret, label, items, parameters, True)
 
 
 def lists_tagged(inputs, tag):
