@@ -30,11 +30,11 @@ module _ {Message Call Reply Note : Type 0} (IsSession : Served → List (Turn M
   account-none = record { turns = []; sessions = tt; moments = refl; draws = refl; own_is = refl }
 
   -- The worker gave an account of what its gear told. A connection was served, whose turns used the gear, and it was taken back.
-  pub account-next : (log log_used : Log) (own own_now : List (Entry Call Reply Note)) (conn : Served) (ts : List (Turn Message (Entry Call Reply Note)))
+  pub account-longer : (log log_used : Log) (own own_now : List (Entry Call Reply Note)) (conn : Served) (ts : List (Turn Message (Entry Call Reply Note)))
       → IsAccount IsSession log own → IsSession conn ts
       → log_used ≡ log_uses (moments_in ts) (map draw_of (entries_in ts)) log → own_now ≡ own ++ entries_in ts
       → IsAccount IsSession (log_served conn log_used) own_now
-  account-next log log_used own own_now conn ts was one used owns =
+  account-longer log log_used own own_now conn ts was one used owns =
       let first = was.turns in
       let last : joined (first ++ ts ∷ []) ≡ joined first ++ ts = joined-next first ts in
       subst (λ (l : Log). IsAccount IsSession (log_served conn l) own_now) (sym used) (record {

@@ -10,7 +10,7 @@ use Rattle.histories.specs.Histories.{legal-nil}
 use Rattle.serving.specs.Logs.{Serves, IsAccount}
 use Rattle.histories.specs.Turns.{Turn, moments_in, entries_in, draw_of}
 use Rattle.histories.specs.Whole.{own_of}
-use Rattle.serving.proofs.LogLemmas.{account-none, account-next}
+use Rattle.serving.proofs.LogLemmas.{account-none, account-longer}
 use Rattle.shared_server.specs.Passes.{StationState}
 use Rattle.serving.specs.Workers.{WorkerState, IsSoundWorker, IsSameWorker, HasServedOne, HasServedAll}
 
@@ -61,7 +61,7 @@ module _ {Message Front Rules Call Reply Note : Type 0} (law : Law Rules Call Re
       legal = subst (λ (r : Rules). Legal law r station.seen) (ap (λ h. h.rules) home ∙ keeps.rules_are)
           (subst (λ (k : List (Entry Call Reply Note)). Legal law station.home.rules k) served.seen_now.0 served.seen_now.1);
       account = subst (λ (l : Log). IsAccount session l (own_of station.number station.seen)) (sym log_now)
-          (account-next session w.gear.log gear2.log (own_of w.station.number w.station.seen) (own_of station.number station.seen) conn served.turns
+          (account-longer session w.gear.log gear2.log (own_of w.station.number w.station.seen) (own_of station.number station.seen) conn served.turns
           keeps.account served.session uses own_now);
       room = (
           let size = ap length own_now in
