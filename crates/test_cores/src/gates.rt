@@ -2,13 +2,15 @@
 ghost use Rattle.std.specs.Prelude.{◌≡◌, IfOk};
 ghost use Rattle.gnap_io.specs.Gears.{new_gear, AreStarted};
 
-use crate::served_messages::{bytes_of, put_texts, server};
+use as_edge::AuthorizationServer;
+use as_requests::Edge;
 use bytes_and_lists::bytes::Bytes;
 use bytes_and_lists::memory::{Duplicate, Mem};
 use gnap_io::device::{Device, Failed, Sink, Source};
 use gnap_io::gear::{Clock, Counted, Door, Draws, Gear};
 use gnap_io::memory_conn::MemConn;
 use gnap_io::memory_gear::MemGear;
+use gnap_objects::read_setup;
 use serving::threads::serve_gears;
 use std::alloc::Global;
 use std::hint::spin_loop;
@@ -16,6 +18,10 @@ use std::sync::Wait;
 use std::sync::atomic::{AtomicU64, Ordering};
 use std::thread::Threads;
 use table_core::TableCore;
+
+const SETUP: &[u8] =
+    b"{\"base\":\"https://as.example\",\"front\":\"https://front.example\",\"keys\":[{\"ask\":[],\"auto\":[\"photos\"],\"id\":\"c1\",\
+        \"role\":\"client\",\"secret\":\"c2VjcmV0LWtleS1vZi1jMQ==\"}]}";
 
 // So many bytes of a connection are asked for at once.
 const PIECE: usize = 4_096;
@@ -170,6 +176,36 @@ fn rest_of<'a>((nonce, signature): (&'a str, &'a str)) -> [&'a str; 5] {
         signature,
         ":\nContent-Length: 52\n\n{\"access_token\":{\"access\":[\"photos\"]},\"client\":\"c1\"}",
     ]
+}
+
+// The server of the setup above.
+fn server(alloc: Global) -> Result<AuthorizationServer, Mem> {
+    let Ok(setup) = read_setup(alloc, SETUP) else {
+        return Err(Mem);
+    };
+    match Edge::new(alloc, setup) {
+        Ok(edge) => Ok(AuthorizationServer { edge }),
+        Err((_setup, Mem)) => Err(Mem),
+    }
+}
+
+// Puts texts behind bytes, with CR LF at the ends of their lines.
+fn put_texts(bytes: &mut Bytes, texts: &[&str]) -> Result<(), Mem> {
+    for text in texts {
+        for byte in text.as_bytes() {
+            if *byte == b'\n' {
+                bytes.push(b'\r')?;
+            }
+            bytes.push(*byte)?;
+        }
+    }
+    Ok(())
+}
+
+fn bytes_of(alloc: Global, texts: &[&str]) -> Result<Bytes, Mem> {
+    let mut bytes = Bytes::new(alloc);
+    put_texts(&mut bytes, texts)?;
+    Ok(bytes)
 }
 
 // A grant request as long as a piece, by a field that isn't signed.
