@@ -11,6 +11,8 @@ use gnap_io::gear::{Clock, Counted, Door, Draws, Gear};
 use gnap_io::memory_conn::MemConn;
 use gnap_io::memory_gear::MemGear;
 use gnap_objects::read_setup;
+use http_serving::{HttpFront, HttpReader};
+use serving::server_front::ServerFront;
 use serving::threads::serve_gears;
 use std::alloc::Global;
 use std::hint::spin_loop;
@@ -178,13 +180,16 @@ fn rest_of<'a>((nonce, signature): (&'a str, &'a str)) -> [&'a str; 5] {
     ]
 }
 
-// The server of the setup above.
-fn server(alloc: Global) -> Result<AuthorizationServer, Mem> {
+// The server of the setup above, over HTTP.
+fn front(alloc: Global) -> Result<HttpFront<AuthorizationServer>, Mem> {
     let Ok(setup) = read_setup(alloc, SETUP) else {
         return Err(Mem);
     };
     match Edge::new(alloc, setup) {
-        Ok(edge) => Ok(AuthorizationServer { edge }),
+        Ok(edge) => Ok(ServerFront {
+            reader: HttpReader,
+            server: AuthorizationServer { edge },
+        }),
         Err((_setup, Mem)) => Err(Mem),
     }
 }
@@ -272,9 +277,9 @@ fn grants_told_to_both<R: Threads + Wait + Sync>(
     alloc: Global,
     gate: &Gate,
 ) -> Result<Vec<usize>, Mem> {
-    let server = server(alloc)?;
-    let core = TableCore::new(alloc, server.edge.setup().copy()?);
-    let (gears, served) = serve_gears(rt, alloc, core, &server, two_gears(alloc, gate)?);
+    let front = front(alloc)?;
+    let core = TableCore::new(alloc, front.server.edge.setup().copy()?);
+    let (gears, served) = serve_gears(rt, alloc, core, &front, two_gears(alloc, gate)?);
     served?;
     let mut counts = Vec::new(alloc);
     for gear in &gears {
