@@ -19,6 +19,7 @@ use Rattle.grant_machine.specs.Gnap.{GnapEntry, gnap}
 use Rattle.grant_machine.specs.Laws.{WhatHolds}
 use Rattle.http_serving.specs.EdgeWire.{edge_wire}
 use Rattle.derivation_requests.specs.Pairs.{Pair}
+use Rattle.derived_tokens.specs.DerivingSetups.{DerivingSetup}
 use Rattle.derived_tokens.specs.Terms.{TermsHold, EndsWithItsTerm}
 use Rattle.derived_tokens.specs.DerivedTurns.{deriving_face, IsDerivingTurn}
 use Rattle.derived_tokens.specs.DerivedTurns as derived
@@ -84,10 +85,13 @@ module _ {Done : Type 0} (pairs : List Pair) (setup : Setup) (address : List ℕ
         out = are.out;
       }) ended
 
--- a service of the setup that a server has is one of the setup that it was made of
-pub deriving_service : {Done : Type 0} (pairs : List Pair) (setup own : Setup) (address : List ℕ) (n quota : ℕ) (before after : WorldState) (result : Result Done WorldFault)
-    → own ≡ setup → n ≤ 64 → quota ≤ 4294967295
+-- a service of a server's setup and pairs is one of those that it was made of
+pub deriving_service : {Done : Type 0} (pairs : List Pair) (setup edge : Setup) (server : DerivingSetup) (address : List ℕ) (n quota : ℕ) (before after : WorldState) (result : Result Done WorldFault)
+    → server ≡ record { setup = edge; pairs = pairs } → edge ≡ setup → n ≤ 64 → quota ≤ 4294967295
     → ((rules : Setup) (h : List GnapEntry) → Legal gnap rules h → length h ≤ 2 ^ 58 → WhatHolds rules h) → EndsWithItsTerm
-    → serving.IsService gnap own (IsDerivingSession pairs own) address n quota before after result → IsDerivingService pairs setup address n quota before after result
-deriving_service pairs setup own address n quota before after result is few most known ends service = derives pairs setup address n quota before after few most known ends result
-    (subst (λ (s : Setup). serving.IsService gnap s (IsDerivingSession pairs s) address n quota before after result) is service)
+    → serving.IsService gnap server.setup (IsDerivingSession server.pairs server.setup) address n quota before after result
+    → IsDerivingService pairs setup address n quota before after result
+deriving_service pairs setup edge server address n quota before after result made is few most known ends service =
+    derives pairs setup address n quota before after few most known ends result
+    (subst (λ (s : Setup). serving.IsService gnap s (IsDerivingSession pairs s) address n quota before after result) is
+    (subst (λ (d : DerivingSetup). serving.IsService gnap d.setup (IsDerivingSession d.pairs d.setup) address n quota before after result) made service))
