@@ -13,7 +13,7 @@ import time
 
 TOP = os.path.dirname(os.path.dirname(os.path.abspath(__file__)))
 BASE = "https://as.example"
-SECRETS = {"c1": b"secret-key-of-c1", "r1": b"secret-key-of-r1"}
+SECRETS = {"c1": b"secret-key-of-c1", "d1": b"secret-key-of-d1", "r1": b"secret-key-of-r1"}
 BEGIN = b'{"access_token":{"access":["photos"]},"client":"c1"}'
 
 
@@ -23,8 +23,11 @@ def text_of(secret):
 
 SETUP = json.dumps({"base": BASE, "front": "https://front.example", "keys": [
     {"id": "c1", "role": "client", "secret": text_of(SECRETS["c1"]), "auto": ["photos"], "ask": []},
+    {"id": "d1", "role": "client", "secret": text_of(SECRETS["d1"]), "auto": ["photos"], "ask": []},
     {"id": "r1", "role": "server", "secret": text_of(SECRETS["r1"]), "serves": ["photos"]},
 ]})
+# By d1 the resource server derives tokens, where `gnap as` is given this.
+PAIRS = json.dumps({"pairs": [{"client": "d1", "server": "r1"}]})
 
 
 def signed_request(method, path, key, body, value=None, created=None, nonce=None, base=BASE):
@@ -61,6 +64,12 @@ def fresh_nonce():
 def grant_request():
     """Another one each time, since the server takes a client's nonce once."""
     return signed_post("/gnap", "c1", BEGIN, nonce=fresh_nonce())
+
+
+def derivation(parent):
+    """A grant request for a token that is derived from another one."""
+    body = {"access_token": {"access": ["photos"]}, "client": "d1", "existing_access_token": parent}
+    return signed_post("/gnap", "d1", json.dumps(body).encode(), nonce=fresh_nonce())
 
 
 def introspection(value):
