@@ -158,8 +158,8 @@ def outside():
         yield {**plain, "name": "pairs: " + name, **change}
     yield derived("the door fails after one connection", [[PARENT], [derives(2_000, V(1))]], [1_000, 2_000], bad_accepts=[2])
     both = derived("two workers at one machine", [[b""]])
-    gears = [{"connections": [(PARENT + derives(2_000, V(9))).decode("latin-1")], "moments": [1_000, 2_000]},
-             {"connections": [derives(2_000, V(9)).decode("latin-1") * 3], "moments": [2_000], "draws": [[7]] * 9}]
+    gears = [{"connections": [(PARENT + derives(1_000, V(9))).decode("latin-1")], "moments": [1_000]},
+             {"connections": [derives(1_000, V(9)).decode("latin-1") * 3], "moments": [1_000], "draws": [[7]] * 9}]
     yield {**both, "words": ["as", "setup", "a", "2", "1", "pairs"], "gears": gears}
 
 
