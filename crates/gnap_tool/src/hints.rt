@@ -130,12 +130,14 @@ fn tell_no_setup<E: Sink>(err: &mut E, command: &Command, kind: ConfigKind) {
     let Some((front, file)) = config_of(command, kind) else {
         return;
     };
-    let back: &[u8] = match kind {
-        ConfigKind::Setup => b" is no setup: ",
-        ConfigKind::Configuration => b" is no configuration: ",
-        ConfigKind::Pairs => b" has no pairs of the setup: ",
-    };
-    tell(err, &[b"gnap: ", front.as_bytes(), file.as_slice(), back]);
+    tell(err, &[b"gnap: "]);
+    tell(err, &[front.as_bytes()]);
+    tell(err, &[file.as_slice()]);
+    match kind {
+        ConfigKind::Setup => tell(err, &[b" is no setup: "]),
+        ConfigKind::Configuration => tell(err, &[b" is no configuration: "]),
+        ConfigKind::Pairs => tell(err, &[b" has no pairs of the setup: "]),
+    }
 }
 
 // Why a text isn't one JSON object with whole numbers.

@@ -23,7 +23,7 @@ returns-in-Grants-clause-world g c =
 
 pub returns-in-Sets-clause-served : goal.returns-in-Sets-clause-served
 returns-in-Sets-clause-served g c out =
-    serves_as Sets _ c.in-Sets.is _ _ _ _ _ _ _ (refl, inr (c.serve_sets_at.result, c.ended_service.ensures, c.serve_sets_at.ensures.served))
+    serves_as Sets _ c.in-Sets.is _ _ _ _ _ _ _ (refl, inr (c.serve_sets_at.result, c.ended_service-in-Sets.ensures, c.serve_sets_at.ensures.served))
 
 pub returns-in-Sets-clause-world : goal.returns-in-Sets-clause-world
 returns-in-Sets-clause-world g c =
@@ -31,8 +31,8 @@ returns-in-Sets-clause-world g c =
     let before = g.W.World.state c.args.world.now in
     let after = g.W.World.state c.serve_sets_at.new.world in
     let U : Ended → Type 0 = λ ended. UsesWorld (Gears served.listen served.workers served.quota ∷ []) None before after ended in
-    service_used Sets _ c.in-Sets.is c.args.setup served before after c.ended_service.result
-    (subst U (sym c.ended_service.ensures)
+    service_used Sets _ c.in-Sets.is c.args.setup served before after c.ended_service-in-Sets.result
+    (subst U (sym c.ended_service-in-Sets.ensures)
     (sets_used c.args.setup served.listen served.workers served.quota before after c.serve_sets_at.result c.serve_sets_at.ensures.served))
 
 pub returns-in-Derivations-clause-served : goal.returns-in-Derivations-clause-served
@@ -41,4 +41,5 @@ returns-in-Derivations-clause-served g c out =
 
 pub returns-in-Derivations-clause-world : goal.returns-in-Derivations-clause-world
 returns-in-Derivations-clause-world g c =
-    service_used (Derivations c.in-Derivations.pairs) _ c.in-Derivations.is _ _ _ _ _ c.serve_deriving.ensures.world
+    service_used (Derivations c.in-Derivations.pairs) _ c.in-Derivations.is c.args.setup c.args.served.now (g.W.World.state c.args.world.now)
+    (g.W.World.state c.serve_deriving.new.world) c.serve_deriving.result c.serve_deriving.ensures.world
