@@ -23,7 +23,7 @@ MOST_PAIRS = 256
 
 
 def deriving(place):
-    return f"d{place}"
+    return f"p{place}"
 
 
 def setup():
