@@ -10,7 +10,8 @@ A replay of a grant, introspections, a rotation and a cancellation has to end wi
 `gnap as` with one worker the same is asked over HTTP, each request on a connection of its own. It may end with 6 before it listens. Else the refusal may
 show once, as a 503 in place of a reply, or as a connection that brings nothing; that request is sent again, and has to be answered as ever, or as one whose
 first entry stands (docs/HTTP.md). A grant request is sent again by the same bytes, and once more when it was answered: they act once. The requests behind it
-have to be answered as ever.
+have to be answered as ever. With PAIRS the same is asked of a grant request for a derived token: after a refusal at one of its two entries it is answered as ever
+when it comes again by the same bytes, or refused as one whose second entry stands; and one whose parent isn't live is denied.
 
 `gnap rs` keeps one reply, of a server that is played here. It is asked for a resource with a token, with the same again, with a wrong signature, with another
 token, with the first again, and with none. It may end with 6 before it listens. Else one request may be refused; it is sent again, and answered as ever. What
@@ -27,7 +28,7 @@ import sys
 import tempfile
 
 from cached_requests import Guarding, bound, bound_reply, playing
-from signed_http import SETUP, TOP, Served, first_reply, fresh_nonce, grant_request, signed_request
+from signed_http import PAIRS, SETUP, TOP, Served, derivation, first_reply, fresh_nonce, grant_request, signed_request
 
 SHIM = r"""
 #include <fcntl.h>
@@ -157,13 +158,13 @@ class Run:
             raise Difference(f"an introspection is answered {status}")
         return json.loads(text)["active"]
 
-    def granted(self):
+    def granted(self, new_request=grant_request):
         """A grant, by bytes that act once."""
-        request = grant_request()
+        request = new_request()
         before = self.refused
         status, text = self.answer(lambda: request, ["invalid_client"])
         if status == 401 and self.refused > before:
-            return self.granted()
+            return self.granted(new_request)
         if status != 200:
             raise Difference(f"a grant request is answered {status}")
         status, _ = self.answer(lambda: request, ["invalid_client"])
@@ -188,22 +189,33 @@ class Run:
         if not self.is_active(self.granted()["access_token"]["value"]):
             raise Difference("a later token isn't active")
 
+    def derive(self):
+        """A token that is derived from a live one is active; from a value that is none of a token nothing is derived."""
+        parent = self.granted()["access_token"]
+        derived = self.granted(lambda: derivation(parent["value"]))["access_token"]
+        if derived["expires_in"] > parent["expires_in"] or not self.is_active(derived["value"]):
+            raise Difference("a derived token isn't active, or lasts longer than its parent")
+        status, text = self.answer(lambda: derivation("x"), ["request_denied"])
+        if status != 400 or json.loads(text)["error"]["code"] != "request_denied":
+            raise Difference(f"a derivation from nothing is answered {status}")
 
-def served_runs(refusing):
+
+def served_runs(refusing, put_through, pairs=None):
+    name = "as" if pairs is None else "as with PAIRS"
     found, differences = collections.Counter(), []
     for number in range(1, MOST):
-        served = Served(1, CONNECTIONS, env=refusing.environment(number), stderr=subprocess.DEVNULL)
+        served = Served(1, CONNECTIONS, pairs=pairs, env=refusing.environment(number), stderr=subprocess.DEVNULL)
         run = Run(served)
         try:
-            run.put_through()
+            put_through(run)
             outcome = f"{run.refused} requests refused"
         except Difference as fault:
             outcome = "different"
-            differences.append(f"as {number}: {fault}")
+            differences.append(f"{name} {number}: {fault}")
         except (SystemExit, OSError):
             outcome = f"status {served.process.wait(10)}"
             if served.process.returncode != 6:
-                differences.append(f"as {number}: {outcome}")
+                differences.append(f"{name} {number}: {outcome}")
         # The connections that are left end the program.
         try:
             while run.connections < CONNECTIONS and served.process.poll() is None:
@@ -286,8 +298,8 @@ def main():
     differences = []
     with tempfile.TemporaryDirectory() as folder:
         refusing = Refusing(folder)
-        for name, (found, odd) in (("replay", replays(folder, program, refusing)), ("as", served_runs(refusing)),
-                                    ("rs", guarded_runs(refusing))):
+        for name, (found, odd) in (("replay", replays(folder, program, refusing)), ("as", served_runs(refusing, Run.put_through)),
+                                    ("as with PAIRS", served_runs(refusing, Run.derive, PAIRS)), ("rs", guarded_runs(refusing))):
             print(f"{name}: {sum(found.values())} refusals, {len(odd)} differences")
             for outcome, times in sorted(found.items()):
                 print(f"  {outcome}: {times}")

@@ -59,13 +59,15 @@ def fill(served, many):
                         raise SystemExit(f"not the reply to a poll: {status} {body!r}")
 
 
-def begin(served, many):
+def begin(served, many, request=grant_request):
+    """Sends so many grant requests, each once the reply to the one before is there, and gives the last reply's body."""
     with served.first_connection() as conn:
         for _ in range(many):
-            conn.sendall(grant_request())
+            conn.sendall(request())
             for status, body in replies(conn, 1):
                 if status != 200:
                     raise SystemExit(f"not the reply to a grant request: {status} {body!r}")
+    return body
 
 
 def counted(folder, process, number):
@@ -80,24 +82,32 @@ def counted(folder, process, number):
     raise SystemExit("callgrind dumped no counts: " + " ".join(os.listdir(folder)))
 
 
+def cost_of(folder, served, request=grant_request):
+    """A grant request's instructions, of a server under callgrind that listens."""
+    begin(served, 1, request)
+    subprocess.run(["callgrind_control", "-i", "on", str(served.process.pid)], check=True, capture_output=True)
+    counts = []
+    for number, times in enumerate((FEW, MANY), 1):
+        begin(served, times, request)
+        counts.append(counted(folder, served.process.pid, number))
+    return (counts[1] - counts[0]) / (MANY - FEW)
+
+
+def under_callgrind(folder):
+    return ["valgrind", "--tool=callgrind", "--instr-atstart=no", f"--callgrind-out-file={folder}/counts", "-q"]
+
+
 def measured(many):
     with tempfile.TemporaryDirectory() as folder:
-        under = ["valgrind", "--tool=callgrind", "--instr-atstart=no", f"--callgrind-out-file={folder}/counts", "-q"]
-        served = Served(1, 1_000_000, under=under, stderr=subprocess.DEVNULL)
+        served = Served(1, 1_000_000, under=under_callgrind(folder), stderr=subprocess.DEVNULL)
         try:
             start = time.time()
             fill(served, many)
             speed = many / max(time.time() - start, 0.001)
             # It listens by now, so callgrind hears what it is told.
-            begin(served, 1)
-            subprocess.run(["callgrind_control", "-i", "on", str(served.process.pid)], check=True, capture_output=True)
-            counts = []
-            for number, times in enumerate((FEW, MANY), 1):
-                begin(served, times)
-                counts.append(counted(folder, served.process.pid, number))
+            return cost_of(folder, served), speed
         finally:
             served.stop()
-        return (counts[1] - counts[0]) / (MANY - FEW), speed
 
 
 def main():

@@ -13,7 +13,7 @@ import time
 
 TOP = os.path.dirname(os.path.dirname(os.path.abspath(__file__)))
 BASE = "https://as.example"
-SECRETS = {"c1": b"secret-key-of-c1", "r1": b"secret-key-of-r1"}
+SECRETS = {"c1": b"secret-key-of-c1", "d1": b"secret-key-of-d1", "r1": b"secret-key-of-r1"}
 BEGIN = b'{"access_token":{"access":["photos"]},"client":"c1"}'
 
 
@@ -23,8 +23,11 @@ def text_of(secret):
 
 SETUP = json.dumps({"base": BASE, "front": "https://front.example", "keys": [
     {"id": "c1", "role": "client", "secret": text_of(SECRETS["c1"]), "auto": ["photos"], "ask": []},
+    {"id": "d1", "role": "client", "secret": text_of(SECRETS["d1"]), "auto": ["photos"], "ask": []},
     {"id": "r1", "role": "server", "secret": text_of(SECRETS["r1"]), "serves": ["photos"]},
 ]})
+# By d1 the resource server derives tokens, where `gnap as` is given this.
+PAIRS = json.dumps({"pairs": [{"client": "d1", "server": "r1"}]})
 
 
 def signed_request(method, path, key, body, value=None, created=None, nonce=None, base=BASE):
@@ -63,6 +66,12 @@ def grant_request():
     return signed_post("/gnap", "c1", BEGIN, nonce=fresh_nonce())
 
 
+def derivation(parent):
+    """A grant request for a token that is derived from another one."""
+    body = {"access_token": {"access": ["photos"]}, "client": "d1", "existing_access_token": parent}
+    return signed_post("/gnap", "d1", json.dumps(body).encode(), nonce=fresh_nonce())
+
+
 def introspection(value):
     return signed_post("/introspect", "r1", json.dumps({"access_token": value, "resource_server": "r1"}).encode())
 
@@ -84,20 +93,24 @@ def first_reply(held):
 
 
 class Served:
-    """`gnap as`, or another command with its words, over the setup at a free port of this machine, behind the words of a program that runs it. The options are
-    those of `subprocess.Popen`."""
+    """`gnap as`, or another command with its words, over a setup at a free port of this machine, behind the words of a program that runs it; with pairs where
+    their text is given. The options are those of `subprocess.Popen`."""
 
-    def __init__(self, workers, quota, under=(), command="as", **options):
+    def __init__(self, workers, quota, under=(), command="as", setup=SETUP, pairs=None, **options):
         self.folder = tempfile.TemporaryDirectory()
-        config = os.path.join(self.folder.name, "setup.json")
-        with open(config, "w") as file:
-            file.write(SETUP)
+        config, paired = self.file("setup.json", setup), [] if pairs is None else [self.file("pairs.json", pairs)]
         with socket.socket() as probe:
             probe.bind(("127.0.0.1", 0))
             self.address = probe.getsockname()
         listen = f"{self.address[0]}:{self.address[1]}"
         program = os.environ.get("GNAP", os.path.join(TOP, "gnap"))
-        self.process = subprocess.Popen([*under, program, command, config, listen, str(workers), str(quota)], **options)
+        self.process = subprocess.Popen([*under, program, command, config, listen, str(workers), str(quota), *paired], **options)
+
+    def file(self, name, text):
+        path = os.path.join(self.folder.name, name)
+        with open(path, "w") as file:
+            file.write(text)
+        return path
 
     def connect(self):
         conn = socket.create_connection(self.address, timeout=30)

@@ -24,15 +24,17 @@ from json_schemas import Schemas
 
 TOP = Path(__file__).resolve().parent.parent
 BASE, FRONT = "https://as.example", "https://front.example"
-SECRETS = {name: f"secret-key-of-{name}".encode() for name in ("c1", "c2", "r1", "f1")}
+SECRETS = {name: f"secret-key-of-{name}".encode() for name in ("c1", "c2", "d1", "r1", "f1")}
 FULL = {"type": "calendar", "actions": ["read", "write"], "locations": ["https://rs.example/calendar"], "privileges": ["owner"], "since": 2024}
 RIGHTS = {"client": {"auto": ["photos"], "ask": ["mail", FULL]}, "server": {"serves": ["photos", "calendar"]}, "front": {}}
-ROLES = {"c1": "client", "c2": "client", "r1": "server", "f1": "front"}
+ROLES = {"c1": "client", "c2": "client", "d1": "client", "r1": "server", "f1": "front"}
 SETUP = {
     "base": BASE,
     "front": FRONT,
     "keys": [{"id": name, "role": role, "secret": base64.b64encode(SECRETS[name]).decode(), **RIGHTS[role]} for name, role in ROLES.items()],
 }
+# The client key of a resource server that derives tokens.
+PAIRS = {"pairs": [{"client": "d1", "server": "r1"}]}
 PHOTOS, MAIL = {"access": ["photos"]}, {"access": ["mail"]}
 AT_ONCE = {"access_token": PHOTOS, "client": "c1"}
 NOTHING = "A" * 32
@@ -70,17 +72,19 @@ class Servers:
     """`gnap as` and `gnap sets` as child processes, each at a port of 127.0.0.1."""
 
     def __init__(self, folder: str):
-        setup = Path(folder, "setup.json")
+        setup, pairs = Path(folder, "setup.json"), Path(folder, "pairs.json")
         setup.write_text(json.dumps(SETUP))
+        pairs.write_text(json.dumps(PAIRS))
         program = os.environ.get("GNAP", str(TOP / "gnap"))
         subprocess.run([program, "replay", str(TOP / "examples" / "first.jsonl")], stdout=subprocess.DEVNULL, check=True)
         self._processes: list[subprocess.Popen] = []
-        self._ports = {command: self._start(program, command, str(setup)) for command in ("as", "sets")}
+        more = {"as": [str(pairs)], "sets": []}
+        self._ports = {command: self._start(program, command, str(setup), words) for command, words in more.items()}
 
-    def _start(self, program: str, command: str, setup: str) -> int:
+    def _start(self, program: str, command: str, setup: str, more: list[str]) -> int:
         for _ in range(10):
             port = random.randrange(20000, 32000)
-            process = subprocess.Popen([program, command, setup, f"127.0.0.1:{port}", "2", "1000"], stderr=subprocess.DEVNULL)
+            process = subprocess.Popen([program, command, setup, f"127.0.0.1:{port}", "2", "1000", *more], stderr=subprocess.DEVNULL)
             time.sleep(0.3)
             if process.poll() is None:
                 self._processes.append(process)
@@ -232,6 +236,7 @@ def requests_and_tokens(checked: Checked) -> None:
     checked.refuse("POST", "/gnap", malformed_requests())
     value, manage = begun.body["access_token"]["value"], begun.body["access_token"]["manage"]["access_token"]["value"]
     introspections(checked, value, several.body["access_token"][1]["value"])
+    derivations(checked, value)
     checked.call("POST", "/token", {"key": "c2"}, manage, expect="invalid_client")
     checked.call("POST", "/token", {"key": "c2"}, manage, expect="invalid_client", again="r1")
     checked.call("POST", "/token", {"key": "r1"}, manage, expect="invalid_rotation", again="r1")
@@ -281,6 +286,19 @@ def introspections(checked: Checked, bound: str, bearer: str) -> None:
     checked.call("POST", "/introspect", asked, key="c1", expect="invalid_resource_server")
     malformed = [{}, b"", {"access_token": bound}, {**asked, "proof": "mtls"}, {**asked, "access": []}, {**asked, "access_token": 1}]
     checked.refuse("POST", "/introspect", malformed, key="r1")
+
+
+def derivations(checked: Checked, parent: str) -> None:
+    """A resource server asks for a token of its own for one that was presented to it."""
+    body = {"access_token": PHOTOS, "client": "d1"}
+    checked.call("POST", "/gnap", body, key="d1", expect="invalid_request")
+    checked.refuse("POST", "/gnap", [{**body, "existing_access_token": item} for item in (1, None, "x" * 65)], key="d1")
+    checked.call("POST", "/gnap", {**body, "existing_access_token": NOTHING}, key="d1", expect="request_denied")
+    derived = checked.call("POST", "/gnap", {**body, "existing_access_token": parent}, key="d1")
+    token = derived.body["access_token"]["value"]
+    ends = [checked.call("POST", "/introspect", {"access_token": asked, "resource_server": "r1"}, key="r1").body["exp"] for asked in (token, parent)]
+    if ends[0] != ends[1]:
+        raise Wrong(f"a derived token ends at {ends[0]}, and its parent at {ends[1]}")
 
 
 def resource_sets(checked: Checked) -> None:

@@ -70,6 +70,9 @@ class Setups:
         self.new_key = {"id": "print-shop-2", "secret": new_secret()}
         self.server = {"id": "shelf", "secret": new_secret()}
         self.consent = {"id": "consent", "secret": new_secret()}
+        # Another resource server, and the key by which the first one is a client of it.
+        self.store = {"id": "store", "secret": new_secret()}
+        self.at_store = {"id": "shelf-at-store", "secret": new_secret()}
         self.read = {"type": "calendar", "actions": ["read"], "locations": [f"{self.base['rs']}/calendar"]}
         self.change = {**self.read, "actions": ["read", "write"]}
 
@@ -79,9 +82,15 @@ class Setups:
             {**self.client, "role": "client", "auto": [], "ask": ["photos", "mail", self.change]},
             {**self.new_key, "role": "client", "auto": [], "ask": []},
             {**self.server, "role": "server", "serves": ["photos", "mail", "calendar"]},
+            {**self.at_store, "role": "client", "auto": ["originals"], "ask": []},
+            {**self.store, "role": "server", "serves": ["originals"]},
             {**self.consent, "role": "front"},
         ]
         return {"base": self.base["as"], "front": self.base["front"], "keys": keys}
+
+    def pairs(self) -> dict:
+        """Which client key belongs to which resource server, that of `gnap as`."""
+        return {"pairs": [{"client": self.at_store["id"], "server": self.server["id"]}]}
 
     def resource_server(self) -> dict:
         """That of `gnap rs`."""
@@ -120,6 +129,7 @@ class Setups:
         """Each setup, by the name of its file."""
         return {
             "as.json": self.authorization_server(),
+            "pairs.json": self.pairs(),
             "rs.json": self.resource_server(),
             "front.json": self.front(),
             "client.json": self.client_of_both(),

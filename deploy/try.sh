@@ -107,7 +107,7 @@ openssl req -x509 -newkey ec -pkeyopt ec_paramgen_curve:P-256 -noenc -days 7 -su
     -addext 'subjectAltName=DNS:as.localhost,DNS:rs.localhost,DNS:front.localhost' \
     -keyout "$work/key.pem" -out "$work/certificate.pem" 2>"$work/logs/openssl.log"
 
-start as "$gnap" as "$work/as.json" "127.0.0.1:$AS" "$WORKERS" "$QUOTA"
+start as "$gnap" as "$work/as.json" "127.0.0.1:$AS" "$WORKERS" "$QUOTA" "$work/pairs.json"
 listens as "$AS"
 start sets "$gnap" sets "$work/as.json" "127.0.0.1:$SETS" "$SET_WORKERS" "$QUOTA"
 listens sets "$SETS"

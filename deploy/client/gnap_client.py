@@ -114,6 +114,13 @@ class GnapClient:
         self._take(grant, said)
         return grant
 
+    def derive(self, wanted: object, parent: Token) -> Grant:
+        """Asks for tokens as a resource server to which a token was shown, to call another one with them (RFC 9767, section 4)."""
+        body = {"access_token": wanted, "client": self._signer.key_id, "existing_access_token": parent.value}
+        grant = Grant(uri="", value="", wait=0)
+        self._take(grant, self._call("POST", self.endpoint, body).body)
+        return grant
+
     def _take(self, grant: Grant, said: dict) -> None:
         """Takes over what a reply says of a grant."""
         onward = said["continue"]

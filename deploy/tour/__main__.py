@@ -9,7 +9,7 @@ import sys
 import time
 from pathlib import Path
 
-from tour import elsewhere, guards, visits
+from tour import deriving, elsewhere, guards, visits
 from tour.browser import Browser, NotThere
 from tour.checks import Failed, Tour, start_tour
 
@@ -28,6 +28,7 @@ def go_around(tour: Tour, quick: bool) -> None:
         visits.taken_back,
         visits.somebody_else,
         visits.moved_to_a_new_key,
+        deriving.derived_token,
         guards.hostile_texts,
         guards.forms_and_cookies,
         guards.other_site,

@@ -68,7 +68,7 @@ class Tour:
         self.secrets.add(grant.value)
         for token in grant.tokens:
             self.secrets |= {token.value, token.manage_value}
-        if "redirect" in grant.interact:
+        if grant.interact and "redirect" in grant.interact:
             self.secrets.add(handle_of(grant))
 
     def fetch(self, path: str, form: str | None = None, cookie: str = "") -> Reply:

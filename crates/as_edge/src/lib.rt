@@ -1,8 +1,9 @@
 //! The authorization server over HTTP (RFC 9635, RFC 9767).
 //!
-//! `AuthorizationServer` is a server and a front in the sense of `serving`, for the grant machine. So what goes out on a connection is, for each of its
-//! requests in order, the reply to it (`specs/EdgeFace.antt`): what needs no call is answered at once (`specs/DirectReplies.antt`), and for the others
-//! the reply of an entry in the machine's one history is printed. It asks for no call by itself, and keeps nothing between two requests.
+//! `AuthorizationServer` is a server in the sense of `serving`, for the grant machine. By the front of `serving` and the reader of `http_serving` it is served
+//! over HTTP. So what goes out on a connection is, for each of its requests in order, the reply to it (`specs/EdgeFace.antt`): what needs no call is answered
+//! at once (`specs/DirectReplies.antt`), and for the others the reply of an entry in the machine's one history is printed. It asks for no call by itself, and
+//! keeps nothing between two requests.
 #![tactic(auto)]
 
 pub mod authorization_server;

@@ -10,6 +10,8 @@ use bytes_and_lists::memory::Duplicate;
 use gnap_io::world::{World, WorldFault};
 use gnap_model::objects::Setup;
 use grant_machine::laws::what_holds;
+use http_serving::HttpReader;
+use serving::server_front::ServerFront;
 use serving::service::serve_front_at;
 use std::alloc::Global;
 use std::sync::Wait;
@@ -42,8 +44,11 @@ pub fn serve_at<R: Threads + Wait + Sync, W: World>(
     let Ok(edge) = Edge::new(alloc, setup) else {
         return Err(WorldFault::OutOfMemory);
     };
-    let server = AuthorizationServer { edge };
+    let front = ServerFront {
+        reader: HttpReader,
+        server: AuthorizationServer { edge },
+    };
     let core = TableCore::new(alloc, rules);
     what_holds();
-    serve_front_at(rt, alloc, world, core, &server, address, workers, quota)
+    serve_front_at(rt, alloc, world, core, &front, address, workers, quota)
 }

@@ -15,7 +15,9 @@ use bytes_and_lists::memory::{Duplicate, Mem};
 use gnap_io::memory_conn::MemConn;
 use gnap_io::memory_gear::MemGear;
 use gnap_objects::read_setup;
+use http_serving::{HttpFront, HttpReader};
 use serving::front::Front;
+use serving::server_front::ServerFront;
 use std::alloc::Global;
 use std::io;
 use std::rt::Clock;
@@ -47,13 +49,16 @@ fn gear(alloc: Global) -> Result<MemGear, Mem> {
     MemGear::new(Vec::new(alloc), moments, Vec::new(alloc), Vec::new(alloc))
 }
 
-// The server of a setup.
-fn server(alloc: Global, setup: &str) -> Result<AuthorizationServer, Mem> {
+// The server of a setup, over HTTP.
+fn front(alloc: Global, setup: &str) -> Result<HttpFront<AuthorizationServer>, Mem> {
     let Ok(setup) = read_setup(alloc, setup.as_bytes()) else {
         return Err(Mem);
     };
     match Edge::new(alloc, setup) {
-        Ok(edge) => Ok(AuthorizationServer { edge }),
+        Ok(edge) => Ok(ServerFront {
+            reader: HttpReader,
+            server: AuthorizationServer { edge },
+        }),
         Err((_setup, Mem)) => Err(Mem),
     }
 }
@@ -75,7 +80,7 @@ fn last_replies(written: &[u8], reply: &[u8], most: u64) -> u64 {
 // The server, what it is asked, and the reply that is wanted.
 #[derive(Drop)]
 struct Introspections {
-    server: AuthorizationServer,
+    front: HttpFront<AuthorizationServer>,
     grant: Bytes,
     introspection: Bytes,
     reply: Bytes,
@@ -91,7 +96,7 @@ impl Introspections {
         reply: &Bytes,
     ) -> Result<Introspections, Mem> {
         Ok(Introspections {
-            server: server(alloc, setup)?,
+            front: front(alloc, setup)?,
             grant: grant.copy()?,
             introspection: introspection.copy()?,
             reply: reply.copy()?,
@@ -100,10 +105,10 @@ impl Introspections {
 
     // What a connection is answered, with a desk of its own.
     fn served(&self, alloc: Global, requests: Bytes) -> Result<MemConn, Mem> {
-        let mut desk = table_desk(alloc, self.server.edge.setup().copy()?);
+        let mut desk = table_desk(alloc, self.front.server.edge.setup().copy()?);
         let mut conn = conn(alloc, requests)?;
         let mut gear = gear(alloc)?;
-        self.server.serve(alloc, &mut desk, &mut conn, &mut gear);
+        self.front.serve(alloc, &mut desk, &mut conn, &mut gear);
         Ok(conn)
     }
 

@@ -13,7 +13,7 @@ mod printed_text;
 mod whole_input;
 
 pub use configs::{ConfigReader, SETUP_LIMIT, SetupReader, config_in};
-pub use ended::{Ended, WrongSetup};
+pub use ended::{ConfigKind, Ended, WrongSetup};
 pub use line_end::LineEnd;
 pub use line_reader::{LineReader, Refill, emptied};
 pub use printed_text::{After, print_text, say};

@@ -10,7 +10,9 @@ ghost use Rattle.call_replay.specs.Replays.{ReplaysFile};
 use bytes_and_lists::bytes::Bytes;
 use bytes_and_lists::memory::Duplicate;
 use call_replay::replay_lines;
-use command_inputs::{Ended, LineEnd, LineReader, SETUP_LIMIT, SetupReader, WrongSetup, config_in};
+use command_inputs::{
+    ConfigKind, Ended, LineEnd, LineReader, SETUP_LIMIT, SetupReader, WrongSetup, config_in,
+};
 use gnap_io::device::{Sink, Source};
 use grant_machine::laws::what_holds;
 use std::alloc::Global;
@@ -33,7 +35,7 @@ fn replay_after<S: Source, O: Sink>(
     ensures writes { CountsWrites result (O.faults out.old) (O.faults out.new) }
     ensures took { EndsAt result reader.new.taken (S.told source.new) }
 {
-    let setup = match config_in::<SetupReader>(alloc, first) {
+    let setup = match config_in(alloc, &SetupReader, first) {
         Ok(setup) => setup,
         Err(ended) => return ended,
     };
@@ -48,7 +50,7 @@ fn replay_after<S: Source, O: Sink>(
 fn only_setup(alloc: Global, first: &Bytes) -> Ended
     ensures { IsSetupAlone result (setup_in first.now) }
 {
-    match config_in::<SetupReader>(alloc, first) {
+    match config_in(alloc, &SetupReader, first) {
         Ok(_) => Ended::Done,
         Err(ended) => ended,
     }
@@ -70,7 +72,7 @@ pub fn replay<S: Source, O: Sink>(alloc: Global, source: &mut S, out: &mut O) ->
     match reader.next_line(source, &mut first, SETUP_LIMIT, false) {
         LineEnd::Whole => replay_after(alloc, &first, &mut reader, source, out),
         LineEnd::Last => only_setup(alloc, &first),
-        LineEnd::Long => Ended::NoSetup(WrongSetup::TooLong),
+        LineEnd::Long => Ended::NoSetup(WrongSetup::TooLong(ConfigKind::Setup)),
         LineEnd::Full => Ended::TooLong,
         LineEnd::Failed => Ended::Failed,
         LineEnd::Memory => Ended::Memory,

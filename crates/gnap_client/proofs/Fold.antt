@@ -1,23 +1,18 @@
 -- What a client holds is the fold of the replies that it took.
-use Rattle.std.proofs.Common.{◌≡◌, ◌∙◌, ℕ, List, [], ◌∷◌, ◌++◌, Bool, true, false, refl, sym, ap, append-nil, subst}
-use Rattle.std.specs.Prelude.{fold, if◌then◌else◌, Option, Some, None, Result, Ok, Err}
+use Rattle.std.proofs.Common.{◌≡◌, ◌∙◌, ℕ, List, [], ◌∷◌, ◌++◌, sym, ap, append-nil, subst}
+use Rattle.std.specs.Prelude.{Result, Ok, Err}
 use Rattle.std.proofs.lemmas.List.Sums.{fold-append}
-use Rattle.reply_readers.specs.declared.grant_reply.GrantReply.{GrantReply}
-use Rattle.reply_readers.specs.declared.grant_reply.GrantReply.TheVariants as replies
-use Rattle.gnap_client.specs.declared.calls.DueRequest.{DueRequest}
 use Rattle.gnap_client.specs.declared.config.ClientConfig.{ClientConfig}
 use Rattle.gnap_client.specs.declared.client.Asked.{Asked}
 use Rattle.gnap_client.specs.declared.client.Received.{Received}
 use Rattle.gnap_client.specs.declared.client.Took.{Took}
 use Rattle.gnap_client.specs.declared.client.ReadReply.{ReadReply}
-use Rattle.gnap_client.specs.declared.client.ReadReply.TheVariants.{Given, Resource}
 use Rattle.gnap_client.specs.declared.client.ClientFault.{ClientFault}
 use Rattle.gnap_client.specs.declared.client.ClientFault.TheVariants as faults
 use Rattle.gnap_client.specs.declared.client.Client.{Client}
-use Rattle.gnap_client.specs.Received.{nothing_received, is_end, after_reply, after_read, received_after, ClientFits}
-use Rattle.gnap_client.specs.Calls.{HasAsked}
+use Rattle.gnap_client.specs.Received.{nothing_received, after_read, ClientFits}
 use Rattle.gnap_client.specs.Taking.{Takes, HasTaken}
-use Rattle.gnap_client.specs.Laws.{CallsFit, RepliesFit, IsUntaken, TakesMore, one, none, door_in, newest, DoorIsLast}
+use Rattle.gnap_client.specs.Laws.{CallsFit, RepliesFit, IsUntaken, TakesMore, one, none}
 
 -- a client that holds the same
 kept : (config : ClientConfig) (taken : List (Asked × ReadReply)) (old new : Client) → ClientFits config taken old
@@ -71,27 +66,3 @@ by_answer config taken old new bytes (Err faults.LinkFault) fits t = absurd t
 pub replies_fit_law : RepliesFit
 unfolding More
 replies_fit_law config taken old new bytes result fits t = by_answer config taken old new bytes result fits t
-
--- ---- the door
-
-ended : (b : Bool) (x y : Received) → x.door ≡ y.door → (if b then x else y).door ≡ y.door
-ended true x y e = e
-ended false x y e = refl
-
-door_after : (received : Received) (asked : Asked) (reading : ReadReply) → (after_read received (asked, reading)).door ≡ newest received.door (asked, reading)
-unfolding after_reply
-door_after received asked (Given (replies.Granted door tokens subject)) = refl
-door_after received asked (Given (replies.Pending door interaction)) = refl
-door_after received asked (Given (replies.Continuing door)) = refl
-door_after received asked (Given (replies.Rotated token)) = refl
-door_after received asked (Given replies.Done) = refl
-door_after received asked (Given (replies.Refused code)) = ended (is_end code) _ received refl
-door_after received asked (Resource status body) = refl
-
-door_from : (received : Received) (taken : List (Asked × ReadReply)) → (fold after_read received taken).door ≡ fold newest received.door taken
-door_from received [] = refl
-door_from received ((asked, reading) ∷ taken) =
-    door_from (after_read received (asked, reading)) taken ∙ ap (λ (d : Option (List ℕ)). fold newest d taken) (door_after received asked reading)
-
-pub door_is_last_law : DoorIsLast
-door_is_last_law taken = door_from nothing_received taken

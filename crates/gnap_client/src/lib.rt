@@ -17,3 +17,4 @@ pub use calls::DueRequest;
 pub use client::{Asked, Client, ClientFault, ReadReply, Received, State, Took};
 pub use config::ClientConfig;
 pub use config_reading::read_client_config;
+pub use reply_readers::Interaction;

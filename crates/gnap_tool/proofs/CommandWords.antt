@@ -1,12 +1,17 @@
 -- Words that aren't as many as a command takes, and words that are.
 use Rattle.std.proofs.Common.{◌≡◌, ℕ, List, [], ◌∷◌, length, Bool, true, false, Option, Some, None, Result, ◌∙◌, refl, ap, sym, subst}
-use Rattle.std.specs.Prelude.{◌==◌, codes, if◌then◌else◌}
+use Rattle.std.specs.Prelude.{◌==◌, codes, option_map, if◌then◌else◌}
 use Rattle.std.specs.Option.{option_or}
 use Rattle.std.specs.Str.{bytes_eq}
 use Rattle.command_words.specs.Positionals.{exactly}
 use Rattle.gnap_tool.specs.declared.command.Command.{Command}
+use Rattle.gnap_tool.specs.declared.command.Command.TheVariants.{Serve}
+use Rattle.gnap_tool.specs.declared.command.Service.{Service}
+use Rattle.gnap_tool.specs.declared.command.Service.TheVariants.{Grants, Derivations, Sets}
+use Rattle.gnap_tool.specs.declared.command.ServedSetup.{ServedSetup}
 use Rattle.gnap_tool.specs.declared.wrong_words.WrongWords.{WrongWords}
-use Rattle.gnap_tool.specs.Commands.{AreRead, replay_of, field_of, with_three, with_four, with_five, sign_words, marked_sign_words, sign_of, verify_words, as_words, sets_words, rs_words, cached_rs_words, rs_of, client_words, hash_of, load_words, counts_of, count_among, command_named}
+use Rattle.gnap_tool.specs.declared.wrong_words.WrongWords.TheVariants.{NoCommand, Count, Word, OutOfMemory}
+use Rattle.gnap_tool.specs.Commands.{AreRead, AreWrong, replay_of, field_of, with_three, with_four, with_five, sign_words, marked_sign_words, sign_of, verify_words, is_argument, served_setup, service_words, deriving_words, as_of, rs_words, cached_rs_words, rs_of, client_words, hash_of, load_words, counts_of, count_among, command_named}
 
 no_replay : (words : List (List ℕ)) → exactly 1 words ≡ None → replay_of words ≡ None
 no_replay [] is = refl
@@ -109,6 +114,42 @@ module _ (five : List ℕ → List ℕ → List ℕ → List ℕ → List ℕ �
       → IsMiscount least most words → either words ≡ None
   either_miscount least most words is none = neither words (same_counts 4 5 least most words is none)
 
+-- words that are wrong for a reading are wrong for what is made of it
+pub still_wrong : {A B : Type 0} (make : Option A → Option B) → make None ≡ None → (fault : WrongWords) (words : List (List ℕ)) (reading : Option A)
+    → AreWrong fault words reading → AreWrong fault words (make reading)
+still_wrong make none OutOfMemory words reading wrong = tt
+still_wrong make none NoCommand words reading wrong = ap make wrong ∙ none
+still_wrong make none Count words reading wrong = ap make wrong ∙ none
+still_wrong make none (Word place form) words reading wrong = (ap make wrong.0 ∙ none, wrong.1)
+
+same_none : {A : Type 0} (b : Bool) → ◌≡◌ {A = Option A} (if b then None else None) None
+same_none true = refl
+same_none false = refl
+
+-- four words of which this is served
+module _ (service : Service) (words : List (List ℕ)) (a b c d : List ℕ) (are : words ≡ a ∷ b ∷ c ∷ d ∷ []) where
+  pub service_wrong : (fault : WrongWords) → AreWrong fault (a ∷ b ∷ c ∷ d ∷ []) (served_setup a b c d) → AreWrong fault words (with_four (service_words service) words)
+  service_wrong fault wrong = subst (λ ws. AreWrong fault ws (with_four (service_words service) ws)) (sym are)
+      (still_wrong (option_map (Serve service)) refl fault (a ∷ b ∷ c ∷ d ∷ []) (served_setup a b c d) wrong)
+
+  pub service_right : (served : ServedSetup) → served_setup a b c d ≡ Some served → with_four (service_words service) words ≡ Some (Serve service served)
+  service_right served is = ap (with_four (service_words service)) are ∙ ap (option_map (Serve service)) is
+
+-- and five, of which the last is a file of pairs
+module _ (words : List (List ℕ)) (a b c d e : List ℕ) (are : words ≡ a ∷ b ∷ c ∷ d ∷ e ∷ []) where
+  abbrev with_pairs : Option ServedSetup → Option Command
+  with_pairs served = if is_argument e then option_map (Serve (Derivations e)) served else None
+
+  pub deriving_wrong : (fault : WrongWords) → AreWrong fault (a ∷ b ∷ c ∷ d ∷ e ∷ []) (served_setup a b c d) → AreWrong fault words (with_five deriving_words words)
+  deriving_wrong fault wrong = subst (λ ws. AreWrong fault ws (with_five deriving_words ws)) (sym are)
+      (still_wrong with_pairs (same_none (is_argument e)) fault (a ∷ b ∷ c ∷ d ∷ e ∷ []) (served_setup a b c d) wrong)
+
+  pub deriving_right : (served : ServedSetup) → served_setup a b c d ≡ Some served → is_argument e ≡ true
+      → with_five deriving_words words ≡ Some (Serve (Derivations e) served)
+  deriving_right served is argument =
+      ap (with_five deriving_words) are ∙ ap with_pairs is
+      ∙ ap (λ b. if b then Some (Serve (Derivations e) served) else None) argument
+
 -- what five words are read as, and what others are
 pub of_five : (result : Result Command WrongWords) (words : List (List ℕ)) (a b c d e : List ℕ) → words ≡ a ∷ b ∷ c ∷ d ∷ e ∷ []
     → AreRead result words (with_five marked_sign_words words) → AreRead result words (sign_of words)
@@ -119,7 +160,17 @@ pub of_four : (result : Result Command WrongWords) (words : List (List ℕ))
     → AreRead result words (with_four sign_words words) → AreRead result words (sign_of words)
 of_four = by_four marked_sign_words sign_words
 
--- the same of a resource server
+-- the same of an authorization server
+pub as_of_five : (result : Result Command WrongWords) (words : List (List ℕ)) (a b c d e : List ℕ) → words ≡ a ∷ b ∷ c ∷ d ∷ e ∷ []
+    → AreRead result words (with_five deriving_words words) → AreRead result words (as_of words)
+as_of_five = by_five deriving_words (service_words Grants)
+
+pub as_of_four : (result : Result Command WrongWords) (words : List (List ℕ))
+    → ((f : List ℕ → List ℕ → List ℕ → List ℕ → List ℕ → Option Command) → with_five f words ≡ None)
+    → AreRead result words (with_four (service_words Grants) words) → AreRead result words (as_of words)
+as_of_four = by_four deriving_words (service_words Grants)
+
+-- and of a resource server
 pub rs_of_five : (result : Result Command WrongWords) (words : List (List ℕ)) (a b c d e : List ℕ) → words ≡ a ∷ b ∷ c ∷ d ∷ e ∷ []
     → AreRead result words (with_five cached_rs_words words) → AreRead result words (rs_of words)
 rs_of_five = by_five cached_rs_words rs_words
@@ -132,13 +183,13 @@ rs_of_four = by_four cached_rs_words rs_words
 -- how many words there have to be, and what they are read as, by whether the name is each of those
 abbrev number_by : (a b c d e f g h i j : Bool) → Option (ℕ × ℕ)
 number_by a b c d e f g h i j =
-    if a then Some (1, 1) else if b then Some (2, 2) else if c then Some (4, 5) else if d then Some (3, 3) else if e then Some (4, 4)
+    if a then Some (1, 1) else if b then Some (2, 2) else if c then Some (4, 5) else if d then Some (3, 3) else if e then Some (4, 5)
     else if f then Some (4, 4) else if g then Some (4, 5) else if h then Some (3, 3) else if i then Some (5, 5) else if j then Some (3, 3) else None
 
 abbrev reading_by : (a b c d e f g h i j : Bool) → List (List ℕ) → Option Command
 reading_by a b c d e f g h i j words =
     if a then replay_of words else if b then field_of words else if c then sign_of words else if d then with_three verify_words words
-    else if e then with_four as_words words else if f then with_four sets_words words else if g then rs_of words else if h then with_three client_words words
+    else if e then as_of words else if f then with_four (service_words Sets) words else if g then rs_of words else if h then with_three client_words words
     else if i then hash_of words else if j then with_three load_words words else None
 
 counted : (a b c d e f g h i j : Bool) (least most : ℕ) (words : List (List ℕ))
@@ -149,8 +200,8 @@ counted true b c d e f g h i j least most words is none = no_replay words (at 1 
 counted false true c d e f g h i j least most words is none = no_field words (at 2 least most words is none)
 counted false false true d e f g h i j least most words is none = either_miscount marked_sign_words sign_words least most words is none
 counted false false false true e f g h i j least most words is none = not_three verify_words words (at 3 least most words is none)
-counted false false false false true f g h i j least most words is none = not_four as_words words (at 4 least most words is none)
-counted false false false false false true g h i j least most words is none = not_four sets_words words (at 4 least most words is none)
+counted false false false false true f g h i j least most words is none = either_miscount deriving_words (service_words Grants) least most words is none
+counted false false false false false true g h i j least most words is none = not_four (service_words Sets) words (at 4 least most words is none)
 counted false false false false false false true h i j least most words is none = either_miscount cached_rs_words rs_words least most words is none
 counted false false false false false false false true i j least most words is none = not_three client_words words (at 3 least most words is none)
 counted false false false false false false false false true j least most words is none = no_hash words (at 5 least most words is none)

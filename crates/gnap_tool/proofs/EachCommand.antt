@@ -7,7 +7,7 @@ use Rattle.gnap_io.proofs.Devices.{writes_none}
 use Rattle.command_inputs.specs.declared.ended.Ended.{Ended}
 use Rattle.command_inputs.specs.declared.ended.Ended.TheVariants.{Memory}
 use Rattle.gnap_tool.specs.declared.command.Command.{Command}
-use Rattle.gnap_tool.specs.declared.command.Command.TheVariants.{Replay, Field, Sign, Verify, As, Sets, Rs, Client, Hash, Load}
+use Rattle.gnap_tool.specs.declared.command.Command.TheVariants.{Replay, Field, Sign, Verify, Serve, Rs, Client, Hash, Load}
 use Rattle.gnap_tool.specs.declared.purpose.Purpose.{Purpose}
 use Rattle.gnap_tool.specs.declared.purpose.Purpose.TheVariants as purposes
 use Rattle.gnap_tool.specs.Commands.{openings_of, input_place}
@@ -27,8 +27,7 @@ starved_carries (Replay file) text world out = inl (refl, (refl, inr refl))
 starved_carries (Field kind file) text world out = inl (refl, (refl, inr refl))
 starved_carries (Sign config key created file _) text world out = inl (refl, (refl, inr refl))
 starved_carries (Verify config now file) text world out = inl (refl, (refl, inr refl))
-starved_carries (As config listen workers quota) text world out = inl (refl, (refl, inr refl))
-starved_carries (Sets config listen workers quota) text world out = inl (refl, (refl, inr refl))
+starved_carries (Serve service served) text world out = inl (refl, (refl, inr refl))
 starved_carries (Rs config listen server quota cache) text world out = inl (refl, (refl, inr refl))
 starved_carries (Client config address script) text world out = inl (refl, (refl, inr refl))
 starved_carries (Hash texts) text world out = (refl, (record { sent = []; told = writes_none out; ends = refl }, inr (inr refl)))

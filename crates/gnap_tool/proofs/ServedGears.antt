@@ -13,14 +13,11 @@ use Rattle.gnap_io.specs.Gears.{GearState, IsUnused}
 use Rattle.gnap_io.specs.Worlds.{WorldState, with_opening, with_gears}
 use Rattle.gnap_io.specs.Openings.{Gives, gears_in, new_files}
 use Rattle.gnap_io.proofs.OpeningLemmas.{gives-gears, back-all}
-use Rattle.gnap_model.specs.declared.objects.Setup.{Setup}
 use Rattle.serving.specs.ServiceEnds.{has_failed, IsUsedUp, IsEndOfService}
-use Rattle.as_service.specs.Services.{IsService, not_started, served}
 use Rattle.command_inputs.specs.declared.ended.Ended.{Ended}
 use Rattle.command_inputs.specs.declared.ended.Ended.TheVariants.{Done, Failed, Memory}
 use Rattle.gnap_tool.specs.Runs.{ended_service}
 use Rattle.world_uses.specs.Uses.{NothingFailed, UsesWorld, new_openings}
-use Rattle.world_uses.proofs.Uses.{unopened_used}
 
 failed_gear : (gear : GearState) → has_failed gear ≡ true → gear.faults ≢ 0
 failed_gear gear is zero = let none : nat_lt 0 0 ≡ true = subst (λ n. nat_lt 0 n ≡ true) zero is in absurd cc
@@ -91,8 +88,3 @@ gears_used address n quota before after gears (Err faults.Failed) back many ende
     broken address n quota before after gears back many (failed_gears gears (Any-from_list_any has_failed gears ended))
 gears_used address n quota before after gears (Err faults.OutOfMemory) back many ended =
     whole address n quota before after gears back many Memory (unused_unfailed gears ended) (λ is. absurd cc) (inr refl)
-
-pub service_used : (setup : Setup) (address : List ℕ) (n quota : ℕ) (before after : WorldState) (answer : Result (Unit {0}) WorldFault)
-    → IsService setup address n quota before after answer → UsesWorld (Gears address n quota ∷ []) None before after (ended_service answer)
-service_used setup address n quota before after (Err fault) (not_started _ same cause) = unopened_used (Gears address n quota ∷ []) None before after fault _ refl same cause
-service_used setup address n quota before after answer (served _ gears back many are ended) = gears_used address n quota before after gears answer back many ended

@@ -8,7 +8,10 @@ use Rattle.message_signature.specs.Marks.{is_nonce}
 use Rattle.gnap_io.specs.declared.world.Opening.{Opening}
 use Rattle.gnap_io.specs.declared.world.Opening.TheVariants.{File, Gears, Link}
 use Rattle.gnap_tool.specs.declared.command.Command.{Command}
-use Rattle.gnap_tool.specs.declared.command.Command.TheVariants.{Replay, Field, Sign, Verify, As, Sets, Rs, Client, Hash, Load}
+use Rattle.gnap_tool.specs.declared.command.Command.TheVariants.{Replay, Field, Sign, Verify, Serve, Rs, Client, Hash, Load}
+use Rattle.gnap_tool.specs.declared.command.Service.{Service}
+use Rattle.gnap_tool.specs.declared.command.Service.TheVariants.{Grants, Derivations, Sets}
+use Rattle.gnap_tool.specs.declared.command.ServedSetup.{ServedSetup}
 use Rattle.printed_answers.specs.declared.fields.Kind.{Kind}
 use Rattle.printed_answers.specs.declared.fields.Kind.TheVariants.{Item, List as AList, Dictionary}
 use Rattle.gnap_tool.specs.declared.wrong_words.WordForm.{WordForm}
@@ -80,17 +83,25 @@ sign_of words = option_or (with_five marked_sign_words words) (with_four sign_wo
 abbrev pub verify_words : List ℕ → List ℕ → List ℕ → Option Command
 verify_words config now file = if are_arguments (config ∷ file ∷ []) then option_map (λ moment. Verify config moment file) (moment_of now) else None
 
--- 1 to 64 workers, and at most 1,000,000 connections for each
-abbrev pub as_words : List ℕ → List ℕ → List ℕ → List ℕ → Option Command
-as_words config listen workers quota =
+-- a setup, an address, 1 to 64 workers, and at most 1,000,000 connections for each
+abbrev pub served_setup : List ℕ → List ℕ → List ℕ → List ℕ → Option ServedSetup
+served_setup config listen workers quota =
     if are_arguments (config ∷ listen ∷ [])
-    then option_and_then (λ n. option_map (λ most. As config listen n most) (number_within 0 1000000 quota)) (number_within 1 64 workers) else None
+    then option_and_then (λ n. option_map (λ most. record { config = config; listen = listen; workers = n; quota = most }) (number_within 0 1000000 quota))
+    (number_within 1 64 workers)
+    else None
 
--- the same ranges as of `as`
-abbrev pub sets_words : List ℕ → List ℕ → List ℕ → List ℕ → Option Command
-sets_words config listen workers quota =
-    if are_arguments (config ∷ listen ∷ [])
-    then option_and_then (λ n. option_map (λ most. Sets config listen n most) (number_within 0 1000000 quota)) (number_within 1 64 workers) else None
+-- this is served of a setup
+abbrev pub service_words : Service → List ℕ → List ℕ → List ℕ → List ℕ → Option Command
+service_words service config listen workers quota = option_map (Serve service) (served_setup config listen workers quota)
+
+-- with a file of pairs
+abbrev pub deriving_words : List ℕ → List ℕ → List ℕ → List ℕ → List ℕ → Option Command
+deriving_words config listen workers quota pairs = if is_argument pairs then service_words (Derivations pairs) config listen workers quota else None
+
+-- four words, or five
+abbrev pub as_of : List (List ℕ) → Option Command
+as_of words = option_or (with_five deriving_words words) (with_four (service_words Grants) words)
 
 -- at most 1,000,000 connections, and with a cache 1 to 16,384 replies
 abbrev pub rs_words : List ℕ → List ℕ → List ℕ → List ℕ → Option Command
@@ -136,7 +147,7 @@ counts_of name =
     else if bytes_eq name (codes "field") then Some (2, 2)
     else if bytes_eq name (codes "sign") then Some (4, 5)
     else if bytes_eq name (codes "verify") then Some (3, 3)
-    else if bytes_eq name (codes "as") then Some (4, 4)
+    else if bytes_eq name (codes "as") then Some (4, 5)
     else if bytes_eq name (codes "sets") then Some (4, 4)
     else if bytes_eq name (codes "rs") then Some (4, 5)
     else if bytes_eq name (codes "client") then Some (3, 3)
@@ -150,8 +161,8 @@ command_named name arguments =
     else if bytes_eq name (codes "field") then field_of arguments
     else if bytes_eq name (codes "sign") then sign_of arguments
     else if bytes_eq name (codes "verify") then with_three verify_words arguments
-    else if bytes_eq name (codes "as") then with_four as_words arguments
-    else if bytes_eq name (codes "sets") then with_four sets_words arguments
+    else if bytes_eq name (codes "as") then as_of arguments
+    else if bytes_eq name (codes "sets") then with_four (service_words Sets) arguments
     else if bytes_eq name (codes "rs") then rs_of arguments
     else if bytes_eq name (codes "client") then with_three client_words arguments
     else if bytes_eq name (codes "hash") then hash_of arguments
@@ -182,15 +193,19 @@ is_of forms.Replies word = is_some (number_within 1 16384 word)
 is_of forms.Start word = is_some (number_within 0 18446744073709551615 word)
 
 -- Memory ran out, or the words are no command, and where one of those after the name is at fault, it isn't of this form.
-abbrev pub AreWrong : WrongWords → List (List ℕ) → Option Command → Type 0
+abbrev pub AreWrong : {A : Type 0} → WrongWords → List (List ℕ) → Option A → Type 0
 AreWrong wrong.OutOfMemory words reading = Unit {0}
 AreWrong wrong.NoCommand words reading = reading ≡ None
 AreWrong wrong.Count words reading = reading ≡ None
 AreWrong (wrong.Word place form) words reading = (reading ≡ None) × (option_map (is_of form) (slice_get words place) ≡ Some false)
 
--- what was read of the words after the name is this command, or they are wrong
-abbrev pub AreRead : Result Command WrongWords → List (List ℕ) → Option Command → Type 0
+-- what was read of the words after the name is this, or they are wrong
+abbrev pub AreRead : {A : Type 0} → Result A WrongWords → List (List ℕ) → Option A → Type 0
 AreRead result words reading = MatchResult result (λ command. reading ≡ Some command) (λ fault. AreWrong fault words reading)
+
+-- there are 1 to 64 workers
+abbrev pub AreFewWorkers : ServedSetup → Type 0
+AreFewWorkers served = (1 ≤ served.workers) × (served.workers ≤ 64)
 
 -- the words of a command are in their ranges: moments before the year 10000, nonces that can be written, 1 to 64 workers, and 1 to 16,384 replies in a cache
 abbrev pub IsWithinRanges : Command → Type 0
@@ -198,8 +213,7 @@ IsWithinRanges (Replay file) = Unit {0}
 IsWithinRanges (Field kind file) = Unit {0}
 IsWithinRanges (Sign config key created file nonce) = (created ≤ last_moment) × IfSome nonce (λ n. is_nonce n ≡ true)
 IsWithinRanges (Verify config now file) = now ≤ last_moment
-IsWithinRanges (As config listen workers quota) = (1 ≤ workers) × (workers ≤ 64)
-IsWithinRanges (Sets config listen workers quota) = (1 ≤ workers) × (workers ≤ 64)
+IsWithinRanges (Serve service served) = AreFewWorkers served
 IsWithinRanges (Rs config listen server quota cache) = IfSome cache (λ n. (1 ≤ n) × (n ≤ 16384))
 IsWithinRanges (Client config address script) = Unit {0}
 IsWithinRanges (Hash texts) = Unit {0}
@@ -207,14 +221,19 @@ IsWithinRanges (Load grants start workers) = (1 ≤ workers) × (workers ≤ 64)
 
 -- ---- what they open
 
+-- what is opened behind the setup that is served
+abbrev pub service_openings : Service → ServedSetup → List Opening
+service_openings Grants served = Gears served.listen served.workers served.quota ∷ []
+service_openings (Derivations pairs) served = File pairs ∷ Gears served.listen served.workers served.quota ∷ []
+service_openings Sets served = Gears served.listen served.workers served.quota ∷ []
+
 -- what a command opens, in order
 abbrev pub openings_of : Command → List Opening
 openings_of (Replay file) = File file ∷ []
 openings_of (Field kind file) = File file ∷ []
 openings_of (Sign config key created file _) = File config ∷ File file ∷ []
 openings_of (Verify config now file) = File config ∷ File file ∷ []
-openings_of (As config listen workers quota) = File config ∷ Gears listen workers quota ∷ []
-openings_of (Sets config listen workers quota) = File config ∷ Gears listen workers quota ∷ []
+openings_of (Serve service served) = File served.config ∷ service_openings service served
 openings_of (Rs config listen server quota cache) = File config ∷ Link server ∷ Gears listen 1 quota ∷ []
 openings_of (Client config address script) = File config ∷ Link address ∷ File script ∷ []
 openings_of (Hash texts) = []
@@ -226,8 +245,7 @@ input_place (Replay file) = Some 0
 input_place (Field kind file) = Some 0
 input_place (Sign config key created file _) = None
 input_place (Verify config now file) = None
-input_place (As config listen workers quota) = None
-input_place (Sets config listen workers quota) = None
+input_place (Serve service served) = None
 input_place (Rs config listen server quota cache) = None
 input_place (Client config address script) = Some 1
 input_place (Hash texts) = None

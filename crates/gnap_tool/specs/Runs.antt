@@ -8,14 +8,19 @@ use Rattle.gnap_io.specs.Worlds.{WorldState}
 use Rattle.gnap_io.specs.declared.world.WorldFault.{WorldFault}
 use Rattle.as_service.specs.Services.{IsService}
 use Rattle.rs_facing.specs.SetServices.{IsSetService}
+use Rattle.derivation_requests.specs.Pairs.{Pair}
+use Rattle.derived_tokens.specs.DerivedServices.{IsDerivingService}
 use Rattle.gnap_tool.specs.declared.command.Command.{Command}
-use Rattle.gnap_tool.specs.declared.command.Command.TheVariants.{Replay, Field, Sign, Verify, As, Sets, Rs, Client, Hash, Load}
+use Rattle.gnap_tool.specs.declared.command.Command.TheVariants.{Replay, Field, Sign, Verify, Serve, Rs, Client, Hash, Load}
+use Rattle.gnap_tool.specs.declared.command.Service.{Service}
+use Rattle.gnap_tool.specs.declared.command.Service.TheVariants.{Grants, Derivations, Sets}
+use Rattle.gnap_tool.specs.declared.command.ServedSetup.{ServedSetup}
 use Rattle.gnap_tool.specs.declared.purpose.Purpose.{Purpose}
 use Rattle.gnap_tool.specs.declared.purpose.Purpose.TheVariants as purposes
 use Rattle.command_inputs.specs.declared.ended.Ended.{Ended}
 use Rattle.command_inputs.specs.declared.ended.Ended.TheVariants.{Done, Failed, Memory}
 use Rattle.command_inputs.specs.Ends.{status_of}
-use Rattle.gnap_tool.specs.Configs.{client_config_in, rs_setup_in}
+use Rattle.gnap_tool.specs.Configs.{client_config_in, rs_setup_in, pairs_in}
 use Rattle.script_runs.specs.Scripts.{RunsClient}
 use Rattle.printed_answers.specs.Fields.{PrintsField}
 use Rattle.printed_answers.specs.HashLines.{PrintsHash}
@@ -68,15 +73,28 @@ abbrev pub ServesSo : (Result (Unit {0}) WorldFault → Type 0) → WorldState �
 ServesSo IsServed before after ended = ((after ≡ before) × ((ended ≡ Failed) ⊎ (ended ≡ Memory)))
     ⊎ ((answer : Result (Unit {0}) WorldFault) × (ended ≡ ended_service answer) × IsServed answer)
 
--- a setup was to be served at an address
-abbrev pub Serves : Setup → List ℕ → ℕ → ℕ → WorldState → WorldState → Ended → Type 0
-Serves setup listen workers quota before after ended = ServesSo (IsService setup listen workers quota before after) before after ended
+-- the grant machine of a setup was to be served at an address
+abbrev pub Serves : Setup → ServedSetup → WorldState → WorldState → Ended → Type 0
+Serves setup served before after ended = ServesSo (IsService setup served.listen served.workers served.quota before after) before after ended
+
+-- the same, where tokens are derived by these pairs
+abbrev pub ServesDeriving : List Pair → Setup → ServedSetup → WorldState → WorldState → Ended → Type 0
+ServesDeriving pairs setup served before after ended =
+    ServesSo (IsDerivingService pairs setup served.listen served.workers served.quota before after) before after ended
 
 -- the resource sets of a setup
-abbrev pub ServesSets : Setup → List ℕ → ℕ → ℕ → WorldState → WorldState → Ended → Type 0
-ServesSets setup listen workers quota before after ended = ServesSo (IsSetService setup listen workers quota before after) before after ended
+abbrev pub ServesSets : Setup → ServedSetup → WorldState → WorldState → Ended → Type 0
+ServesSets setup served before after ended = ServesSo (IsSetService setup served.listen served.workers served.quota before after) before after ended
 
--- the same of a resource server whose guard kept this first, with the authorization server at another address
+-- What was to be served of a setup. Pairs are read first, as the setup was.
+abbrev pub ServesBy : Service → Setup → ServedSetup → (List ℕ → Option (List ℕ)) → WorldState → WorldState → Told → Told → Ended → Type 0
+ServesBy Grants setup served text before after out out_now ended = (out_now ≡ out) × Serves setup served before after ended
+ServesBy (Derivations pairs) setup served text before after out out_now ended =
+    BySetup (pairs_in setup) (text pairs) before after out out_now ended (λ between known.
+    (out_now ≡ out) × ServesDeriving known setup served between after ended)
+ServesBy Sets setup served text before after out out_now ended = (out_now ≡ out) × ServesSets setup served before after ended
+
+-- a resource server was to be served whose guard kept this first, with the authorization server at another address
 abbrev pub ServesGuarded : {K : Type 0} → GuardsKeeping K → K → RsSetup → List ℕ → List ℕ → ℕ → WorldState → WorldState → Ended → Type 0
 ServesGuarded {K} guards first setup listen server quota before after ended = ((after ≡ before) × ((ended ≡ Failed) ⊎ (ended ≡ Memory)))
     ⊎ ((last : K) × (answer : Result (Unit {0}) WorldFault) × (ended ≡ ended_service answer)
@@ -104,12 +122,9 @@ CarriesOut (Sign config key created file nonce) text before after out out_now en
 CarriesOut (Verify config now file) text before after out out_now ended =
     BySetup setup_in (text config) before after out out_now ended (λ between setup.
     Over (text file) between after (Unopened out out_now ended) (λ taken rest. PrintsFor (VerifiesFile setup now (taken ++ rest)) out out_now ended))
-CarriesOut (As config listen workers quota) text before after out out_now ended =
-    BySetup setup_in (text config) before after out out_now ended (λ between setup.
-    (out_now ≡ out) × Serves setup listen workers quota between after ended)
-CarriesOut (Sets config listen workers quota) text before after out out_now ended =
-    BySetup setup_in (text config) before after out out_now ended (λ between setup.
-    (out_now ≡ out) × ServesSets setup listen workers quota between after ended)
+CarriesOut (Serve service served) text before after out out_now ended =
+    BySetup setup_in (text served.config) before after out out_now ended (λ between setup.
+    ServesBy service setup served text between after out out_now ended)
 CarriesOut (Rs config listen server quota cache) text before after out out_now ended =
     BySetup rs_setup_in (text config) before after out out_now ended (λ between setup.
     (out_now ≡ out) × ServesRs setup listen server quota cache between after ended)

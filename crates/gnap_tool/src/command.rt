@@ -1,6 +1,6 @@
 //! The commands, and which of them words are.
 ghost use Rattle.std.specs.Prelude.{◌≡◌, ◌≤◌, ◌⊎◌, ℕ, List, Option, Some, None, false, true, drop, [], ◌∷◌, IfOk, IfErr, IfSome, IfNone, map, string_bytes};
-ghost use Rattle.gnap_tool.specs.Commands.{AreRead, IsWithinRanges, is_argument, is_nonce_word, kind_of, replay_of, field_of, with_three, with_four, with_five, sign_words, marked_sign_words, sign_of, verify_words, as_words, sets_words, rs_words, cached_rs_words, rs_of, client_words, long_method, hash_of, load_words, counts_of, count_among, command_named, command_of};
+ghost use Rattle.gnap_tool.specs.Commands.{AreRead, IsWithinRanges, is_argument, is_nonce_word, kind_of, replay_of, field_of, with_three, with_four, with_five, sign_words, marked_sign_words, sign_of, verify_words, AreFewWorkers, served_setup, service_words, deriving_words, as_of, rs_words, cached_rs_words, rs_of, client_words, long_method, hash_of, load_words, counts_of, count_among, command_named, command_of};
 ghost use Rattle.message_signature.specs.Marks.{is_nonce};
 ghost use Rattle.gnap_tool.specs.Numbers.{number_within};
 ghost use Rattle.gnap_tool.specs.declared.wrong_words.WrongWords.TheVariants.{Word, OutOfMemory};
@@ -15,6 +15,30 @@ use message_signature::is_nonce;
 use printed_answers::{HashedTexts, Kind};
 use std::alloc::Global;
 
+/// A setup in a file, and where and how it is served.
+#[derive(Drop)]
+pub struct ServedSetup {
+    /// The file that is the setup.
+    pub config: Bytes,
+    /// The address.
+    pub listen: Bytes,
+    /// How many workers there are, 1 to 64.
+    pub workers: usize,
+    /// How many connections each of them takes, at most 1,000,000.
+    pub quota: u32,
+}
+
+/// What is served of a setup.
+#[derive(Drop)]
+pub enum Service {
+    /// `as CONFIG LISTEN WORKERS QUOTA`: its authorization server.
+    Grants,
+    /// `as CONFIG LISTEN WORKERS QUOTA PAIRS`: its authorization server, which derives tokens for the clients of the pairs in this file.
+    Derivations(Bytes),
+    /// `sets CONFIG LISTEN WORKERS QUOTA`: its resource sets.
+    Sets,
+}
+
 /// What is to be done, with the words that say to what.
 #[derive(Drop)]
 pub enum Command {
@@ -26,10 +50,8 @@ pub enum Command {
     Sign(Bytes, Bytes, u64, Bytes, Option<Bytes>),
     /// `verify CONFIG NOW FILE`: the key of the setup is printed that signed the message of the file.
     Verify(Bytes, u64, Bytes),
-    /// `as CONFIG LISTEN WORKERS QUOTA`: the authorization server of a setup is served at an address, by so many workers, each for so many connections.
-    As(Bytes, Bytes, usize, u32),
-    /// `sets CONFIG LISTEN WORKERS QUOTA`: the resource sets of a setup are served at an address, by so many workers, each for so many connections.
-    Sets(Bytes, Bytes, usize, u32),
+    /// This is served of a setup.
+    Serve(Service, ServedSetup),
     /// `rs CONFIG LISTEN SERVER QUOTA`, or that and `CACHE`: the resource server of a setup is served at an address, for so many connections, and introspects
     /// tokens at another. With CACHE it keeps so many replies for a while.
     Rs(Bytes, Bytes, Bytes, u32, Option<usize>),
@@ -241,34 +263,62 @@ fn verify_of(alloc: Global, words: &[String]) -> Result<Command, WrongWords>
     Ok(Command::Verify(config, now, file))
 }
 
-// At most 64 workers, and at most 1,000,000 connections for each.
-fn as_of(alloc: Global, words: &[String]) -> Result<Command, WrongWords>
-    ensures read { AreRead result (map string_bytes words.now) (with_four as_words (map string_bytes words.now)) }
-    ensures ranges { IfOk result IsWithinRanges }
+// The first four words of a server of a setup: at most 64 workers, and at most 1,000,000 connections for each.
+fn served_setup(
+    alloc: Global,
+    config: &str,
+    listen: &str,
+    workers: &str,
+    quota: &str,
+) -> Result<ServedSetup, WrongWords>
+    ensures read { (more : List (List ℕ)) → AreRead result (config.now ∷ listen.now ∷ workers.now ∷ quota.now ∷ more)
+        (served_setup config.now listen.now workers.now quota.now) }
+    ensures few { IfOk result AreFewWorkers }
 {
-    let Some((config, listen, workers, quota)) = four(words) else {
-        return Err(WrongWords::Count);
-    };
-    let config = argument(alloc, 0, config)?;
-    let listen = argument(alloc, 1, listen)?;
-    let workers = number(2, WordForm::Workers, workers, 1, 64)?;
-    let quota = number(3, WordForm::Connections, quota, 0, 1_000_000)?;
-    Ok(Command::As(config, listen, workers as usize, quota as u32))
+    Ok(ServedSetup {
+        config: argument(alloc, 0, config)?,
+        listen: argument(alloc, 1, listen)?,
+        workers: number(2, WordForm::Workers, workers, 1, 64)? as usize,
+        quota: number(3, WordForm::Connections, quota, 0, 1_000_000)? as u32,
+    })
 }
 
-// The same ranges as of `as`.
-fn sets_of(alloc: Global, words: &[String]) -> Result<Command, WrongWords>
-    ensures read { AreRead result (map string_bytes words.now) (with_four sets_words (map string_bytes words.now)) }
+#[tactic(auto, using(crate::proofs::CommandWords::service_wrong, crate::proofs::CommandWords::service_right))]
+fn service_of(alloc: Global, service: Service, words: &[String]) -> Result<Command, WrongWords>
+    ensures read { AreRead result (map string_bytes words.now) (with_four (service_words service) (map string_bytes words.now)) }
     ensures ranges { IfOk result IsWithinRanges }
 {
     let Some((config, listen, workers, quota)) = four(words) else {
         return Err(WrongWords::Count);
     };
-    let config = argument(alloc, 0, config)?;
-    let listen = argument(alloc, 1, listen)?;
-    let workers = number(2, WordForm::Workers, workers, 1, 64)?;
-    let quota = number(3, WordForm::Connections, quota, 0, 1_000_000)?;
-    Ok(Command::Sets(config, listen, workers as usize, quota as u32))
+    let served = served_setup(alloc, config, listen, workers, quota)?;
+    Ok(Command::Serve(service, served))
+}
+
+// The same with a file of pairs.
+#[tactic(auto, using(crate::proofs::CommandWords::deriving_wrong, crate::proofs::CommandWords::deriving_right))]
+fn deriving_as_of(alloc: Global, words: &[String]) -> Result<Command, WrongWords>
+    ensures read { AreRead result (map string_bytes words.now) (with_five deriving_words (map string_bytes words.now)) }
+    ensures ranges { IfOk result IsWithinRanges }
+{
+    let Some((config, listen, workers, quota, pairs)) = five(words) else {
+        return Err(WrongWords::Count);
+    };
+    let served = served_setup(alloc, config, listen, workers, quota)?;
+    let pairs = argument(alloc, 4, pairs)?;
+    Ok(Command::Serve(Service::Derivations(pairs), served))
+}
+
+// Four words, or five with pairs.
+#[tactic(auto, using(crate::proofs::CommandWords::as_of_five, crate::proofs::CommandWords::as_of_four))]
+fn as_of(alloc: Global, words: &[String]) -> Result<Command, WrongWords>
+    ensures read { AreRead result (map string_bytes words.now) (as_of (map string_bytes words.now)) }
+    ensures ranges { IfOk result IsWithinRanges }
+{
+    match five(words) {
+        Some(_) => deriving_as_of(alloc, words),
+        None => service_of(alloc, Service::Grants, words),
+    }
 }
 
 // At most 1,000,000 connections.
@@ -374,7 +424,7 @@ pub(crate) fn counts_of(name: &str) -> Option<(usize, usize)>
         "field" => Some((2, 2)),
         "sign" => Some((4, 5)),
         "verify" => Some((3, 3)),
-        "as" => Some((4, 4)),
+        "as" => Some((4, 5)),
         "sets" => Some((4, 4)),
         "rs" => Some((4, 5)),
         "client" => Some((3, 3)),
@@ -405,7 +455,7 @@ fn command_named(alloc: Global, name: &str, words: &[String]) -> Result<Command,
         "sign" => sign_of(alloc, words),
         "verify" => verify_of(alloc, words),
         "as" => as_of(alloc, words),
-        "sets" => sets_of(alloc, words),
+        "sets" => service_of(alloc, Service::Sets, words),
         "rs" => rs_of(alloc, words),
         "client" => client_of(alloc, words),
         "hash" => hash_of(alloc, words),

@@ -1,7 +1,7 @@
 //! What a person is told, on standard error. Whether it is written changes nothing else.
-use crate::command::Command;
+use crate::command::{Command, Service};
 use bytes_and_lists::bytes::Bytes;
-use command_inputs::{Ended, WrongSetup};
+use command_inputs::{ConfigKind, Ended, WrongSetup};
 use fault_places::FaultPlace;
 use gnap_io::device::{Sink, write_all};
 use gnap_objects::{ObjectFault, SetupFault};
@@ -40,6 +40,17 @@ pub(crate) fn tell_shown<E: Sink>(err: &mut E, text: &[u8]) {
     }
 }
 
+// The form of the member of this name, of pairs or of one of them.
+fn pair_form_of(name: &Bytes) -> &'static str {
+    match str::from_utf8(name.as_slice()) {
+        Ok("pairs") => ": an array of 1 to 256 objects",
+        Ok("client") =>
+            ": the id of a key of the setup in the role `client`, which no other pair has",
+        Ok("server") => ": the id of a key of the setup in the role `server`",
+        Ok(_) | Err(_) => "",
+    }
+}
+
 // The form of the member of this name, of a setup or of one of its parts.
 fn form_of(name: &Bytes) -> &'static str {
     match str::from_utf8(name.as_slice()) {
@@ -70,6 +81,7 @@ fn form_of(name: &Bytes) -> &'static str {
 fn limit_of(name: &Bytes) -> &'static str {
     match str::from_utf8(name.as_slice()) {
         Ok("keys") => ": 0 to 4,096 keys",
+        Ok("pairs") => ": 1 to 256 pairs",
         Ok("serves") => ": 0 to 256 strings",
         Ok("routes") => ": 1 to 1,024 routes",
         Ok("auto" | "ask" | "right") => {
@@ -79,10 +91,13 @@ fn limit_of(name: &Bytes) -> &'static str {
     }
 }
 
-fn tell_member<E: Sink>(err: &mut E, fault: &ObjectFault) {
+fn tell_member<E: Sink>(err: &mut E, kind: ConfigKind, fault: &ObjectFault) {
     let (name, is, form): (&Bytes, &str, &str) = match fault {
         ObjectFault::Missing(name) => (name, "` is missing", ""),
-        ObjectFault::Wrong(name) => (name, "` isn't of its form", form_of(name)),
+        ObjectFault::Wrong(name) => match kind {
+            ConfigKind::Pairs => (name, "` isn't of its form", pair_form_of(name)),
+            _ => (name, "` isn't of its form", form_of(name)),
+        },
         ObjectFault::TooMany(name) => (name, "` is too long or has too many items", limit_of(name)),
         ObjectFault::Flag(name) => (name, "` stands twice", ""),
         ObjectFault::Unknown(name) => (name, "` isn't known here", ""),
@@ -93,30 +108,35 @@ fn tell_member<E: Sink>(err: &mut E, fault: &ObjectFault) {
     tell(err, &[is.as_bytes(), form.as_bytes()]);
 }
 
-// Which text is no setup.
-fn tell_no_setup<E: Sink>(err: &mut E, command: &Command) {
+// The file of a command whose text has to be of this kind, and what stands before its name. None where the command reads none.
+fn config_of(command: &Command, kind: ConfigKind) -> Option<(&'static str, &Bytes)> {
     match command {
-        Command::Replay(file) | Command::Field(_, file) => tell(
-            err,
-            &[
-                b"gnap: the first line of ",
-                file.as_slice(),
-                b" is no setup: ",
-            ],
-        ),
+        Command::Replay(file) | Command::Field(_, file) => Some(("the first line of ", file)),
+        Command::Serve(Service::Derivations(pairs), served) => match kind {
+            ConfigKind::Pairs => Some(("", pairs)),
+            _ => Some(("", &served.config)),
+        },
+        Command::Serve(_, served) => Some(("", &served.config)),
         Command::Sign(config, _, _, _, _)
         | Command::Verify(config, _, _)
-        | Command::As(config, _, _, _)
-        | Command::Sets(config, _, _, _)
-        | Command::Rs(config, _, _, _, _) => {
-            tell(err, &[b"gnap: ", config.as_slice(), b" is no setup: "])
-        }
-        Command::Client(config, _, _) => tell(
-            err,
-            &[b"gnap: ", config.as_slice(), b" is no configuration: "],
-        ),
-        // They read none.
-        Command::Hash(_) | Command::Load(_, _, _) => {}
+        | Command::Rs(config, _, _, _, _)
+        | Command::Client(config, _, _) => Some(("", config)),
+        Command::Hash(_) | Command::Load(_, _, _) => None,
+    }
+}
+
+// Which text isn't of its kind.
+fn tell_no_setup<E: Sink>(err: &mut E, command: &Command, kind: ConfigKind) {
+    let Some((front, file)) = config_of(command, kind) else {
+        return;
+    };
+    tell(err, &[b"gnap: "]);
+    tell(err, &[front.as_bytes()]);
+    tell(err, &[file.as_slice()]);
+    match kind {
+        ConfigKind::Setup => tell(err, &[b" is no setup: "]),
+        ConfigKind::Configuration => tell(err, &[b" is no configuration: "]),
+        ConfigKind::Pairs => tell(err, &[b" has no pairs of the setup: "]),
     }
 }
 
@@ -154,16 +174,17 @@ fn tell_key<E: Sink>(err: &mut E, number: usize, place: &FaultPlace) {
 }
 
 fn tell_setup<E: Sink>(err: &mut E, command: &Command, why: &WrongSetup) {
-    tell_no_setup(err, command);
+    let (WrongSetup::TooLong(kind) | WrongSetup::Faulty(kind, _, _)) = why;
+    tell_no_setup(err, command, *kind);
     match why {
-        WrongSetup::TooLong => tell(err, &[b"it has more than 1,048,576 bytes"]),
-        WrongSetup::Faulty(SetupFault::NotJson, place) => tell_no_json(err, place),
-        WrongSetup::Faulty(SetupFault::InSetup(fault), _) => tell_member(err, fault),
-        WrongSetup::Faulty(SetupFault::InKey(number, fault), place) => {
-            tell_member(err, fault);
+        WrongSetup::TooLong(_) => tell(err, &[b"it has more than 1,048,576 bytes"]),
+        WrongSetup::Faulty(_, SetupFault::NotJson, place) => tell_no_json(err, place),
+        WrongSetup::Faulty(_, SetupFault::InSetup(fault), _) => tell_member(err, *kind, fault),
+        WrongSetup::Faulty(_, SetupFault::InKey(number, fault), place) => {
+            tell_member(err, *kind, fault);
             tell_key(err, *number, place);
         }
-        WrongSetup::Faulty(SetupFault::OutOfMemory, _) => {}
+        WrongSetup::Faulty(_, SetupFault::OutOfMemory, _) => {}
     }
     tell(err, &[b"\n"]);
 }
@@ -175,8 +196,12 @@ fn tell_files<E: Sink>(err: &mut E, command: &Command) {
         Command::Sign(config, _, _, file, _) | Command::Verify(config, _, file) => {
             tell(err, &[config.as_slice(), b" or ", file.as_slice()])
         }
-        Command::As(config, listen, _, _) | Command::Sets(config, listen, _, _) => {
-            tell(err, &[config.as_slice(), b" or ", listen.as_slice()])
+        Command::Serve(service, served) => {
+            tell(err, &[served.config.as_slice()]);
+            if let Service::Derivations(pairs) = service {
+                tell(err, &[b", ", pairs.as_slice()]);
+            }
+            tell(err, &[b" or ", served.listen.as_slice()]);
         }
         Command::Rs(config, listen, server, _, _) => tell(
             err,
@@ -224,8 +249,7 @@ fn tell_refusal<E: Sink>(err: &mut E, command: &Command) {
             &[b"gnap: a line of ", script.as_slice(), b" wasn't ok\n"],
         ),
         // Nothing that they read is refused.
-        Command::As(_, _, _, _)
-        | Command::Sets(_, _, _, _)
+        Command::Serve(_, _)
         | Command::Rs(_, _, _, _, _)
         | Command::Hash(_)
         | Command::Load(_, _, _) => {}

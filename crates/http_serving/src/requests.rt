@@ -23,7 +23,7 @@ fn no_message(fault: EdgeFault) -> NoMessage<EdgeFault>
 }
 
 /// Reads the next request of a connection. What was read and isn't of it is held.
-pub fn read_request<S: Source>(
+pub(crate) fn read_request<S: Source>(
     alloc: Global,
     source: &mut S,
     held: &mut Held,
@@ -50,7 +50,7 @@ pub(crate) fn write_whole<K: Sink>(out: &mut K, reply: &HttpReply) -> Result<(),
 }
 
 /// Writes the fixed reply to bytes that begin no request, for a reason that has one. Takes no memory. At an `Err` a beginning of its bytes went out.
-pub fn write_fault<K: Sink>(fault: EdgeFault, out: &mut K) -> Result<(), Failed>
+pub(crate) fn write_fault<K: Sink>(fault: EdgeFault, out: &mut K) -> Result<(), Failed>
     ensures sent { HasSent (edge_wire.refusal fault) (K.told out.old) (K.told out.new) result }
     ensures cause { HasCause (K.faults out.old) (K.faults out.new) result }
 {

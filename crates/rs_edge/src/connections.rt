@@ -9,6 +9,7 @@ use gnap_io::device::{Sink, Source};
 use gnap_io::gear::Clock;
 use gnap_io::link::Link;
 use http_edge::EdgeFault;
+use http_serving::HttpReader;
 use resource_server::{RequestGuard, RsSetup};
 use serving::connection::serve_connection;
 use serving::ends::ConnectionEnd;
@@ -32,5 +33,5 @@ pub fn serve_resources<K: RequestGuard, L: Link, S: Source + Sink, G: Clock>(
 {
     let server = GuardedServer { setup };
     let mut backend = GuardedLink { link, guard };
-    serve_connection(&server, alloc, &mut backend, conn, gear)
+    serve_connection(&HttpReader, &server, alloc, &mut backend, conn, gear)
 }

@@ -2,7 +2,7 @@
 //! a reference means.
 //!
 //! `set_call` says what a request asks: a call of the machine of `resource_sets`, or an answer that needs no state (`specs/SetRequests.antt`). `SetServer` is a
-//! server and a front in the sense of `serving` for that machine, so what goes out on a connection is, for each of its requests in order, the reply to it
+//! server in the sense of `serving` for that machine, so what goes out on a connection is, for each of its requests in order, the reply to it
 //! (`specs/SetFace.antt`, `specs/SetReplies.antt`). `serve_sets_at` serves it at an address of a world. Its contract has one legal history of sets behind all
 //! that the gears tell, in which a reference that was handed out keeps its meaning (`specs/SetServices.antt`).
 #![tactic(auto)]

@@ -9,8 +9,10 @@ use bytes_and_lists::bytes::Bytes;
 use bytes_and_lists::memory::Duplicate;
 use gnap_io::world::{World, WorldFault};
 use gnap_model::objects::Setup;
+use http_serving::HttpReader;
 use resource_sets::laws::set_histories_hold;
 use resource_sets::set_table::SetTable;
+use serving::server_front::ServerFront;
 use serving::service::serve_front_at;
 use std::alloc::Global;
 use std::sync::Wait;
@@ -42,8 +44,11 @@ pub fn serve_sets_at<R: Threads + Wait + Sync, W: World>(
     let Ok(edge) = Edge::new(alloc, setup) else {
         return Err(WorldFault::OutOfMemory);
     };
-    let server = SetServer { edge };
+    let front = ServerFront {
+        reader: HttpReader,
+        server: SetServer { edge },
+    };
     let core = SetTable::new(alloc, rules);
     set_histories_hold();
-    serve_front_at(rt, alloc, world, core, &server, address, workers, quota)
+    serve_front_at(rt, alloc, world, core, &front, address, workers, quota)
 }

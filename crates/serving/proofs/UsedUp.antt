@@ -1,5 +1,5 @@
 -- Gears that did nothing before, and then served all, are used up where no door failed.
-use Rattle.std.proofs.Common.{◌≡◌, ◌∙◌, ◌⊎◌, ⊎_elim, suc, ◌≤◌, ◌||◌, false, List, [], ◌∷◌, map, refl, ap, subst, arith}
+use Rattle.std.proofs.Common.{◌≡◌, ◌∙◌, ⊎_elim, suc, ◌≤◌, ◌||◌, false, List, [], ◌∷◌, map, refl, ap, subst, arith}
 use Rattle.std.specs.Prelude.{All}
 use Rattle.std.specs.List.{list_any}
 use Rattle.std.proofs.lemmas.Bool.{or_parts, ltb-false}

@@ -15,56 +15,63 @@ use std::alloc::Global;
 const LAST_PLACE: u64 = 999;
 
 // Whether the response to the message of a place, counted from 0, is the last one.
-fn closes<V: MessageReader>(server: &V, message: &V::Message, place: u64) -> bool
-    ensures { result ≡ is_closing V.wire place message.now }
+fn closes<W: MessageReader>(reader: &W, message: &W::Message, place: u64) -> bool
+    ensures { result ≡ is_closing W.wire place message.now }
 {
-    server.is_last(message) || place == LAST_PLACE
+    reader.is_last(message) || place == LAST_PLACE
 }
 
 // Says what is said where there is no message.
-fn stop<V: MessageReader, S: Source + Sink>(
-    server: &V,
+fn stop<W: MessageReader, S: Source + Sink>(
+    reader: &W,
     conn: &mut S,
-    why: NoMessage<V::Fault>,
-) -> ConnectionEnd<V::Fault>
-    ensures { Stops V.wire (S.told conn.old) (S.told conn.new) (S.faults conn.old) (S.faults conn.new) why result }
+    why: NoMessage<W::Fault>,
+) -> ConnectionEnd<W::Fault>
+    ensures { Stops W.wire (S.told conn.old) (S.told conn.new) (S.faults conn.old) (S.faults conn.new) why result }
 {
     match why {
         NoMessage::Truncated => ConnectionEnd::Truncated,
         NoMessage::Failed => ConnectionEnd::ReadFault,
-        NoMessage::Refused(fault) => match server.write_refusal(&fault, conn) {
+        NoMessage::Refused(fault) => match reader.write_refusal(&fault, conn) {
             Ok(()) => ConnectionEnd::Refused(fault),
             Err(Failed) => ConnectionEnd::WriteFault,
         },
-        NoMessage::OutOfMemory => match server.write_starved(conn) {
+        NoMessage::OutOfMemory => match reader.write_starved(conn) {
             Ok(()) => ConnectionEnd::Memory,
             Err(Failed) => ConnectionEnd::WriteFault,
         },
     }
 }
 
-/// Serves the messages of a connection that nothing was done with before, up to 1,000, each by one turn, until it ends. The turns make at most
-/// 2,000 entries.
-pub fn serve_connection<V: TurnTaker<B, G>, B, S: Source + Sink, G: Clock>(
+/// Serves the messages that a reader reads off a connection that nothing was done with before, up to 1,000, each by one turn, until it ends. The turns make
+/// at most 2,000 entries.
+pub fn serve_connection<
+    W: MessageReader,
+    V: TurnTaker<B, G, Message = W::Message>,
+    B,
+    S: Source + Sink,
+    G: Clock,
+>(
+    reader: &W,
     server: &V,
     alloc: Global,
     backend: &mut B,
     conn: &mut S,
     gear: &mut G,
-) -> ConnectionEnd<V::Fault>
+) -> ConnectionEnd<W::Fault>
     requires room { (V.backend_kind server.now).has_room backend.old most_messages }
     requires untouched { IsUntouched (S.told conn.old) (S.faults conn.old) }
     ensures { (past : _) → (V.backend_kind server.now).seen backend.old past
-        → ServesTurns (V.backend_kind server.now) V.wire (V.is_turn server.now) backend.old past backend.new (G.state gear.old) (G.state gear.new)
+        → ServesTurns (V.backend_kind server.now) W.wire (V.is_turn server.now) backend.old past backend.new (G.state gear.old) (G.state gear.new)
         (served_of (S.told conn.new) (S.faults conn.new)) result }
 {
-    let mut held = server.hold_none(alloc);
+    let mut held = reader.hold_none(alloc);
     let mut place = 0u64;
     loop {
-        match server.next_message(alloc, conn, &mut held) {
+        match reader.next_message(alloc, conn, &mut held) {
             Ok(None) => return ConnectionEnd::Closed,
             Ok(Some(message)) => {
-                let last = closes(server, &message, place);
+                let last = closes(reader, &message, place);
                 match server.turn(alloc, backend, conn, gear, &message, last) {
                     AfterTurn::MoreMayCome => {
                         if last {
@@ -79,7 +86,7 @@ pub fn serve_connection<V: TurnTaker<B, G>, B, S: Source + Sink, G: Clock>(
                     AfterTurn::WriteFailed => return ConnectionEnd::WriteFault,
                 }
             }
-            Err(why) => return stop(server, conn, why),
+            Err(why) => return stop(reader, conn, why),
         }
     }
 }

@@ -4,7 +4,6 @@ ghost use Rattle.gnap_io.specs.Outside.{HasSent, HasCause};
 ghost use Rattle.histories.specs.Turns.{Face};
 ghost use Rattle.serving.specs.MessageSteps.{IsStepOf, SaysAllReplies};
 
-use crate::message_reader::MessageReader;
 use crate::message_step::MessageStep;
 use bytes_and_lists::memory::Mem;
 use gnap_io::device::{Failed, Sink};
@@ -12,9 +11,12 @@ use histories::machine::Machine;
 use std::alloc::Global;
 
 /// Finds what messages ask of a machine, one call each at most, and says what is responded. Writing takes no memory.
-pub trait Server: MessageReader {
+pub trait Server {
     /// The machine that is asked.
     type M: Machine;
+
+    /// What comes on a connection.
+    type Message;
 
     /// What is said to a message, before it is written.
     type Response: Drop;

@@ -5,13 +5,15 @@ ghost use Rattle.serving.specs.Backends.{BackendKind};
 ghost use Rattle.serving.specs.MessageTurns.{TakesTurn};
 
 use crate::ends::AfterTurn;
-use crate::message_reader::MessageReader;
 use gnap_io::device::{Sink, Source};
 use gnap_io::gear::Clock;
 use std::alloc::Global;
 
 /// Answers each message by a turn at a backend: a desk of a machine, or whatever else it asks.
-pub trait TurnTaker<B, G: Clock>: MessageReader {
+pub trait TurnTaker<B, G: Clock> {
+    /// What comes on a connection.
+    type Message;
+
     /// What turns make: entries of a history, or what was asked of another server.
     ghost Entry: { Type 0 };
 

@@ -21,7 +21,7 @@ use serving::server::Server;
 use serving::turn_taker::TurnTaker;
 use std::alloc::Global;
 
-/// A server of an adding machine that starts from an amount.
+/// A server of an adding machine that starts from an amount, and the reader of its bytes.
 #[derive(Drop)]
 pub struct Bytewise {
     pub start: u64,
@@ -114,6 +114,8 @@ impl Server for Bytewise {
 
     type M = Adding;
 
+    type Message = u8;
+
     type Response = Bytes;
 
     ghost rules = { λ server. server.start };
@@ -191,6 +193,8 @@ impl<D: Desk<M = Adding>, G: Clock + Draws> TurnTaker<D, G> for Bytewise {
     ghost use Rattle.test_adding.specs.Amounts.{AddingEntry};
     ghost use Rattle.test_adding.specs.Bytewise.{IsByteTurn};
 
+    type Message = u8;
+
     ghost Entry = { AddingEntry };
 
     ghost Past = { List AddingEntry };
@@ -233,6 +237,6 @@ impl Front for Bytewise {
         conn: &mut S,
         gear: &mut G,
     ) {
-        serve_connection(self, alloc, desk, conn, gear);
+        serve_connection(self, self, alloc, desk, conn, gear);
     }
 }

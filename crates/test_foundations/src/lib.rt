@@ -1,5 +1,5 @@
-//! Tests of the crates that no GNAP call crosses: bytes and devices, fields, digests, keys, HTTP, JSON, rights and their copies, and the small machine
-//! that adds, at a desk of its own, on threads and behind connections.
+//! Tests of the crates that no GNAP call crosses: bytes and devices, fields, keys, HTTP, copies, and the small machine that adds, at a desk of its own, on
+//! threads and behind connections.
 //!
 //! They show what no clause says: values that were worked out elsewhere, printed texts, and that a call succeeds where memory is left.
 #![tactic(auto)]
@@ -9,23 +9,13 @@ mod adding;
 #[cfg(test)]
 mod copies;
 #[cfg(test)]
-mod covering_rights;
-#[cfg(test)]
 mod devices;
-#[cfg(test)]
-mod digests;
 #[cfg(test)]
 mod field_values;
 #[cfg(test)]
-mod finish_uris;
-#[cfg(test)]
 mod http_messages;
 #[cfg(test)]
-mod json_bodies;
-#[cfg(test)]
 mod mac_keys;
-#[cfg(test)]
-mod packed_rights;
 #[cfg(test)]
 mod served_bytes;
 #[cfg(test)]

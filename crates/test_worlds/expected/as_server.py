@@ -59,6 +59,11 @@ def body_value(call, text):
     return value if isinstance(value, dict) else NOT_OF_FORM
 
 
+def words_of(draws, place):
+    """The words of the entry at this place among the next ones, as far as the case has them."""
+    return draws[place] if place < len(draws) else []
+
+
 class Service(Server):
     """A server over HTTP."""
 
@@ -66,17 +71,22 @@ class Service(Server):
         super().__init__(setup)
         self.secrets = {name: key.secret for name, key in setup.keys.items()}
 
-    def reply(self, request, moment, words):
-        """The reply to a request, and whether the machine was reached."""
+    def entered(self, moment, draws, call, key, value, body, mark, signs_too):
+        """Status and body of the answer to a call, and how many entries the machine made for it. The next entries have these words."""
+        status, form, reached = self.answer(moment, words_of(draws, 0), call, key, value, body, mark, signs_too)
+        return status, form, int(reached)
+
+    def reply(self, request, moment, draws):
+        """The reply to a request, and how many entries the machine made for it."""
         methods = ROUTES.get(request.target.partition(b"?")[0].decode("latin-1"))
         if methods is None:
-            return reply_bytes(404, last=request.last), False
+            return reply_bytes(404, last=request.last), 0
         call = methods.get(request.method.decode("ascii"))
         if call is None:
-            return reply_bytes(405, last=request.last, allow=", ".join(methods)), False
+            return reply_bytes(405, last=request.last, allow=", ".join(methods)), 0
         if call in ("discovery", "rs_discovery"):
             form = {"discovery": discovery, "rs_discovery": rs_discovery}[call](self.setup.base)
-            return reply_bytes(200, compact(form).encode(), request.last), False
+            return reply_bytes(200, compact(form).encode(), request.last), 0
         mark = mark_of(request)
         try:
             key = verified(request, self.setup.base, self.secrets, moment)
@@ -94,8 +104,8 @@ class Service(Server):
                 return False
 
         body = body_value(call, request.body)
-        status, form, reached = self.answer(moment, words, call, key, value, body, mark, signs_too)
-        return reply_bytes(status, b"" if form is None else compact(form).encode(), request.last), reached
+        status, form, entries = self.entered(moment, draws, call, key, value, body, mark, signs_too)
+        return reply_bytes(status, b"" if form is None else compact(form).encode(), request.last), entries
 
 
 class Connection:
@@ -153,10 +163,8 @@ class Worker:
                 connection.write(reply_bytes(refused.status, last=True))
                 return
             request.last = request.last or count == MESSAGES_MOST
-            words = self.draws[0] if self.draws else []
-            reply, reached = self.service.reply(request, self.moment(), words)
-            if reached:
-                self.draws = self.draws[1:]
+            reply, entries = self.service.reply(request, self.moment(), self.draws)
+            self.draws = self.draws[entries:]
             if not connection.write(reply) or request.last:
                 return
 

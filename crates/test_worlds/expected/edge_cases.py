@@ -1,6 +1,8 @@
 """Cases of `as` on messages as such: routes, heads, ends of connections."""
 
-from http_cases import NOT_FOUND, PHOTOS, call, case, head, latin, request, sent, signed_by_c1
+from http_cases import NOT_FOUND, PHOTOS, call, case, head, introspection, latin, request, sent, signed_by_c1
+from scripted_interactions import decide
+from scripts import V
 
 
 def routes():
@@ -62,14 +64,14 @@ def heads():
         ("64 fields, of which one is a length", b"GET /x HTTP/1.1", b"Content-Length: 2", *[b"A: b"] * 63),
         ("65 fields, and one that isn't one", b"GET /x HTTP/1.1", *[b"A: b"] * 65, b"A"),
     ]:
-        yield case("head: " + name, [[head(*lines), NOT_FOUND]])
+        yield case("head: " + name, [[head(*lines), NOT_FOUND], [NOT_FOUND, head(*lines)]])
     yield case("head: LF alone at the ends of lines", [[b"GET /x HTTP/1.1\nA: b\n\n", NOT_FOUND]])
     yield case("head: empty lines before", [[b"\r\n\n\r\n", NOT_FOUND, b"\r\n", NOT_FOUND]])
     yield case("head: a CR alone before", [[b"\r", NOT_FOUND]])
 
 
 def long_heads():
-    for count in (16_384, 16_385):
+    for count in (16_383, 16_384, 16_385, 16_386):
         lines = b"GET /x HTTP/1.1\r\nA: "
         filled = case(f"head: {count} bytes", [[lines, b"\r\n\r\n", NOT_FOUND]])
         filled["gears"][0]["connections"] = [latin(lines) + chr(256) + latin(b"\r\n\r\n", NOT_FOUND)]
@@ -89,10 +91,11 @@ def long_heads():
 
 
 def ends():
-    thousand = case("the reply to the thousandth message is the last", [[b""]])
-    thousand["gears"][0]["connections"] = [chr(256)]
-    thousand["runs"] = [[latin(NOT_FOUND), 1_001]]
-    yield thousand
+    for count in (999, 1_000, 1_001):
+        many = case(f"{count} messages: the reply to the thousandth is the last", [[b""]])
+        many["gears"][0]["connections"] = [chr(256)]
+        many["runs"] = [[latin(NOT_FOUND), count]]
+        yield many
     yield case("a message behind one that closes isn't answered", [[head(b"GET /x HTTP/1.1", b"Connection: close"), NOT_FOUND]])
     yield case("no bytes", [[b""], [NOT_FOUND]])
     unsigned = sent(request(b"POST", b"/gnap", b"{}"))
@@ -102,6 +105,18 @@ def ends():
     yield case("bytes that are no head, cut after each byte", [[b"GET /\x01\x02 HTTP/1.1\r\n\r\n"]], cut=True)
 
 
+def cut_requests():
+    """A request for each route and method, cut after each byte."""
+    bodies = {"begin": PHOTOS, "introspect": introspection(V(1)), "modify": PHOTOS, "look": {"handle": V(2)}, "find_code": {"code": "BBBBBBBB"}, "decide": decide(2, "grant")}
+    values = {"continue": V(1), "modify": V(1), "cancel": V(1), "rotate": V(2), "revoke": V(2)}
+    keys = {"introspect": "r1", "look": "f1", "find_code": "f1", "decide": "f1"}
+    for name in ("begin", "introspect", "continue", "modify", "cancel", "rotate", "revoke", "look", "find_code", "decide"):
+        message = call(name, keys.get(name, "c1"), 1_000, bodies.get(name), values.get(name))
+        yield case(f"a request for `{name}`, cut after each byte", [[message]], [1_000], cut=True)
+    for method, path in (("OPTIONS", "/gnap"), ("GET", "/.well-known/gnap-as-rs")):
+        yield case(f"{method} {path}, cut after each byte", [[head(f"{method} {path} HTTP/1.1".encode(), b"Host: as.example")]], cut=True)
+
+
 def cases():
-    for part in (routes, heads, long_heads, ends):
+    for part in (routes, heads, long_heads, ends, cut_requests):
         yield from part()

@@ -160,6 +160,35 @@ def changed_requests():
         yield case("signature: " + name, [[bytes_sent]], [1_000])
 
 
+def changed_bits():
+    """A signed grant request, over and over, with another bit changed each time: in the request line, the values of the signature's two fields and of the
+    digest, or the body.
+
+    Only `HTTP/1.0` is covered by nothing; where that comes, the request is granted and its nonce taken, so it comes last of all.
+    """
+    whole = sent(GOOD)
+    first, *fields = whole.partition(b"\r\n\r\n")[0].split(b"\r\n")
+    values = [field.partition(b": ")[2] for field in fields if field.lower().startswith((b"content-digest", b"signature"))]
+    lines = [first, *values, TEXT]
+    starts = [whole.index(line) for line in lines]
+    ends = [start + len(line) for start, line in zip(starts, lines)]
+    pieces = [whole[one:other] for one, other in zip([0, *ends], [*ends, len(whole)])]
+    texts = []
+    for place, (piece, line) in enumerate(zip(pieces, lines)):
+        for at in range(len(piece) - len(line), len(piece)):
+            for bit in range(8):
+                changed_piece = piece[:at] + bytes([piece[at] ^ 1 << bit]) + piece[at + 1:]
+                if changed_piece.startswith(b"POST /gnap HTTP/1.0"):
+                    continue
+                parts = [latin(changed_piece) if number == place else chr(256 + number) for number in range(len(pieces))]
+                texts.append("".join(parts))
+    texts += ["".join(chr(256 + number) for number in range(len(pieces))).replace(chr(256), latin(pieces[0].replace(b"HTTP/1.1", b"HTTP/1.0")), 1)]
+    row = case("each bit changed that a signed grant request has in its first line, its signature, its digest and its body", [[b""]] * len(texts), [1_000])
+    row["gears"][0]["connections"] = texts
+    row["runs"] = [[latin(piece), 1] for piece in pieces]
+    yield row
+
+
 def odd_parameters():
     """Parameters whose text isn't the canonical one that the signature base has."""
     for name, value, canonical, text in [
@@ -280,6 +309,6 @@ def long_bodies():
 
 def cases():
     for part in (
-        whole_runs, presented_values, at_moments, changed_requests, odd_parameters, signed_otherwise, other_messages, digests, bodies, long_bodies,
+        whole_runs, presented_values, at_moments, changed_requests, changed_bits, odd_parameters, signed_otherwise, other_messages, digests, bodies, long_bodies,
     ):
         yield from part()

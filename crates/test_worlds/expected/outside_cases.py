@@ -66,7 +66,7 @@ def words():
         ("an option", ["as", "-setup", "a", "1", "1"]),
         ("an empty word", ["as", "setup", "", "1", "1"]),
         ("one word too few", ["as", "setup", "a", "1"]),
-        ("one word too many", ["as", "setup", "a", "1", "1", "1"]),
+        ("one word too many", ["as", "setup", "a", "1", "1", "1", "1"]),
         ("a replay without a file", ["replay"]),
         ("a replay of a file that isn't there", ["replay", "other"]),
         ("a replay of a setup alone", ["replay", "setup"]),

@@ -206,13 +206,13 @@ class ResourceServer:
         return 200
 
     def reply(self, request, moment, _):
-        """The reply to a request, and whether words are drawn for it."""
+        """The reply to a request, and how many words are drawn for it: none."""
         here = [route for route in self.setup.routes if route.path.encode() == request.target.partition(b"?")[0]]
         if not here:
-            return reply_bytes(404, last=request.last), False
+            return reply_bytes(404, last=request.last), 0
         route = next((route for route in here if route.method.encode() == request.method), None)
         if route is None:
-            return reply_bytes(405, last=request.last, allow=", ".join(route.method for route in here)), False
+            return reply_bytes(405, last=request.last, allow=", ".join(route.method for route in here)), 0
         status = self.judged(request, moment, route)
         body = compact({"text": route.text}).encode() if status == 200 else b""
-        return reply_bytes(status, body, request.last), False
+        return reply_bytes(status, body, request.last), 0

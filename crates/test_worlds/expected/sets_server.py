@@ -1,6 +1,7 @@
 """The server of resource sets over HTTP, written from docs/HTTP.md and docs/FORMATS.md alone. It serves connections as the authorization server does."""
 
 import json_forms
+from as_server import words_of
 from calls import error_form
 from http_forms import reply_bytes
 from json_forms import Fault, NotJson, read_json
@@ -46,20 +47,20 @@ class SetServer:
         self.secrets = {name: key.secret for name, key in setup.keys.items()}
         self.sets = []
 
-    def reply(self, request, moment, words):
-        """The reply to a request, and whether the machine was reached."""
+    def reply(self, request, moment, draws):
+        """The reply to a request, and how many entries the machine made for it."""
         path = request.target.partition(b"?")[0].decode("latin-1")
         if path not in ASKERS:
-            return reply_bytes(404, last=request.last), False
+            return reply_bytes(404, last=request.last), 0
         if request.method != b"POST":
-            return reply_bytes(405, last=request.last, allow="POST"), False
+            return reply_bytes(405, last=request.last, allow="POST"), 0
         try:
             key, asked = self.asked(path, request, moment)
         except Refused as refused:
             status, form = error_form(refused.code)
-            return reply_bytes(status, compact(form).encode(), request.last), False
-        status, form = self.registered(key, asked, words) if path == "/resource" else self.resolved(asked)
-        return reply_bytes(status, compact(form).encode(), request.last), True
+            return reply_bytes(status, compact(form).encode(), request.last), 0
+        status, form = self.registered(key, asked, words_of(draws, 0)) if path == "/resource" else self.resolved(asked)
+        return reply_bytes(status, compact(form).encode(), request.last), 1
 
     def asked(self, path, request, moment):
         """Who asks, and for which rights or which reference."""

@@ -8,6 +8,7 @@ import re
 
 import as_server
 import client_side
+import derived_side
 import http_forms
 import replays
 import resource_side
@@ -183,23 +184,25 @@ def verify(world, config, now, name):
     return print_answer(world, name, lambda request: b"key " + verified(request, setup.base, secrets, now).encode() + b"\n")
 
 
-def serve(world, config, listen, workers, quota, service=as_server.Service):
+def serve(world, config, listen, workers, quota, pairs=None, service=as_server.Service):
     """One worker after another: where there are several, the order in which their calls come makes no difference to any reply."""
     argument(config), argument(listen)
     workers, quota = number(workers, 1, 64), number(quota, 0, 1_000_000)
+    pairs = None if pairs is None else argument(pairs)
     setup = world.config(config)
+    servers = None if pairs is None else world.config(pairs, derived_side.pairs_reader(setup))
     world.open()
     gears = world.case.get("gears", [])
     if listen != "a" or len(gears) != workers or any(len(gear["connections"]) > quota for gear in gears):
         raise Stop(4)
-    served_by = service(setup)
+    served_by = service(setup) if servers is None else derived_side.DerivingService(setup, servers)
     answers = [as_server.served(world, served_by, gear) for gear in gears]
     world.served = [connections for connections, _ in answers]
     return 4 if any(failed for _, failed in answers) else 0
 
 
 def serve_sets(world, *words):
-    return serve(world, *words, sets_server.SetServer)
+    return serve(world, *words, service=sets_server.SetServer)
 
 
 def serve_resources(world, config, listen, server, quota, *cache):
@@ -260,7 +263,7 @@ def load(world, grants, start, workers):
 
 
 COMMANDS = {
-    "replay": (replay, 1), "field": (field, 2), "sign": (sign, 4, 5), "verify": (verify, 3), "as": (serve, 4), "sets": (serve_sets, 4), "rs": (serve_resources, 4, 5), "client": (client, 3), "hash": (print_hash, 5), "load": (load, 3),
+    "replay": (replay, 1), "field": (field, 2), "sign": (sign, 4, 5), "verify": (verify, 3), "as": (serve, 4, 5), "sets": (serve_sets, 4), "rs": (serve_resources, 4, 5), "client": (client, 3), "hash": (print_hash, 5), "load": (load, 3),
 }
 
 

@@ -8,6 +8,7 @@ import json
 from pathlib import Path
 
 import client_cases
+import derived_cases
 import edge_cases
 import generated_histories
 import http_cases
@@ -33,7 +34,7 @@ from worlds import outcome
 def cases():
     for module in (
         http_cases, edge_cases, outside_cases, rights_cases, line_cases, mark_cases, rotation_cases, marked_histories, rotated_histories, written_cases,
-        client_cases, resource_cases, set_cases,
+        client_cases, resource_cases, set_cases, derived_cases,
     ):
         yield from module.cases()
     yield from run_cases.cases(scripted_grants.RUNS + scripted_interactions.RUNS)

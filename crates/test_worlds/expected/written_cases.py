@@ -4,6 +4,7 @@ from client_cases import CONFIG_TEXT
 from resource_cases import RS_TEXT
 from outside_cases import SETUP_TEXT, UNSIGNED
 from http_cases import latin
+from rights import compact
 
 NO_FIELD = "not in the grammar\n"
 
@@ -47,9 +48,25 @@ SIGN_USAGE = """usage:
 VERIFY_USAGE = """usage:
   gnap verify CONFIG NOW FILE  prints which key of the setup signed the request in FILE, at the moment NOW (0 to 253402300799, seconds since 1970)
 """
+AS_USAGE = """usage:
+  gnap as CONFIG LISTEN WORKERS QUOTA  serves the setup in CONFIG over HTTP, by WORKERS (1 to 64), each for QUOTA connections (0 to 1000000)
+  gnap as CONFIG LISTEN WORKERS QUOTA PAIRS  the same, and derives tokens for the servers in PAIRS from those presented to them
+"""
+SETS_USAGE = """usage:
+  gnap sets CONFIG LISTEN WORKERS QUOTA  has the servers in CONFIG register sets of rights over HTTP, by WORKERS (1 to 64), each for QUOTA connections
+"""
 REPLAY_USAGE = """usage:
   gnap replay FILE            answers the calls in FILE, whose first line is a setup
 """
+
+NO_PAIRS = "gnap: f has no pairs of the setup: "
+CLIENT_FORM = "the id of a key of the setup in the role `client`, which no other pair has"
+SERVER_FORM = "the id of a key of the setup in the role `server`"
+
+
+def pair(client, server, **more):
+    return compact({"pairs": [{"client": client, "server": server, **more}]})
+
 
 # The words, the text of the file f, and what a person is told.
 TOLD = [
@@ -63,6 +80,19 @@ TOLD = [
     (["sign", "s", "k", "0", "g"], "x", "gnap: s or g can't be opened or read\n"),
     (["field", "item", "f"], "1.", "gnap: f isn't a valid field\n"),
     (["as", "s", "b", "1", "1"], "x", "gnap: s or b can't be opened or read\n"),
+    (["as", "s", "b", "1", "1", "f"], pair("c1", "r1"), "gnap: s, f or b can't be opened or read\n"),
+    (["as", "f", "a", "1", "1", "s"], "{}", "gnap: f is no setup: member `base` is missing\n"),
+    (["as", "s", "a", "1", "1", "f"], "{}", NO_PAIRS + "member `pairs` is missing\n"),
+    (["as", "s", "a", "1", "1", "f"], "[", NO_PAIRS + NO_JSON),
+    (["as", "s", "a", "1", "1", "f"], "[]", NO_PAIRS + "it is JSON, but no object\n"),
+    (["as", "s", "a", "1", "2", "f"], '{"pairs":[]}', NO_PAIRS + "member `pairs` isn't of its form: an array of 1 to 256 objects\n"),
+    (["as", "s", "a", "1", "3", "f"], pair("r1", "r1"), NO_PAIRS + f"member `client` isn't of its form: {CLIENT_FORM}\n"),
+    (["as", "s", "a", "1", "4", "f"], pair("c1", "c1"), NO_PAIRS + f"member `server` isn't of its form: {SERVER_FORM}\n"),
+    (["as", "s", "a", "1", "5", "f"], pair("c1", "r1", x=1), NO_PAIRS + "member `x` isn't known here\n"),
+    (["as", "s", "a", "0", "1", "f"], "x", "gnap: `0` is no number of workers (1 to 64)\n" + AS_USAGE),
+    (["as", "s", "a", "1", "1", "-f"], "x", "gnap: `-f` is no argument: an argument isn't empty, and doesn't begin with `-`\n" + AS_USAGE),
+    (["as", "s", "a", "1"], "x", "gnap: `as` takes 4 or 5 words after it, and there are 3\n" + AS_USAGE),
+    (["sets", "s", "a", "1", "1", "f"], "x", "gnap: `sets` takes 4 words after it, and there are 5\n" + SETS_USAGE),
     (["client", "f", "a", "s"], "{}", "gnap: f is no configuration: member `server` is missing\n"),
     (["client", "f", "a", "s"], CONFIG_TEXT, "gnap: line 1: member `at` is missing\ngnap: a line of s wasn't ok\n"),
     (["client", "g", "a", "f"], "x", "gnap: g, a or f can't be opened or read\n"),

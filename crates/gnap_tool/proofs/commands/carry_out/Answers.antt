@@ -12,11 +12,8 @@ returns-in-Sign-clause-carried g c =
     (g.W.World.state c.args.world.now) (g.W.World.state c.sign.new.world) (g.O.Device.told c.args.out.now) (g.O.Device.told c.sign.new.out) c.sign.result in
     carried_as _ _ _ _ _ c.in-Sign.is _ _ _ (subst N c.as_ref-nonce.ensures.value c.sign.ensures.carried)
 
-pub returns-in-As-clause-carried : goal.returns-in-As-clause-carried
-returns-in-As-clause-carried g c = carried_as _ _ _ _ _ c.in-As.is _ _ _ (c.serve.ensures.carried (g.O.Device.told c.args.out.now))
-
-pub returns-in-Sets-clause-carried : goal.returns-in-Sets-clause-carried
-returns-in-Sets-clause-carried g c = carried_as _ _ _ _ _ c.in-Sets.is _ _ _ (c.serve_sets.ensures.carried (g.O.Device.told c.args.out.now))
+pub returns-in-Serve-clause-carried : goal.returns-in-Serve-clause-carried
+returns-in-Serve-clause-carried g c = carried_as _ _ _ _ _ c.in-Serve.is _ _ _ (c.serve.ensures.carried (g.O.Device.told c.args.out.now))
 
 pub returns-in-Rs-clause-carried : goal.returns-in-Rs-clause-carried
 returns-in-Rs-clause-carried g c = carried_as _ _ _ _ _ c.in-Rs.is _ _ _ (c.serve_rs.ensures.carried (g.O.Device.told c.args.out.now))

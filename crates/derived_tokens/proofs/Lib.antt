@@ -1,0 +1,5 @@
+pub mod Openings
+pub mod Terms
+pub mod Turning
+pub mod DerivedEntries
+pub mod ServedDeriving

@@ -1,0 +1,6 @@
+pub mod Terms
+pub mod DerivingSetups
+pub mod Answering
+pub mod DerivedTurns
+pub mod DerivedSessions
+pub mod DerivedServices

@@ -1,0 +1,3 @@
+pub mod MembersAgain
+pub mod RepliesAgain
+pub mod IntrospectionsAgain

@@ -1,0 +1,2 @@
+pub mod GrantReplies
+pub mod Introspections
