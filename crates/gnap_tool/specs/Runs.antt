@@ -133,7 +133,7 @@ CarriesOut (Client config address script) text before after out out_now ended =
     Linked between after (Unopened out out_now ended) (λ link opened.
     Over (text script) opened after (Unopened out out_now ended × (link.asked ≡ [])) (λ taken rest. RunsClient parts taken rest link.asked out out_now ended)))
 CarriesOut (Hash texts) text before after out out_now ended = (after ≡ before) × PrintsHash texts out out_now ended
-CarriesOut (Load grants start workers) text before after out out_now ended = (after ≡ before) × PrintsLoad grants workers out out_now ended
+CarriesOut (Load grants start workers) text before after out out_now ended = (after ≡ before) × PrintsLoad grants start workers out out_now ended
 
 -- the same, of the status that says how it ended
 pub record Carries (command : Command) (text : List ℕ → Option (List ℕ)) (before after : WorldState) (out out_now : Told) (status : ℕ) : Type 0 where
