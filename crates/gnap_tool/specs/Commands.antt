@@ -219,6 +219,20 @@ IsWithinRanges (Client config address script) = Unit {0}
 IsWithinRanges (Hash texts) = Unit {0}
 IsWithinRanges (Load grants start workers) = (1 ≤ workers) × (workers ≤ 64)
 
+-- ---- whom they wait for
+
+-- whether a command has workers: then threads are started, and a worker may wait for its turn at what they share
+abbrev pub has_workers : Command → Bool
+has_workers (Replay file) = false
+has_workers (Field kind file) = false
+has_workers (Sign config key created file _) = false
+has_workers (Verify config now file) = false
+has_workers (Serve service served) = true
+has_workers (Rs config listen server quota cache) = false
+has_workers (Client config address script) = false
+has_workers (Hash texts) = false
+has_workers (Load grants start workers) = true
+
 -- ---- what they open
 
 -- what is opened behind the setup that is served

@@ -12,9 +12,6 @@ returns-in-Sign-clause-carried g c =
     (g.W.World.state c.args.world.now) (g.W.World.state c.sign.new.world) (g.O.Device.told c.args.out.now) (g.O.Device.told c.sign.new.out) c.sign.result in
     carried_as _ _ _ _ _ c.in-Sign.is _ _ _ (subst N c.as_ref-nonce.ensures.value c.sign.ensures.carried)
 
-pub returns-in-Serve-clause-carried : goal.returns-in-Serve-clause-carried
-returns-in-Serve-clause-carried g c = carried_as _ _ _ _ _ c.in-Serve.is _ _ _ (c.serve.ensures.carried (g.O.Device.told c.args.out.now))
-
 pub returns-in-Rs-clause-carried : goal.returns-in-Rs-clause-carried
 returns-in-Rs-clause-carried g c = carried_as _ _ _ _ _ c.in-Rs.is _ _ _ (c.serve_rs.ensures.carried (g.O.Device.told c.args.out.now))
 
@@ -24,10 +21,3 @@ returns-in-Hash-clause-carried g c = carried_as _ _ _ _ _ c.in-Hash.is _ _ _ (re
 pub returns-in-Hash-clause-world : goal.returns-in-Hash-clause-world
 returns-in-Hash-clause-world g c =
     used_as _ _ _ _ _ c.in-Hash.is (nothing_used (g.W.World.state c.args.world.now) c.print_hash.result c.print_hash.ensures.prints.1)
-
-pub returns-in-Load-clause-carried : goal.returns-in-Load-clause-carried
-returns-in-Load-clause-carried g c = carried_as _ _ _ _ _ c.in-Load.is _ _ _ (refl, c.print_load.ensures.prints)
-
-pub returns-in-Load-clause-world : goal.returns-in-Load-clause-world
-returns-in-Load-clause-world g c =
-    used_as _ _ _ _ _ c.in-Load.is (nothing_used (g.W.World.state c.args.world.now) c.print_load.result c.print_load.ensures.prints.1)
