@@ -22,7 +22,7 @@ use Rattle.world_uses.specs.Uses.{ended_by_fault, Over, Unopened, HasNoConfig, E
 -- ---- how the reading of a setup ends
 
 -- something may be left
-some_rest : (told : Told) → (rest : List ℕ) × IsRest told rest
+pub some_rest : (told : Told) → (rest : List ℕ) × IsRest told rest
 some_rest told = at told.left refl
   where
     at : (left : Option (List ℕ)) → told.left ≡ left → (rest : List ℕ) × IsRest told rest

@@ -8,8 +8,18 @@ use Rattle.command_inputs.specs.declared.ended.Ended.TheVariants.{Done, TooLong}
 use Rattle.gnap_tool.specs.Commands.{input_place}
 use Rattle.command_inputs.specs.Ends.{status_of}
 use Rattle.world_uses.specs.Uses.{UsesWorld, InputTook}
+use Rattle.gnap_tool.specs.Completeness.{NothingWentWrong, IsCompleted}
+use Rattle.gnap_tool.proofs.Completing.{completes}
 use Rattle.world_uses.proofs.Uses.{failed_at_4, full_at_8, whole_at_0, to_end_at_0}
 use Rattle.gnap_tool.proofs.commands.run.Goals as goal
+
+-- where nothing went wrong in a command, in a world and with a count that are the same
+right_at : (command named : Command) (before between after : WorldState) (count count_between count_now : ℕ) → command ≡ named → before ≡ between → count ≡ count_between
+    → NothingWentWrong command before after count count_now → NothingWentWrong named between after count_between count_now
+right_at command named before between after count count_between count_now same was counted right =
+    subst (λ (n : ℕ). NothingWentWrong named between after n count_now) counted
+    (subst (λ (w : WorldState). NothingWentWrong named w after count count_now) was
+    (subst (λ (k : Command). NothingWentWrong k before after count count_now) same right))
 
 -- what was done to a world that was left as it was, was done to the first one
 used_first : (openings : List Opening) (input : Option ℕ) (before between after : WorldState) (ended : Ended) → between ≡ before
@@ -54,3 +64,14 @@ returns-in-Err-clause-to_end g c = λ is.
     let ended = c.carry_out_with_workers-ended.result in
     let uses = used_first _ _ _ _ _ ended (ap g.W.World.state c.in-Err.ensures.untouched.0) c.carry_out_with_workers-ended.ensures.world in
     to_end_at_0 _ _ _ _ ended uses (sym c.status_of.ensures ∙ is)
+
+pub returns-in-Err-clause-complete : goal.returns-in-Err-clause-complete
+returns-in-Err-clause-complete g c = λ command found right.
+    let ended = c.carry_out_with_workers-ended.result in
+    let both : Some c.in-Err.command ≡ Some command = sym c.in-Err.ensures.left.0 ∙ found in
+    let same : c.in-Err.command ≡ command = cc in
+    let was = ap g.W.World.state c.in-Err.ensures.untouched.0 in
+    let counted = ap g.O.Counted.faults c.in-Err.ensures.untouched.1 in
+    subst IsCompleted (sym c.status_of.ensures)
+    (completes _ _ _ _ _ _ _ _ ended c.carry_out_with_workers-ended.ensures.carried c.carry_out_with_workers-ended.ensures.world
+    c.carry_out_with_workers-ended.ensures.writes (right_at _ _ _ _ _ _ _ _ (sym same) (sym was) (sym counted) right))

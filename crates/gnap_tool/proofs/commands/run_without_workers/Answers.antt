@@ -6,6 +6,8 @@ use Rattle.gnap_tool.specs.Commands.{openings_of, input_place}
 use Rattle.command_inputs.specs.Ends.{status_of}
 use Rattle.world_uses.specs.Uses.{InputTook}
 use Rattle.world_uses.proofs.Uses.{back-none, unopened_sound, failed_at_4, full_at_8, whole_at_0, to_end_at_0}
+use Rattle.gnap_tool.specs.Completeness.{NothingWentWrong, IsCompleted}
+use Rattle.gnap_tool.proofs.Completing.{completes}
 use Rattle.gnap_tool.proofs.EachCommand.{starved_carries}
 use Rattle.gnap_tool.proofs.commands.run_without_workers.Goals as goal
 
@@ -55,3 +57,15 @@ carry_out-requires-clause-ranges g c κs within = c.in-Ok.ensures.ranges
 
 pub returns-in-Some-clause-to_end : goal.returns-in-Some-clause-to_end
 returns-in-Some-clause-to_end g c = λ is. to_end_at_0 _ _ _ _ c.in-Some.ended c.in-Some.ensures.world (sym c.status_of.ensures ∙ is)
+
+pub returns-in-Some-clause-complete : goal.returns-in-Some-clause-complete
+returns-in-Some-clause-complete g c = λ command found right.
+    let both : Some c.in-Ok.command ≡ Some command = sym c.in-Ok.ensures.read ∙ found in
+    let same : c.in-Ok.command ≡ command = cc in
+    let P : Command → Type 0 = λ k.
+    NothingWentWrong k (g.W.World.state c.args.world.now) (g.W.World.state c.carry_out.new.world) (g.O.Counted.faults c.args.out.now) (g.O.Counted.faults c.carry_out.new.out) in
+    subst IsCompleted (sym c.status_of.ensures)
+    (completes _ _ _ _ _ _ _ _ c.in-Some.ended c.in-Some.ensures.carried c.in-Some.ensures.world c.in-Some.ensures.writes (subst P (sym same) right))
+
+pub returns-in-Err-OutOfMemory-clause-complete : goal.returns-in-Err-OutOfMemory-clause-complete
+returns-in-Err-OutOfMemory-clause-complete g c = λ command found right. inr (inr refl)
