@@ -71,7 +71,7 @@ returns-in-Err-clause-complete g c = λ command found right.
     let both : Some c.in-Err.command ≡ Some command = sym c.in-Err.ensures.left.0 ∙ found in
     let same : c.in-Err.command ≡ command = cc in
     let was = ap g.W.World.state c.in-Err.ensures.untouched.0 in
-    let counted = ap g.O.Counted.faults c.in-Err.ensures.untouched.1 in
+    let counted = ap g.O.Device.faults c.in-Err.ensures.untouched.1 in
     subst IsCompleted (sym c.status_of.ensures)
     (completes _ _ _ _ _ _ _ _ ended c.carry_out_with_workers-ended.ensures.carried c.carry_out_with_workers-ended.ensures.world
     c.carry_out_with_workers-ended.ensures.writes (right_at _ _ _ _ _ _ _ _ (sym same) (sym was) (sym counted) right))
