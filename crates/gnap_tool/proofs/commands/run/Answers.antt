@@ -54,3 +54,9 @@ returns-in-Err-clause-to_end g c = λ is.
     let ended = c.carry_out_with_workers-ended.result in
     let uses = used_first _ _ _ _ _ ended (ap g.W.World.state c.in-Err.ensures.untouched.0) c.carry_out_with_workers-ended.ensures.world in
     to_end_at_0 _ _ _ _ ended uses (sym c.status_of.ensures ∙ is)
+
+pub carry_out_with_workers-ended-requires-clause-ranges : goal.carry_out_with_workers-ended-requires-clause-ranges
+carry_out_with_workers-ended-requires-clause-ranges g c κs within = c.in-Err.ensures.ranges
+
+pub carry_out_with_workers-ended-requires-clause-workers : goal.carry_out_with_workers-ended-requires-clause-workers
+carry_out_with_workers-ended-requires-clause-workers g c κs within = c.in-Err.ensures.left.1
