@@ -75,3 +75,9 @@ returns-in-Err-clause-complete g c = λ command found right.
     subst IsCompleted (sym c.status_of.ensures)
     (completes _ _ _ _ _ _ _ _ ended c.carry_out_with_workers-ended.ensures.carried c.carry_out_with_workers-ended.ensures.world
     c.carry_out_with_workers-ended.ensures.writes (right_at _ _ _ _ _ _ _ _ (sym same) (sym was) (sym counted) right))
+
+pub carry_out_with_workers-ended-requires-clause-ranges : goal.carry_out_with_workers-ended-requires-clause-ranges
+carry_out_with_workers-ended-requires-clause-ranges g c κs within = c.in-Err.ensures.ranges
+
+pub carry_out_with_workers-ended-requires-clause-workers : goal.carry_out_with_workers-ended-requires-clause-workers
+carry_out_with_workers-ended-requires-clause-workers g c κs within = c.in-Err.ensures.left.1

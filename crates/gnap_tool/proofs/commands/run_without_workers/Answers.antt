@@ -52,9 +52,6 @@ returns-in-Err-OutOfMemory-clause-carries g c = λ command found. record { ended
 pub returns-in-Err-OutOfMemory-clause-given_back : goal.returns-in-Err-OutOfMemory-clause-given_back
 returns-in-Err-OutOfMemory-clause-given_back g c = λ command found. back-none (openings_of command) _ _ refl
 
-pub carry_out-requires-clause-ranges : goal.carry_out-requires-clause-ranges
-carry_out-requires-clause-ranges g c κs within = c.in-Ok.ensures.ranges
-
 pub returns-in-Some-clause-to_end : goal.returns-in-Some-clause-to_end
 returns-in-Some-clause-to_end g c = λ is. to_end_at_0 _ _ _ _ c.in-Some.ended c.in-Some.ensures.world (sym c.status_of.ensures ∙ is)
 
