@@ -1,7 +1,8 @@
 //! Serving at an address where tokens are derived.
-ghost use Rattle.std.specs.Prelude.{◌≡◌, ◌≤◌};
+ghost use Rattle.std.specs.Prelude.{◌≡◌, ◌≤◌, true, IfOk};
 ghost use Rattle.gnap_objects.specs.Setups.{IsSetup};
 ghost use Rattle.derivation_requests.specs.Pairs.{ArePairs};
+ghost use Rattle.serving.specs.ServiceEnds.{HaveServedJust};
 ghost use Rattle.as_service.specs.DerivedServices.{IsDerivingService};
 
 use as_requests::Edge;
@@ -40,6 +41,7 @@ pub fn serve_deriving_at<R: Threads + Wait + Sync, W: World>(
     requires pairs { ArePairs setup pairs }
     ensures text { W.text world.new ≡ W.text world.old }
     ensures served { IsDerivingService pairs setup address.now workers quota (W.state world.old) (W.state world.new) result }
+    ensures quota { W.gives_quota ≡ true → IfOk result (λ _. HaveServedJust quota (W.state world.new).gears) }
 {
     let Ok(rules) = setup.copy() else {
         return Err(WorldFault::OutOfMemory);

@@ -10,7 +10,7 @@ use Rattle.gnap_tool.specs.declared.command.Command.{Command}
 use Rattle.gnap_tool.specs.declared.command.Command.TheVariants.{Replay, Field, Sign, Verify, Serve, Rs, Client, Hash, Load}
 use Rattle.gnap_tool.specs.declared.purpose.Purpose.{Purpose}
 use Rattle.gnap_tool.specs.declared.purpose.Purpose.TheVariants as purposes
-use Rattle.gnap_tool.specs.Commands.{openings_of, input_place}
+use Rattle.gnap_tool.specs.Commands.{openings_of, quota_of, input_place}
 use Rattle.gnap_tool.specs.Runs.{CarriesOut, input_of}
 use Rattle.world_uses.specs.Uses.{UsesWorld}
 
@@ -41,3 +41,6 @@ module _ (named : Command) (before after : WorldState) (ended : Ended) (command 
 
   pub used_as : UsesWorld (openings_of named) (input_place named) before after ended → UsesWorld (openings_of command) (input_place command) before after ended
   used_as uses = subst (λ (c : Command). UsesWorld (openings_of c) (input_place c) before after ended) (sym is) uses
+
+  pub quota_as : (P : Option ℕ → Type 0) → P (quota_of named) → P (quota_of command)
+  quota_as P holds = subst (λ (c : Command). P (quota_of c)) (sym is) holds

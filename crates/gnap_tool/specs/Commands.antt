@@ -253,6 +253,18 @@ openings_of (Client config address script) = File config ∷ Link address ∷ Fi
 openings_of (Hash texts) = []
 openings_of (Load grants start workers) = []
 
+-- how many connections each gear of a command is to serve
+abbrev pub quota_of : Command → Option ℕ
+quota_of (Replay file) = None
+quota_of (Field kind file) = None
+quota_of (Sign config key created file _) = None
+quota_of (Verify config now file) = None
+quota_of (Serve service served) = Some served.quota
+quota_of (Rs config listen server quota cache) = Some quota
+quota_of (Client config address script) = None
+quota_of (Hash texts) = None
+quota_of (Load grants start workers) = None
+
 -- which of the files that a command opens is the input that may be too long, counted from 0; none where it has no such input
 abbrev pub input_place : Command → Option ℕ
 input_place (Replay file) = Some 0

@@ -257,6 +257,9 @@ module _ {X S : Type 0} (view : X → S) (read : List ℕ → Option S) (text : 
   pub unread_used : (openings more : List Opening) (input : Option ℕ) → UsesWorld openings None before between ended → UsesWorld (openings ++ more) input before between ended
   unread_used openings more input uses = uses_stopped openings more input before between ended uses (stopped view read text before between ended config)
 
+  pub unread_isnt_done : ended ≢ Done
+  unread_isnt_done is = not_done ended (stopped view read text before between ended config) (inl is)
+
   pub unread_writes : (faults : ℕ) → CountsWrites ended faults faults
   unread_writes faults = stopped_writes ended faults (stopped view read text before between ended config)
 

@@ -1,8 +1,10 @@
 use Rattle.std.proofs.Common.{ℕ, List, Option, subst, refl}
+use Rattle.std.specs.Prelude.{IfSome}
+use Rattle.serving.specs.ServiceEnds.{HaveServedJust}
 use Rattle.gnap_tool.specs.declared.command.Command.TheVariants.{Sign}
 use Rattle.gnap_tool.specs.Runs.{CarriesOut}
 use Rattle.world_uses.proofs.Uses.{nothing_used}
-use Rattle.gnap_tool.proofs.EachCommand.{carried_as, used_as}
+use Rattle.gnap_tool.proofs.EachCommand.{carried_as, used_as, quota_as}
 use Rattle.gnap_tool.proofs.commands.carry_out.Goals as goal
 
 pub returns-in-Sign-clause-carried : goal.returns-in-Sign-clause-carried
@@ -21,3 +23,8 @@ returns-in-Hash-clause-carried g c = carried_as _ _ _ _ _ c.in-Hash.is _ _ _ (re
 pub returns-in-Hash-clause-world : goal.returns-in-Hash-clause-world
 returns-in-Hash-clause-world g c =
     used_as _ _ _ _ _ c.in-Hash.is (nothing_used (g.W.World.state c.args.world.now) c.print_hash.result c.print_hash.ensures.prints.1)
+
+pub returns-in-Rs-clause-quota : goal.returns-in-Rs-clause-quota
+returns-in-Rs-clause-quota g c = λ gives well.
+    let P : Option ℕ → Type 0 = λ o. IfSome o (λ quota. HaveServedJust quota (g.W.World.state c.serve_rs.new.world).gears) in
+    quota_as _ (g.W.World.state c.args.world.now) (g.W.World.state c.serve_rs.new.world) c.serve_rs.result _ c.in-Rs.is P (c.serve_rs.ensures.quota gives well)

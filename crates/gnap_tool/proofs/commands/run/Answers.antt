@@ -1,16 +1,17 @@
 use Rattle.std.proofs.Common.{◌≡◌, ℕ, List, ◌∙◌, ap, sym, subst, inl, inr}
-use Rattle.std.specs.Prelude.{Option, Some, IsSome}
+use Rattle.std.specs.Prelude.{Option, Some, IsSome, IfSome}
 use Rattle.gnap_io.specs.Worlds.{WorldState}
 use Rattle.gnap_io.specs.declared.world.Opening.{Opening}
 use Rattle.gnap_tool.specs.declared.command.Command.{Command}
 use Rattle.command_inputs.specs.declared.ended.Ended.{Ended}
 use Rattle.command_inputs.specs.declared.ended.Ended.TheVariants.{Done, TooLong}
-use Rattle.gnap_tool.specs.Commands.{input_place}
+use Rattle.serving.specs.ServiceEnds.{HaveServedJust}
+use Rattle.gnap_tool.specs.Commands.{quota_of, input_place}
 use Rattle.command_inputs.specs.Ends.{status_of}
 use Rattle.world_uses.specs.Uses.{UsesWorld, InputTook}
 use Rattle.gnap_tool.specs.Completeness.{NothingWentWrong, IsCompleted}
 use Rattle.gnap_tool.proofs.Completing.{completes}
-use Rattle.world_uses.proofs.Uses.{failed_at_4, full_at_8, whole_at_0, to_end_at_0}
+use Rattle.world_uses.proofs.Uses.{failed_at_4, full_at_8, whole_at_0, to_end_at_0, done_at_0}
 use Rattle.gnap_tool.proofs.commands.run.Goals as goal
 
 -- where nothing went wrong in a command, in a world and with a count that are the same
@@ -81,3 +82,10 @@ carry_out_with_workers-ended-requires-clause-ranges g c κs within = c.in-Err.en
 
 pub carry_out_with_workers-ended-requires-clause-workers : goal.carry_out_with_workers-ended-requires-clause-workers
 carry_out_with_workers-ended-requires-clause-workers g c κs within = c.in-Err.ensures.left.1
+
+pub returns-in-Err-clause-quota : goal.returns-in-Err-clause-quota
+returns-in-Err-clause-quota g c = λ gives is command found.
+    let both : Some c.in-Err.command ≡ Some command = sym c.in-Err.ensures.left.0 ∙ found in
+    let same : c.in-Err.command ≡ command = cc in
+    let P : Command → Type 0 = λ k. IfSome (quota_of k) (λ quota. HaveServedJust quota (g.W.World.state c.carry_out_with_workers-ended.new.world).gears) in
+    subst P same (c.carry_out_with_workers-ended.ensures.quota gives (done_at_0 c.carry_out_with_workers-ended.result (sym c.status_of.ensures ∙ is)))

@@ -1,11 +1,12 @@
 use Rattle.std.proofs.Common.{◌≡◌, ◌∙◌, ap, sym, subst, refl, inl, inr}
-use Rattle.std.specs.Prelude.{Some, IsSome}
+use Rattle.std.specs.Prelude.{Some, IsSome, IfSome}
+use Rattle.serving.specs.ServiceEnds.{HaveServedJust}
 use Rattle.gnap_tool.specs.declared.command.Command.{Command}
 use Rattle.command_inputs.specs.declared.ended.Ended.TheVariants.{Done, Memory, TooLong}
-use Rattle.gnap_tool.specs.Commands.{openings_of, input_place}
+use Rattle.gnap_tool.specs.Commands.{openings_of, quota_of, input_place}
 use Rattle.command_inputs.specs.Ends.{status_of}
 use Rattle.world_uses.specs.Uses.{InputTook}
-use Rattle.world_uses.proofs.Uses.{back-none, unopened_sound, failed_at_4, full_at_8, whole_at_0, to_end_at_0}
+use Rattle.world_uses.proofs.Uses.{back-none, unopened_sound, failed_at_4, full_at_8, whole_at_0, to_end_at_0, done_at_0}
 use Rattle.gnap_tool.specs.Completeness.{NothingWentWrong, IsCompleted}
 use Rattle.gnap_tool.proofs.Completing.{completes}
 use Rattle.gnap_tool.proofs.EachCommand.{starved_carries}
@@ -66,3 +67,10 @@ returns-in-Some-clause-complete g c = λ command found right.
 
 pub returns-in-Err-OutOfMemory-clause-complete : goal.returns-in-Err-OutOfMemory-clause-complete
 returns-in-Err-OutOfMemory-clause-complete g c = λ command found right. inr (inr refl)
+
+pub returns-in-Some-clause-quota : goal.returns-in-Some-clause-quota
+returns-in-Some-clause-quota g c = λ gives is command found.
+    let both : Some c.in-Ok.command ≡ Some command = sym c.in-Ok.ensures.read ∙ found in
+    let same : c.in-Ok.command ≡ command = cc in
+    let P : Command → Type 0 = λ k. IfSome (quota_of k) (λ quota. HaveServedJust quota (g.W.World.state c.carry_out.new.world).gears) in
+    subst P same (c.in-Some.ensures.quota gives (done_at_0 c.in-Some.ended (sym c.status_of.ensures ∙ is)))
