@@ -51,18 +51,6 @@ def filled(front, pieces, joint, back=b"", most=MOST_HEAD):
     return bytes(text + back)
 
 
-def shuffled(pieces):
-    """The same in another order, which is the same in each run."""
-    return sorted(itertools.islice(pieces, 5_000), key=lambda name: hash_of(name))
-
-
-def hash_of(name):
-    number = 0
-    for letter in name:
-        number = (number * 1_103_515_245 + ord(letter) + 12_345) % 2**31
-    return number
-
-
 def parts():
     """The head of a grant request up to its signature's fields, and what stands behind these."""
     request = grant_request()
@@ -85,6 +73,11 @@ def params(key="c1"):
 
 def listed(key="c1"):
     return f"sig1={COVERED}{params(key)}"
+
+
+def many_items(item):
+    """A list of one item, as often as it has room."""
+    return with_input("sig1=(", itertools.repeat(item), " ", ")" + params())
 
 
 def with_signature(pieces, joint):
@@ -134,18 +127,17 @@ CASES = {
     "wrong": lambda: unsigned(grant_request()),
     "members": lambda: with_input("", names(), ","),
     "members-descending": lambda: with_input("", reversed(list(itertools.islice(names(), 4_000))), ","),
-    "members-shuffled": lambda: with_input("", shuffled(names()), ","),
-    "members-behind": lambda: with_input(listed() + ",", names(), ","),
+    "members-bytes": lambda: with_input("", (f"{name}=::" for name in names()), ","),
+    "members-params": lambda: with_input("", (f"{name};a" for name in names()), ","),
     "members-alike": lambda: with_input("", names(2, "a" * 13, LETTERS_AND_DIGITS), ","),
     "members-long": lambda: with_input("", names(2, "a" * 60, LETTERS_AND_DIGITS), ","),
     "members-again": lambda: with_input("", itertools.chain(itertools.islice(names(), 2_000), itertools.cycle(["acw"])), ","),
     "lists": lambda: with_input("", (f"{name}=()" for name in names()), ","),
     "params": lambda: with_input(listed() + ";", names(), ";"),
     "params-unknown-key": lambda: with_input(listed("zz") + ";", names(), ";"),
-    "params-shuffled": lambda: with_input(listed() + ";", shuffled(names()), ";"),
     "params-alike": lambda: with_input(listed() + ";", names(2, "a" * 13, LETTERS_AND_DIGITS), ";"),
-    "items": lambda: with_input("sig1=(", itertools.repeat("a"), " ", ")" + params()),
-    "items-alike": lambda: with_input(f"sig1={COVERED[:-1]} ", itertools.repeat('"x"'), " ", ")" + params()),
+    "items": lambda: many_items("a"),
+    "items-params": lambda: many_items("a;a"),
     "covered-absent": covering_absent_fields,
     "covered-fields": covering_fields,
     "covered-long": covering_long_field,
