@@ -35,10 +35,10 @@ gear_served_just state (g ∷ []) first after failed quota one is unused full al
 gear_served_just state (g ∷ h ∷ gears) first after failed quota one is unused full all failed_is unfailed = absurd (omega (arith, one))
 
 -- the same of the gears that a world took back before a link
-pub just_back : (quota : ℕ) (link : LinkState) (gears : List GearState) (started stopped after : WorldState) → stopped ≡ with_gears gears started
-    → after ≡ with_link link stopped → HaveServedJust quota gears → HaveServedJust quota after.gears
-just_back quota link gears started stopped after gears_back link_back just =
-    subst (HaveServedJust quota) (sym (ap (λ (s : WorldState). s.gears) link_back ∙ ap (λ (s : WorldState). s.gears) gears_back)) just
+pub just_back : (quota : ℕ) (link : LinkState) (gears : List GearState) (stopped after : WorldState) → stopped.gears ≡ gears → after ≡ with_link link stopped
+    → HaveServedJust quota gears → HaveServedJust quota after.gears
+just_back quota link gears stopped after gears_back link_back just =
+    subst (HaveServedJust quota) (sym (ap (λ (s : WorldState). s.gears) link_back ∙ gears_back)) just
 
 module _ {K : Type 0} (guards : GuardsKeeping K) (setup : RsSetup) (kept kept_now : K) (link : LinkState) where
   pub one_gear : (before after : GearState) (gears : List GearState) (failed : Bool) → gears ≡ after ∷ [] → IsUnused before

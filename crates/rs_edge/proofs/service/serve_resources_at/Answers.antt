@@ -1,3 +1,5 @@
+use Rattle.std.proofs.Common.{ap}
+use Rattle.gnap_io.specs.Worlds.{WorldState}
 use Rattle.rs_edge.specs.RsServices.{not_linked}
 use Rattle.rs_edge.proofs.OneGear.{as_told, served_failed, served_well, unstarted, just_back}
 use Rattle.rs_edge.proofs.service.serve_resources_at.Goals as goal
@@ -24,5 +26,6 @@ returns-else-failed-clause-served g c = served_well g.K.RequestGuard.guards c.ar
 
 pub returns-else-failed-clause-quota : goal.returns-else-failed-clause-quota
 returns-else-failed-clause-quota g c = λ gives.
-    just_back c.args.quota _ _ _ _ _ c.stop_gears.ensures.state c.close_link-in-Ok-start_gears.ensures.state
+    just_back c.args.quota _ _ (g.W.World.state c.stop_gears.new.self) _ (ap (λ (s : WorldState). s.gears) c.stop_gears.ensures.state)
+    c.close_link-in-Ok-start_gears.ensures.state
     (c.serve_gear-gears.ensures.just c.args.quota (c.in-Ok-start_gears.ensures.quota gives) c.if-failed.false)
