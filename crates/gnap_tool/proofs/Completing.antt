@@ -129,7 +129,7 @@ has_setup why (Replay file) text before after out out_now holds (inr is) =
     let held = holds is.0 (first_placed before after is.0 [] is.1) in
     ((is.3 held.1.0 held.1.1).by_setup held.0 held.1.2).one.each.0.ends
 has_setup why (Field kind file) text before after out out_now holds carried = no_file why before after out out_now _ _ (λ taken rest prints. prints.ends) carried
-has_setup why (Sign config key created file nonce) text before after out out_now holds carried =
+has_setup why (Sign config key created file _) text before after out out_now holds carried =
     no_by_setup why before after out out_now setup_in (text config) _
     (λ first between setup one reads over. no_file why between after out out_now _ _ (λ taken rest prints. prints.ends) over)
     (first_holds setup_in before after holds) carried
@@ -159,7 +159,7 @@ has_setup why (Load grants start workers) text before after out out_now holds ca
 
 -- ---- no file that is too long
 
-none_limited : IsSome (None {T = ℕ}) → ⊥
+none_limited : IsSome {T = ℕ} None → ⊥
 none_limited is = absurd cc
 
 long_apart : (TooLong ≡ Failed) ⊎ (TooLong ≡ Memory) → ⊥
@@ -208,7 +208,7 @@ module _ (before after : WorldState) (short : (place : ℕ) (file : Served) → 
       → CarriesOut command text before after out out_now TooLong → ⊥
   fits (Replay file) text out out_now uses carried = one_file _ out out_now (text file) _ uses carried
   fits (Field kind file) text out out_now uses carried = one_file _ out out_now (text file) _ uses carried
-  fits (Sign config key created file nonce) text out out_now uses carried = none_limited (uses.limited refl)
+  fits (Sign config key created file _) text out out_now uses carried = none_limited (uses.limited refl)
   fits (Verify config now file) text out out_now uses carried = none_limited (uses.limited refl)
   fits (Serve service served) text out out_now uses carried = none_limited (uses.limited refl)
   fits (Rs config listen server quota cache) text out out_now uses carried = none_limited (uses.limited refl)
