@@ -37,7 +37,7 @@ ServiceHasSetup Sets before after = HoldsAt 0 setup_in before after
 abbrev pub HasItsSetup : Command → WorldState → WorldState → Type 0
 HasItsSetup (Replay file) before after = HoldsAt 0 (λ text. setup_in (first_of (lines_of text))) before after
 HasItsSetup (Field kind file) before after = Unit {0}
-HasItsSetup (Sign config key created file nonce) before after = HoldsAt 0 setup_in before after
+HasItsSetup (Sign config key created file _) before after = HoldsAt 0 setup_in before after
 HasItsSetup (Verify config now file) before after = HoldsAt 0 setup_in before after
 HasItsSetup (Serve service served) before after = ServiceHasSetup service before after
 HasItsSetup (Rs config listen server quota cache) before after = HoldsAt 0 rs_setup_in before after

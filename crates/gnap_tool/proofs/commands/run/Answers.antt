@@ -2,15 +2,17 @@ use Rattle.std.proofs.Common.{◌≡◌, ℕ, List, ◌∙◌, ap, sym, subst, i
 use Rattle.std.specs.Prelude.{Option, Some, IsSome, IfSome}
 use Rattle.gnap_io.specs.Worlds.{WorldState}
 use Rattle.gnap_io.specs.declared.world.Opening.{Opening}
+use Rattle.gnap_io.specs.Openings.{Gives}
 use Rattle.gnap_tool.specs.declared.command.Command.{Command}
 use Rattle.command_inputs.specs.declared.ended.Ended.{Ended}
 use Rattle.command_inputs.specs.declared.ended.Ended.TheVariants.{Done, TooLong}
 use Rattle.serving.specs.ServiceEnds.{HaveServedJust}
-use Rattle.gnap_tool.specs.Commands.{quota_of, input_place}
+use Rattle.gnap_tool.specs.Commands.{openings_of, quota_of, input_place}
 use Rattle.command_inputs.specs.Ends.{status_of}
 use Rattle.world_uses.specs.Uses.{UsesWorld, InputTook}
 use Rattle.gnap_tool.specs.Completeness.{NothingWentWrong, IsCompleted}
 use Rattle.gnap_tool.proofs.Completing.{completes}
+use Rattle.gnap_tool.proofs.EachCommand.{all_at_0}
 use Rattle.world_uses.proofs.Uses.{failed_at_4, full_at_8, whole_at_0, to_end_at_0, done_at_0}
 use Rattle.gnap_tool.proofs.commands.run.Goals as goal
 
@@ -48,6 +50,16 @@ returns-in-Err-clause-full g c = λ is command found.
     let P : Command → Type 0 = λ k.
     IsSome (input_place k) × InputTook TooLong (input_place k) (g.W.World.state c.args.world.now) (g.W.World.state c.carry_out_with_workers-ended.new.world) in
     subst P same (full_at_8 _ _ _ _ ended uses (sym c.status_of.ensures ∙ is))
+
+pub returns-in-Err-clause-all : goal.returns-in-Err-clause-all
+returns-in-Err-clause-all g c = λ is command found.
+    let ended = c.carry_out_with_workers-ended.result in
+    let uses = used_first _ _ _ _ _ ended (ap g.W.World.state c.in-Err.ensures.untouched.0) c.carry_out_with_workers-ended.ensures.world in
+    let both : Some c.in-Err.command ≡ Some command = sym c.in-Err.ensures.left.0 ∙ found in
+    let same : c.in-Err.command ≡ command = cc in
+    let P : Command → Type 0 = λ k. Gives (openings_of k) (g.W.World.state c.args.world.now) (g.W.World.state c.carry_out_with_workers-ended.new.world) in
+    subst P same (all_at_0 _ _ _ _ ended uses
+    (elim is [ inl zero ↦ inl (sym c.status_of.ensures ∙ zero) | inr seven ↦ inr (sym c.status_of.ensures ∙ seven) ]))
 
 pub returns-in-Err-clause-whole : goal.returns-in-Err-clause-whole
 returns-in-Err-clause-whole g c = λ is command found.
