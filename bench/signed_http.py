@@ -94,17 +94,17 @@ def first_reply(held):
 
 class Served:
     """`gnap as`, or another command with its words, over a setup at a free port of this machine, behind the words of a program that runs it; with pairs where
-    their text is given. The options are those of `subprocess.Popen`."""
+    their text is given, and of another program where one is named. The options are those of `subprocess.Popen`."""
 
-    def __init__(self, workers, quota, under=(), command="as", setup=SETUP, pairs=None, **options):
+    def __init__(self, workers, quota, under=(), command="as", setup=SETUP, pairs=None, program=None, **options):
         self.folder = tempfile.TemporaryDirectory()
-        config, paired = self.file("setup.json", setup), [] if pairs is None else [self.file("pairs.json", pairs)]
+        self.config, paired = self.file("setup.json", setup), [] if pairs is None else [self.file("pairs.json", pairs)]
         with socket.socket() as probe:
             probe.bind(("127.0.0.1", 0))
             self.address = probe.getsockname()
         listen = f"{self.address[0]}:{self.address[1]}"
-        program = os.environ.get("GNAP", os.path.join(TOP, "gnap"))
-        self.process = subprocess.Popen([*under, program, command, config, listen, str(workers), str(quota), *paired], **options)
+        program = program or os.environ.get("GNAP", os.path.join(TOP, "gnap"))
+        self.process = subprocess.Popen([*under, program, command, self.config, listen, str(workers), str(quota), *paired], **options)
 
     def file(self, name, text):
         path = os.path.join(self.folder.name, name)

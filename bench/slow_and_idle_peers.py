@@ -1,21 +1,28 @@
 #!/usr/bin/env python3
-"""How long a connection waits for `gnap as` behind slow, idle and too many others, and what signals and a want of descriptors do.
+"""How long a connection waits for `gnap as` behind slow, idle and too many others, what signals and a want of descriptors do, and how long `gnap client` waits
+for a connection that nobody answers.
 
     bench/slow_and_idle_peers.py
 
-Takes some 80 seconds, and ends with status 1 where a wait is longer than docs/PROMISES.md says. The program is ./gnap, or the one that GNAP names.
+Takes some 90 seconds, and ends with status 1 where a wait is longer than docs/PROMISES.md says. The program is ./gnap, or the one that GNAP names.
 What it says on standard error is shown.
 """
 
+import json
 import os
 import resource
 import signal
+import socket
+import subprocess
 import sys
+import tempfile
 import threading
 import time
 
-from signed_http import Served, first_reply
+from signed_http import BASE, SECRETS, TOP, Served, first_reply, text_of
 
+CLIENT = {"server": BASE, "resource": "https://rs.example", "id": "c1", "secret": text_of(SECRETS["c1"])}
+LINE = {"at": 1_000, "do": "begin", "nonce": "n1", "body": {"access_token": {"access": ["photos"]}, "client": "c1"}}
 REQUEST = b"GET /x HTTP/1.1\r\nHost: as.example\r\n\r\n"
 FAULTS = []
 
@@ -97,11 +104,11 @@ def signals():
 def descriptors():
     served = started(16, 1000, preexec_fn=lambda: resource.setrlimit(resource.RLIMIT_NOFILE, (12, 12)))
     conns = [served.connect() for _ in range(30)]
-    time.sleep(5)
+    time.sleep(15)
     for conn in conns:
         conn.close()
     waited = asked(served)[1]
-    show("a connection after 5 seconds without a descriptor", waited, 1)
+    show("a connection after 15 seconds without a descriptor", waited, 1)
     with open(f"/proc/{served.process.pid}/status") as file:
         threads = next(int(line.split()[1]) for line in file if line.startswith("Threads:"))
     demand("and no worker has ended", threads == 16)
@@ -134,8 +141,29 @@ def slow():
     served.stop()
 
 
+def unanswered():
+    """A listener whose queue is full drops what would make a further connection."""
+    with socket.socket() as listener, socket.socket() as first, tempfile.TemporaryDirectory() as folder:
+        listener.bind(("127.0.0.1", 0))
+        listener.listen(0)
+        host, port = listener.getsockname()
+        first.connect((host, port))
+        config, script = os.path.join(folder, "client.json"), os.path.join(folder, "script")
+        for path, value in ((config, CLIENT), (script, LINE)):
+            with open(path, "w") as file:
+                json.dump(value, file)
+        start = time.monotonic()
+        ended = subprocess.run([os.environ.get("GNAP", os.path.join(TOP, "gnap")), "client", config, f"{host}:{port}", script], stdout=subprocess.PIPE)
+        waited = time.monotonic() - start
+    show("an exchange of gnap client at an address that answers nothing", waited, 61)
+    demand("and it tells that the link failed", ended.returncode == 7 and b"LinkFault" in ended.stdout)
+
+
+meanwhile = threading.Thread(target=unanswered)
+meanwhile.start()
 idle()
 signals()
 descriptors()
 slow()
+meanwhile.join()
 sys.exit(1 if FAULTS else 0)

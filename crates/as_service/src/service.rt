@@ -1,6 +1,7 @@
 //! Serving at an address.
-ghost use Rattle.std.specs.Prelude.{◌≡◌, ◌≤◌};
+ghost use Rattle.std.specs.Prelude.{◌≡◌, ◌≤◌, true, IfOk};
 ghost use Rattle.gnap_objects.specs.Setups.{IsSetup};
+ghost use Rattle.serving.specs.ServiceEnds.{HaveServedJust};
 ghost use Rattle.as_service.specs.Services.{IsService};
 
 use as_edge::AuthorizationServer;
@@ -37,6 +38,7 @@ pub fn serve_at<R: Threads + Wait + Sync, W: World>(
     requires setup { IsSetup setup }
     ensures text { W.text world.new ≡ W.text world.old }
     ensures served { IsService setup address.now workers quota (W.state world.old) (W.state world.new) result }
+    ensures quota { W.gives_quota ≡ true → IfOk result (λ _. HaveServedJust quota (W.state world.new).gears) }
 {
     let Ok(rules) = setup.copy() else {
         return Err(WorldFault::OutOfMemory);

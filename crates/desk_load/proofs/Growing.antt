@@ -10,10 +10,14 @@ use Rattle.gnap_model.specs.declared.calls.Reply.{Reply}
 use Rattle.gnap_model.specs.declared.objects.Setup.{Setup}
 use Rattle.signed_calls.specs.declared.signed.Signed.{Signed}
 use Rattle.grant_machine.specs.Gnap.{gnap, GnapEntry}
+use Rattle.rand_chacha.specs.ChaCha.{ChaCha}
+use Rattle.desk_load.specs.declared.progress.Progress.{Progress}
 use Rattle.desk_load.specs.declared.tally.Tally.{Tally}
 use Rattle.desk_load.specs.LoadCalls.{load_moment, marked, unmarked, opening_place, rotation_place, cancellation_place, opening_call, question_about, rotation_of, cancellation_of, calls_after, calls_through}
 use Rattle.desk_load.specs.Tallies.{count_by, one_if_active, one_if_inactive, one_if_done, tally_of, tally_of_reply, none_counted, Adds}
-use Rattle.desk_load.specs.Loads.{HasRoom, Grows, Asks, PutsThrough, EndsGrant, IsPutThrough, IsPart, IsShare}
+use Rattle.desk_load.specs.Words.{Drawn, draw_from, after_words}
+use Rattle.desk_load.specs.Loads.{HasRoom, Grows, Asks, PutsThrough, EndsGrant, IsPutThrough, IsPart, IsShare, IsDrawnShare, DoesShare, begun}
+use Rattle.desk_load.proofs.Drawing.{drawn-append, have_draws}
 
 count-append : (one : Reply → ℕ) (h k : List GnapEntry) → count_by one (h ++ k) ≡ count_by one h + count_by one k
 count-append one [] k = omega arith
@@ -39,10 +43,10 @@ adds-one e reply t u is counted = record {
 
 -- ---- entries more
 
-pub grows-none : (n : ℕ) (seen : List GnapEntry → Type 0) (h : List GnapEntry) (t : Tally) → seen h → Grows n seen h t t []
-grows-none n seen h t s = record { history = h; seen_now = s; own = sym (append-nil (own_of n h)); counted = adds-none t }
+pub grows-none : (n : ℕ) (seen : List GnapEntry → Type 0) (h : List GnapEntry) (t : Progress) → seen h → Grows n seen h t t []
+grows-none n seen h t s = record { history = h; seen_now = s; own = sym (append-nil (own_of n h)); drawn = refl; counted = adds-none t.tally }
 
-abbrev grows-then : (n n' : ℕ) (seen seen' : List GnapEntry → Type 0) (h : List GnapEntry) (t u v : Tally) (es fs : List GnapEntry)
+abbrev grows-then : (n n' : ℕ) (seen seen' : List GnapEntry → Type 0) (h : List GnapEntry) (t u v : Progress) (es fs : List GnapEntry)
     → n' ≡ n → (first : Grows n seen h t u es) → Grows n' seen' first.history u v fs → Grows n seen' h t v (es ++ fs)
 grows-then n n' seen seen' h t u v es fs same first second =
     let own : own_of n second.history ≡ own_of n first.history ++ fs
@@ -51,13 +55,15 @@ grows-then n n' seen seen' h t u v es fs same first second =
       history = second.history;
       seen_now = second.seen_now;
       own = own ∙ ap (λ x. x ++ fs) first.own ∙ append_assoc (own_of n h) es fs;
-      counted = adds-append es fs t u v first.counted second.counted;
+      drawn = drawn-append es fs t.words.generator u.words.generator v.words.generator first.drawn second.drawn;
+      counted = adds-append es fs t.tally u.tally v.tally first.counted second.counted;
     }
 
 -- a call that was entered and counted
-pub asks-entered : (rules : Setup) (n : ℕ) (h : List GnapEntry) (draw : List ℕ) (call : Signed) (reply : Reply) (seen : List GnapEntry → Type 0) (t u : Tally)
-    → Enters gnap rules n h 1000000 draw call reply seen → Adds (tally_of_reply reply) t u → Asks call reply n seen h t u
-asks-entered rules n h draw call reply seen t u e counted =
+pub asks-entered : (rules : Setup) (n : ℕ) (h : List GnapEntry) (draw : List ℕ) (call : Signed) (reply : Reply) (seen : List GnapEntry → Type 0) (t u : Progress)
+    → Enters gnap rules n h 1000000 draw call reply seen → draw ≡ draw_from t.words.generator → u.words.generator ≡ after_words 48 t.words.generator
+    → Adds (tally_of_reply reply) t.tally u.tally → Asks call reply n seen h t u
+asks-entered rules n h draw call reply seen t u e drawn after counted =
     let made : GnapEntry = entry_of gnap rules (h ++ e.others) n 1000000 draw call in
     let replied : made.reply ≡ reply = sym e.reply_is in
     record {
@@ -69,7 +75,8 @@ asks-entered rules n h draw call reply seen t u e counted =
         history = h ++ e.others ++ made ∷ [];
         seen_now = e.seen_now;
         own = own-next n h e.others made e.not_mine refl;
-        counted = adds-one made reply t u replied counted;
+        drawn = (drawn, after);
+        counted = adds-one made reply t.tally u.tally replied counted;
       };
     }
 
@@ -80,7 +87,7 @@ less-room n n' seen m m' same less room =
     let left = room.2 in
     (room.0, room.1, subst (λ k. length (places k room.0) + m' < 2 ^ 52) (sym same) (omega (arith, left, less)))
 
-pub room-after : (n n' : ℕ) (seen seen' : List GnapEntry → Type 0) (call : Signed) (reply : Reply) (t u : Tally) (m : ℕ) → n' ≡ n
+pub room-after : (n n' : ℕ) (seen seen' : List GnapEntry → Type 0) (call : Signed) (reply : Reply) (t u : Progress) (m : ℕ) → n' ≡ n
     → HasRoom n seen (m + 1) → ((h : List GnapEntry) → seen h → Asks call reply n seen' h t u) → HasRoom n' seen' m
 room-after n n' seen seen' call reply t u m same room asks =
     let a = asks room.0 room.1 in
@@ -101,14 +108,14 @@ none_at : All (λ (x : GnapEntry). x.moment ≡ load_moment) []
 none_at k d lt = absurd (let lt' : k < 0 = lt in omega (arith, lt'))
 
 -- the number that two desks have
-asks-of : (call : Signed) (reply : Reply) (n n' : ℕ) (seen : List GnapEntry → Type 0) (h : List GnapEntry) (t u : Tally) → n' ≡ n → Asks call reply n' seen h t u → Asks call reply n seen h t u
+asks-of : (call : Signed) (reply : Reply) (n n' : ℕ) (seen : List GnapEntry → Type 0) (h : List GnapEntry) (t u : Progress) → n' ≡ n → Asks call reply n' seen h t u → Asks call reply n seen h t u
 asks-of call reply n n' seen h t u same asks = subst (λ k. Asks call reply k seen h t u) same asks
 
-pub not_ended : (grant : ℕ) (opened rotated : Reply) (n : ℕ) (seen : List GnapEntry → Type 0) (h : List GnapEntry) (t : Tally) → seen h
+pub not_ended : (grant : ℕ) (opened rotated : Reply) (n : ℕ) (seen : List GnapEntry → Type 0) (h : List GnapEntry) (t : Progress) → seen h
     → PutsThrough (EndsGrant false grant opened rotated) n seen h t t
 not_ended grant opened rotated n seen h t s = record { entries = []; is_done = record { calls = refl; moments = none_at }; grows = grows-none n seen h t s }
 
-module _ (grant n n1 n2 : ℕ) (s0 s1 s2 : List GnapEntry → Type 0) (t0 t1 t2 : Tally) (opened rotated r1 r2 : Reply) (same1 : n1 ≡ n)
+module _ (grant n n1 n2 : ℕ) (s0 s1 s2 : List GnapEntry → Type 0) (t0 t1 t2 : Progress) (opened rotated r1 r2 : Reply) (same1 : n1 ≡ n)
     (ask1 : (h : List GnapEntry) → s0 h → Asks (marked grant cancellation_place (cancellation_of opened)) r1 n s1 h t0 t1)
     (ask2 : (h : List GnapEntry) → s1 h → Asks (unmarked (question_about rotated)) r2 n1 s2 h t1 t2) where
   pub ended : (h : List GnapEntry) → s0 h → PutsThrough (EndsGrant true grant opened rotated) n s2 h t0 t2
@@ -122,7 +129,7 @@ module _ (grant n n1 n2 : ℕ) (s0 s1 s2 : List GnapEntry → Type 0) (t0 t1 t2 
         grows = grows-then n n s1 s2 h t0 t1 t2 (a.entry ∷ []) (b.entry ∷ []) refl a.grows b.grows;
       }
 
-module _ (grant n n1 n2 n3 n4 n5 : ℕ) (s0 s1 s2 s3 s4 s5 s6 : List GnapEntry → Type 0) (t0 t1 t2 t3 t4 t5 t6 : Tally) (ends : Bool) (opened r2 rotated r4 r5 : Reply)
+module _ (grant n n1 n2 n3 n4 n5 : ℕ) (s0 s1 s2 s3 s4 s5 s6 : List GnapEntry → Type 0) (t0 t1 t2 t3 t4 t5 t6 : Progress) (ends : Bool) (opened r2 rotated r4 r5 : Reply)
     (same1 : n1 ≡ n) (same2 : n2 ≡ n1) (same3 : n3 ≡ n2) (same4 : n4 ≡ n3) (same5 : n5 ≡ n4)
     (ask1 : (h : List GnapEntry) → s0 h → Asks (marked grant opening_place opening_call) opened n s1 h t0 t1)
     (ask2 : (h : List GnapEntry) → s1 h → Asks (unmarked (question_about opened)) r2 n1 s2 h t1 t2)
@@ -164,10 +171,10 @@ module _ (grant n n1 n2 n3 n4 n5 : ℕ) (s0 s1 s2 s3 s4 s5 s6 : List GnapEntry �
 
 -- ---- a share
 
-pub part-none : (grant n : ℕ) (seen : List GnapEntry → Type 0) (h : List GnapEntry) (t : Tally) → seen h → PutsThrough (IsPart false grant) n seen h t t
+pub part-none : (grant n : ℕ) (seen : List GnapEntry → Type 0) (h : List GnapEntry) (t : Progress) → seen h → PutsThrough (IsPart false grant) n seen h t t
 part-none grant n seen h t s = record { entries = []; is_done = refl; grows = grows-none n seen h t s }
 
-pub share-next : (workers worker grant n n' : ℕ) (seen seen' : List GnapEntry → Type 0) (h : List GnapEntry) (t u v : Tally) → n' ≡ n
+pub share-next : (workers worker grant n n' : ℕ) (seen seen' : List GnapEntry → Type 0) (h : List GnapEntry) (t u v : Progress) → n' ≡ n
     → (first : PutsThrough (IsShare workers worker grant) n seen h t u) → PutsThrough (IsPart (grant % workers == worker) grant) n' seen' first.grows.history u v
     → PutsThrough (IsShare workers worker (grant + 1)) n seen' h t v
 share-next workers worker grant n n' seen seen' h t u v same first second =
@@ -178,21 +185,35 @@ share-next workers worker grant n n' seen seen' h t u v same first second =
       grows = grows-then n n' seen seen' h t u v first.entries second.entries same first.grows second.grows;
     }
 
+-- who began with the first draw has done its share with its words
+pub share-done : (grants start workers worker n : ℕ) (seen : List GnapEntry → Type 0) (h : List GnapEntry) (t : Progress)
+    → PutsThrough (IsShare workers worker grants) n seen h (begun start worker) t → DoesShare grants start workers worker n seen h t.tally
+share-done grants start workers worker n seen h t p = record {
+  entries = p.entries;
+  is_done = record { share = p.is_done; draws = have_draws start worker 0 p.entries t.words.generator p.grows.drawn };
+  history = p.grows.history;
+  seen_now = p.grows.seen_now;
+  own = p.grows.own;
+  counted = p.grows.counted;
+}
+
 -- ---- what was seen by whom alone tells
 
 pub if-ok-then : {T E : Type 0} (r : Result T E) (P Q : T → Type 0) → IfOk r P → ((x : T) → P x → Q x) → IfOk r Q
 if-ok-then (Ok x) P Q p f = f x p
 if-ok-then (Err e) P Q p f = tt
 
-module _ (P : List GnapEntry → Type 0) (n n' : ℕ) (same : n ≡ n') (seen : List GnapEntry → Type 0) (k : List GnapEntry) (one : (h : List GnapEntry) → seen h → h ≡ k) where
+module _ (grants start workers worker n n' : ℕ) (same : n ≡ n') (seen : List GnapEntry → Type 0) (k : List GnapEntry)
+    (one : (h : List GnapEntry) → seen h → h ≡ k) where
   -- who has seen nothing before has done all of its entries
-  pub own-done : (t : Tally) → PutsThrough P n seen [] none_counted t → P (own_of n' k) × Adds (tally_of (own_of n' k)) none_counted t
+  pub own-done : (t : Tally) → DoesShare grants start workers worker n seen [] t
+      → IsDrawnShare grants start workers worker (own_of n' k) × Adds (tally_of (own_of n' k)) none_counted t
   own-done t p =
-      let whole : own_of n k ≡ p.entries = ap (own_of n) (sym (one p.grows.history p.grows.seen_now)) ∙ p.grows.own in
+      let whole : own_of n k ≡ p.entries = ap (own_of n) (sym (one p.history p.seen_now)) ∙ p.own in
       let here : own_of n' k ≡ p.entries = subst (λ m. own_of m k ≡ p.entries) same whole in
-      (subst P (sym here) p.is_done, subst (λ l. Adds (tally_of l) none_counted t) (sym here) p.grows.counted)
+      (subst (IsDrawnShare grants start workers worker) (sym here) p.is_done, subst (λ l. Adds (tally_of l) none_counted t) (sym here) p.counted)
 
 -- the same of a call that is made by this definition
-pub asks-as : (made call : Signed) (reply : Reply) (n : ℕ) (seen seen' : List GnapEntry → Type 0) (t u : Tally) → made ≡ call
+pub asks-as : (made call : Signed) (reply : Reply) (n : ℕ) (seen seen' : List GnapEntry → Type 0) (t u : Progress) → made ≡ call
     → ((h : List GnapEntry) → seen h → Asks made reply n seen' h t u) → (h : List GnapEntry) → seen h → Asks call reply n seen' h t u
 asks-as made call reply n seen seen' t u same asks h s = subst (λ k. Asks k reply n seen' h t u) same (asks h s)

@@ -16,7 +16,7 @@ use Rattle.gnap_model.specs.declared.calls.Reply.{Reply}
 use Rattle.grant_machine.specs.Gnap.{gnap, GnapEntry}
 use Rattle.desk_load.specs.declared.tally.Tally.{Tally}
 use Rattle.desk_load.specs.LoadCalls.{load_setup}
-use Rattle.desk_load.specs.Loads.{IsLoad, IsShare, PutsThrough, shares_from}
+use Rattle.desk_load.specs.Loads.{IsLoad, IsDrawnShare, DoesShare, shares_from}
 use Rattle.desk_load.specs.Sharing.{WorkerState, IsSameWorker, IsWorker, AreWorkers, HasCounted, HasDone, HaveDone}
 use Rattle.desk_load.specs.Tallies.{count_by, one_if_active, one_if_inactive, one_if_done, tally_of, none_counted, Adds, sum_by_tally, sum_of_tallies}
 
@@ -84,9 +84,9 @@ abbrev pub EachIsSame : List WorkerState → List WorkerState → Type 0
 EachIsSame before after = (i : ℕ) (d : WorkerState) → i < length before → IsSameWorker (slice_index_or before i d) (slice_index_or after i d)
 
 -- whose work leaves what they are
-pub same_workers : (core : Sharing Setup) (grants : ℕ) (before after : List WorkerState) → EachIsSame before after → length after ≡ length before
-    → AreWorkers core grants before → AreWorkers core grants after
-same_workers core grants before after each long are = record {
+pub same_workers : (core : Sharing Setup) (grants start : ℕ) (before after : List WorkerState) → EachIsSame before after → length after ≡ length before
+    → AreWorkers core grants start before → AreWorkers core grants start after
+same_workers core grants start before after each long are = record {
   count = long ∙ are.count;
   each = λ k w e.
       let at = at_index after k w e in
@@ -97,6 +97,7 @@ same_workers core grants before after each long are = record {
         home = same.home ∙ was.home;
         number = same.number ∙ was.number;
         grants_are = same.grants ∙ was.grants_are;
+        start_is = same.start ∙ was.start_is;
         workers_are = same.workers ∙ was.workers_are;
         worker_is = same.worker ∙ was.worker_is;
       };
@@ -107,13 +108,14 @@ written_back n before after long size =
     ap (λ l. take n (after ++ l)) (drop_of_length-le before (omega (arith, long))) ∙ ap (take n) (append-nil after) ∙ take_all n after (omega (arith, long, size))
 
 -- what a worker has counted is of its number
-pub counted-as : (core : Sharing Setup) (grants k : ℕ) (w : WorkerState) (seen : List GnapEntry) (tally : Tally) → IsWorker core grants k w
-    → HasCounted w.grants w.workers w.worker w.station.number seen tally → HasCounted grants core.count k k seen tally
-counted-as core grants k w seen tally is c =
-    subst (λ a. HasCounted a core.count k k seen tally) is.grants_are
-    (subst (λ a. HasCounted w.grants a k k seen tally) is.workers_are
-    (subst (λ a. HasCounted w.grants w.workers a k seen tally) is.worker_is
-    (subst (λ a. HasCounted w.grants w.workers w.worker a seen tally) is.number c)))
+pub counted-as : (core : Sharing Setup) (grants start k : ℕ) (w : WorkerState) (seen : List GnapEntry) (tally : Tally) → IsWorker core grants start k w
+    → HasCounted w.grants w.start w.workers w.worker w.station.number seen tally → HasCounted grants start core.count k k seen tally
+counted-as core grants start k w seen tally is c =
+    subst (λ a. HasCounted a start core.count k k seen tally) is.grants_are
+    (subst (λ a. HasCounted w.grants a core.count k k seen tally) is.start_is
+    (subst (λ a. HasCounted w.grants w.start a k k seen tally) is.workers_are
+    (subst (λ a. HasCounted w.grants w.start w.workers a k seen tally) is.worker_is
+    (subst (λ a. HasCounted w.grants w.start w.workers w.worker a seen tally) is.number c))))
 
 -- ---- tallies added up
 
@@ -177,18 +179,18 @@ from_all one field i (t ∷ tallies) h each others =
 
 -- ---- accounts
 
-meet_shares : (grants workers i n : ℕ) (h : List GnapEntry) → ((k : ℕ) → k < n → IsShare workers (i + k) grants (own_of (i + k) h))
-    → AllMeet i (shares_from grants workers i n) h
-meet_shares grants workers i zero h each = tt
-meet_shares grants workers i (suc n) h each = (
-  subst (λ j. IsShare workers j grants (own_of j h)) (add-zero i) (each 0 (omega arith)),
-  meet_shares grants workers (suc i) n h
-      (λ k lt. subst (λ j. IsShare workers j grants (own_of j h)) (let same : i + suc k ≡ suc i + k = omega arith in same) (each (suc k) (omega (arith, lt)))),
+meet_shares : (grants start workers i n : ℕ) (h : List GnapEntry) → ((k : ℕ) → k < n → IsDrawnShare grants start workers (i + k) (own_of (i + k) h))
+    → AllMeet i (shares_from grants start workers i n) h
+meet_shares grants start workers i zero h each = tt
+meet_shares grants start workers i (suc n) h each = (
+  subst (λ j. IsDrawnShare grants start workers j (own_of j h)) (add-zero i) (each 0 (omega arith)),
+  meet_shares grants start workers (suc i) n h
+      (λ k lt. subst (λ j. IsDrawnShare grants start workers j (own_of j h)) (let same : i + suc k ≡ suc i + k = omega arith in same) (each (suc k) (omega (arith, lt)))),
 )
 
-shares_many : (grants workers i n : ℕ) → length (shares_from grants workers i n) ≡ n
-shares_many grants workers i zero = refl
-shares_many grants workers i (suc n) = ap suc (shares_many grants workers (suc i) n)
+shares_many : (grants start workers i n : ℕ) → length (shares_from grants start workers i n) ≡ n
+shares_many grants start workers i zero = refl
+shares_many grants start workers i (suc n) = ap suc (shares_many grants start workers (suc i) n)
 
 below : (n : ℕ) (h : List GnapEntry) → ((k : ℕ) → n ≤ k → NoneOf k h) → Below n h
 below n [] others = tt
@@ -197,8 +199,8 @@ below n (e ∷ h) others =
     (omega (arith, not_above), below n h (λ k at. (others k at).1))
 
 -- all passes came back
-pub all_back : (core : Sharing Setup) (grants : ℕ) (passes : List (PassState Setup GnapEntry)) (total : Tally) → HaveDone core grants passes total → AreAll core passes
-all_back core grants passes total done = record {
+pub all_back : (core : Sharing Setup) (grants start : ℕ) (passes : List (PassState Setup GnapEntry)) (total : Tally) → HaveDone core grants start passes total → AreAll core passes
+all_back core grants start passes total done = record {
   count = ap length (sym done.passes_are) ∙ length-map done.reports (λ (r : PassState Setup GnapEntry × Tally). r.0) ∙ done.count;
   each = λ k p e.
       let r = from_map (λ (r : PassState Setup GnapEntry × Tally). r.0) done.reports k p (ap (λ l. get_elem? l k) done.passes_are ∙ e) in
@@ -206,14 +208,14 @@ all_back core grants passes total done = record {
       subst (λ (q : PassState Setup GnapEntry). IsPassOf core q × (q.number ≡ k)) r.2 (here.of, here.number);
 }
 
-module _ (core : Sharing Setup) (grants workers : ℕ) (passes : List (PassState Setup GnapEntry)) (total : Tally) (h : List GnapEntry)
-    (rules : core.rules ≡ load_setup) (many : core.count ≡ workers) (done : HaveDone core grants passes total)
+module _ (core : Sharing Setup) (grants start workers : ℕ) (passes : List (PassState Setup GnapEntry)) (total : Tally) (h : List GnapEntry)
+    (rules : core.rules ≡ load_setup) (many : core.count ≡ workers) (done : HaveDone core grants start passes total)
     (legal : Legal gnap core.rules h) (joins : Joined (map (λ (p : PassState Setup GnapEntry). p.seen) passes) h) where
   abbrev Report : Type 0
   Report = PassState Setup GnapEntry × Tally
 
   as_many : length passes ≡ core.count
-  as_many = (all_back core grants passes total done).count
+  as_many = (all_back core grants start passes total done).count
 
   own_at : (k : ℕ) (r : Report) → get_elem? done.reports k ≡ some r → own_of k h ≡ own_of k r.0.seen
   own_at k r at =
@@ -227,12 +229,12 @@ module _ (core : Sharing Setup) (grants workers : ℕ) (passes : List (PassState
       let b = as_many in
       omega (arith, a, b, at))
 
-  share_at : (k : ℕ) → k < core.count → IsShare core.count (0 + k) grants (own_of (0 + k) h)
+  share_at : (k : ℕ) → k < core.count → IsDrawnShare grants start core.count (0 + k) (own_of (0 + k) h)
   share_at k lt =
       let r = there_is done.reports k (subst (λ n. k < n) (sym done.count) lt) in
       let zeroed : k ≡ 0 + k = omega arith in
-      subst (λ j. IsShare core.count j grants (own_of j h)) zeroed
-      (subst (λ l. IsShare core.count k grants l) (sym (own_at k r.0 r.1)) (done.each k r.0 r.1).counted.share)
+      subst (λ j. IsDrawnShare grants start core.count j (own_of j h)) zeroed
+      (subst (λ l. IsDrawnShare grants start core.count k l) (sym (own_at k r.0 r.1)) (done.each k r.0 r.1).counted.share)
 
   counted_at : (k : ℕ) (t : Tally) → get_elem? (map (λ (r : Report). r.1) done.reports) k ≡ some t → Adds (tally_of (own_of (0 + k) h)) none_counted t
   counted_at k t at =
@@ -258,31 +260,31 @@ module _ (core : Sharing Setup) (grants workers : ℕ) (passes : List (PassState
     done = counted_all one_if_done (λ t. t.done) (ap (λ (t : Tally). t.done) done.total_is) (λ k t at. (let a = (counted_at k t at).done in omega (arith, a)));
   }
 
-  pub is_load : IsLoad grants workers total
+  pub is_load : IsLoad grants start workers total
   is_load =
-      let here : IsLoad grants core.count total = record {
+      let here : IsLoad grants start core.count total = record {
         one = record {
           history = h;
           legal = subst (λ r. Legal gnap r h) rules legal;
-          numbers = below (length (shares_from grants core.count 0 core.count)) h (λ k at. others k (subst (λ n. n ≤ k) (shares_many grants core.count 0 core.count) at));
-          each = meet_shares grants core.count 0 core.count h share_at;
+          numbers = below (length (shares_from grants start core.count 0 core.count)) h (λ k at. others k (subst (λ n. n ≤ k) (shares_many grants start core.count 0 core.count) at));
+          each = meet_shares grants start core.count 0 core.count h share_at;
         };
         counted = counted;
       } in
-      subst (λ n. IsLoad grants n total) many here
+      subst (λ n. IsLoad grants start n total) many here
 
 -- ---- one report more
 
-module _ (core : Sharing Setup) (grants : ℕ) where
+module _ (core : Sharing Setup) (grants start : ℕ) where
   -- what came back so far, and that no total is too large
   pub record HaveDoneSoFar (passes : List (PassState Setup GnapEntry)) (total : Tally) : Type 0 where
     pub reports : List (PassState Setup GnapEntry × Tally)
     pub passes_are : map (λ r. r.0) reports ≡ passes
     pub total_is : total ≡ sum_of_tallies (map (λ r. r.1) reports)
-    pub each : (k : ℕ) (r : PassState Setup GnapEntry × Tally) → get_elem? reports k ≡ some r → HasDone core grants k r.0 r.1
+    pub each : (k : ℕ) (r : PassState Setup GnapEntry × Tally) → get_elem? reports k ≡ some r → HasDone core grants start k r.0 r.1
 
   pub done-next : (passes passes' : List (PassState Setup GnapEntry)) (pass : PassState Setup GnapEntry) (total total' tally : Tally)
-      → HaveDoneSoFar passes total → passes' ≡ passes ++ pass ∷ [] → Adds tally total total' → HasDone core grants (length passes) pass tally
+      → HaveDoneSoFar passes total → passes' ≡ passes ++ pass ∷ [] → Adds tally total total' → HasDone core grants start (length passes) pass tally
       → HaveDoneSoFar passes' total'
   done-next passes passes' pass total total' tally done pushed adds next =
       let long : length done.reports ≡ length passes = sym (length-map done.reports (λ (r : PassState Setup GnapEntry × Tally). r.0)) ∙ ap length done.passes_are in
@@ -291,7 +293,7 @@ module _ (core : Sharing Setup) (grants : ℕ) where
         passes_are = map-append (λ (r : PassState Setup GnapEntry × Tally). r.0) done.reports ((pass, tally) ∷ []) ∙ ap (λ l. l ++ pass ∷ []) done.passes_are ∙ sym pushed;
         total_is = sum-next (map (λ r. r.1) done.reports) tally total total' done.total_is adds
             ∙ ap sum_of_tallies (sym (map-append (λ (r : PassState Setup GnapEntry × Tally). r.1) done.reports ((pass, tally) ∷ [])));
-        each = each-next (λ k r. HasDone core grants k r.0 r.1) done.reports (pass, tally) done.each (subst (λ n. HasDone core grants n pass tally) (sym long) next);
+        each = each-next (λ k r. HasDone core grants start k r.0 r.1) done.reports (pass, tally) done.each (subst (λ n. HasDone core grants start n pass tally) (sym long) next);
       }
 
 below_one : (h : List GnapEntry) → EachOf 0 h → Below 1 h
@@ -299,17 +301,17 @@ below_one [] each = tt
 below_one (e ∷ h) each = (subst (λ n. n < 1) (sym each.0) (omega arith), below_one h each.1)
 
 -- who is alone has put the load through, in one history of its own
-pub load_of_one : (grants : ℕ) (tally : Tally) (seen : List GnapEntry → Type 0) (p : PutsThrough (IsShare 1 0 grants) 0 seen [] none_counted tally)
-    → EachOf 0 p.grows.history → Legal gnap load_setup p.grows.history → IsLoad grants 1 tally
-load_of_one grants tally seen p all legal =
-    let k : List GnapEntry = p.grows.history in
-    let whole : k ≡ p.entries = sym (own-all 0 k all) ∙ p.grows.own in
+pub load_of_one : (grants start : ℕ) (tally : Tally) (seen : List GnapEntry → Type 0) (p : DoesShare grants start 1 0 0 seen [] tally)
+    → EachOf 0 p.history → Legal gnap load_setup p.history → IsLoad grants start 1 tally
+load_of_one grants start tally seen p all legal =
+    let k : List GnapEntry = p.history in
+    let whole : k ≡ p.entries = sym (own-all 0 k all) ∙ p.own in
     record {
       one = record {
         history = k;
         legal = legal;
         numbers = below_one k all;
-        each = (subst (IsShare 1 0 grants) (sym p.grows.own) p.is_done, tt);
+        each = (subst (IsDrawnShare grants start 1 0) (sym p.own) p.is_done, tt);
       };
-      counted = subst (λ l. Adds (tally_of l) none_counted tally) (sym whole) p.grows.counted;
+      counted = subst (λ l. Adds (tally_of l) none_counted tally) (sym whole) p.counted;
     }

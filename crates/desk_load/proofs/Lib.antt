@@ -1,3 +1,4 @@
+mod Drawing
 mod Fitting
 mod Growing
 mod Joining

@@ -1,4 +1,5 @@
 pub mod LoadCalls
 pub mod Tallies
+pub mod Words
 pub mod Loads
 pub mod Sharing

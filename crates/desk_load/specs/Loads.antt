@@ -7,9 +7,11 @@ use Rattle.gnap_model.specs.declared.calls.Reply.{Reply}
 use Rattle.signed_calls.specs.declared.signed.Signed.{Signed}
 use Rattle.signed_calls.specs.Marks.{unmarked_lapse}
 use Rattle.grant_machine.specs.Gnap.{gnap, GnapEntry, SignedFits}
+use Rattle.desk_load.specs.declared.progress.Progress.{Progress}
 use Rattle.desk_load.specs.declared.tally.Tally.{Tally}
 use Rattle.desk_load.specs.LoadCalls.{load_moment, load_setup, calls_after, calls_through}
 use Rattle.desk_load.specs.Tallies.{none_counted, tally_of, Adds}
+use Rattle.desk_load.specs.Words.{HaveDraws, Drawn, generator_at}
 
 -- The grant with this number was put through by these entries: their calls are those that follow from the replies to the first and the third.
 pub record IsPutThrough (ends : Bool) (grant : ℕ) (entries : List GnapEntry) : Type 0 where
@@ -36,15 +38,21 @@ IsShare workers worker zero own = own ≡ []
 IsShare workers worker (suc i) own = (before : List GnapEntry) × (part : List GnapEntry) × (own ≡ before ++ part)
     × IsShare workers worker i before × IsPart (i % workers == worker) i part
 
--- the accounts of so many workers, from a first number on
-abbrev pub shares_from : ℕ → ℕ → ℕ → ℕ → List (List GnapEntry → Type 0)
-shares_from grants workers first zero = []
-shares_from grants workers first (suc n) = IsShare workers first grants ∷ shares_from grants workers (suc first) n
+-- The worker with a number did its share of the first grants with its words under START: its entries have the draws of its stream in order, from the first
+-- on, and none is left out.
+pub record IsDrawnShare (grants start workers worker : ℕ) (own : List GnapEntry) : Type 0 where
+  pub share : IsShare workers worker grants own
+  pub draws : HaveDraws start worker 0 own
 
--- There is one legal history of the load's setup. It has the entries of these workers alone, each of whom did its share of the grants, and the tally
--- is that of all its replies.
-pub record IsLoad (grants workers : ℕ) (tally : Tally) : Type 0 where
-  pub one : OneHistory gnap load_setup (shares_from grants workers 0 workers)
+-- the accounts of so many workers, from a first number on
+abbrev pub shares_from : ℕ → ℕ → ℕ → ℕ → ℕ → List (List GnapEntry → Type 0)
+shares_from grants start workers first zero = []
+shares_from grants start workers first (suc n) = IsDrawnShare grants start workers first ∷ shares_from grants start workers (suc first) n
+
+-- There is one legal history of the load's setup. It has the entries of these workers alone, each of whom did its share of the grants with its words under
+-- START, and the tally is that of all its replies.
+pub record IsLoad (grants start workers : ℕ) (tally : Tally) : Type 0 where
+  pub one : OneHistory gnap load_setup (shares_from grants start workers 0 workers)
   pub counted : Adds (tally_of one.history) none_counted tally
 
 -- a call that may be made
@@ -55,23 +63,39 @@ MayBeMade signed = SignedFits signed × (signed ≢ unmarked_lapse)
 abbrev pub HasRoom : ℕ → (List GnapEntry → Type 0) → ℕ → Type 0
 HasRoom number seen m = (h : List GnapEntry) × seen h × (length (places number h) + m < 2 ^ 52)
 
--- From a history that was seen another came to be seen, with these own entries more, whose replies were counted.
-pub record Grows (number : ℕ) (seen : List GnapEntry → Type 0) (before : List GnapEntry) (tally tally_now : Tally) (entries : List GnapEntry) : Type 0 where
+-- a worker at the beginning of its words, which has counted nothing
+abbrev pub begun : ℕ → ℕ → Progress
+begun start worker = record { words = record { generator = generator_at start worker 0 }; tally = none_counted }
+
+-- From a history that was seen another came to be seen, with these own entries more, which have the next draws, and whose replies were counted.
+pub record Grows (number : ℕ) (seen : List GnapEntry → Type 0) (before : List GnapEntry) (progress progress_now : Progress) (entries : List GnapEntry) : Type 0 where
   pub history : List GnapEntry
   pub seen_now : seen history
   pub own : own_of number history ≡ own_of number before ++ entries
-  pub counted : Adds (tally_of entries) tally tally_now
+  pub drawn : Drawn progress.words.generator entries progress_now.words.generator
+  pub counted : Adds (tally_of entries) progress.tally progress_now.tally
 
 -- One call more was made, and got this reply.
-pub record Asks (call : Signed) (reply : Reply) (number : ℕ) (seen : List GnapEntry → Type 0) (before : List GnapEntry) (tally tally_now : Tally) : Type 0 where
+pub record Asks (call : Signed) (reply : Reply) (number : ℕ) (seen : List GnapEntry → Type 0) (before : List GnapEntry)
+    (progress progress_now : Progress) : Type 0 where
   pub entry : GnapEntry
   pub call_is : entry.call ≡ call
   pub reply_is : entry.reply ≡ reply
   pub moment_is : entry.moment ≡ load_moment
-  pub grows : Grows number seen before tally tally_now (entry ∷ [])
+  pub grows : Grows number seen before progress progress_now (entry ∷ [])
 
 -- A grant more was put through, or what a worker does of it.
-pub record PutsThrough (IsDone : List GnapEntry → Type 0) (number : ℕ) (seen : List GnapEntry → Type 0) (before : List GnapEntry) (tally tally_now : Tally) : Type 0 where
+pub record PutsThrough (IsDone : List GnapEntry → Type 0) (number : ℕ) (seen : List GnapEntry → Type 0) (before : List GnapEntry)
+    (progress progress_now : Progress) : Type 0 where
   pub entries : List GnapEntry
   pub is_done : IsDone entries
-  pub grows : Grows number seen before tally tally_now entries
+  pub grows : Grows number seen before progress progress_now entries
+
+-- From a history that was seen another came to be seen, with a whole share more of a worker with its words, whose replies were counted.
+pub record DoesShare (grants start workers worker number : ℕ) (seen : List GnapEntry → Type 0) (before : List GnapEntry) (tally : Tally) : Type 0 where
+  pub entries : List GnapEntry
+  pub is_done : IsDrawnShare grants start workers worker entries
+  pub history : List GnapEntry
+  pub seen_now : seen history
+  pub own : own_of number history ≡ own_of number before ++ entries
+  pub counted : Adds (tally_of entries) none_counted tally

@@ -8,19 +8,20 @@ use Rattle.shared_server.specs.Passes.{Sharing, PassState, StationState, IsPassO
 use Rattle.gnap_model.specs.declared.objects.Setup.{Setup}
 use Rattle.grant_machine.specs.Gnap.{GnapEntry}
 use Rattle.desk_load.specs.declared.tally.Tally.{Tally}
-use Rattle.desk_load.specs.Loads.{IsShare}
+use Rattle.desk_load.specs.Loads.{IsDrawnShare}
 use Rattle.desk_load.specs.Tallies.{counted_in, none_counted, tally_of, Adds, sum_of_tallies}
 
--- The entries of a number in what was seen are the share of a worker, and the tally is that of their replies.
-pub record HasCounted (grants workers worker number : ℕ) (seen : List GnapEntry) (tally : Tally) : Type 0 where
-  pub share : IsShare workers worker grants (own_of number seen)
+-- The entries of a number in what was seen are the share of a worker with its words, and the tally is that of their replies.
+pub record HasCounted (grants start workers worker number : ℕ) (seen : List GnapEntry) (tally : Tally) : Type 0 where
+  pub share : IsDrawnShare grants start workers worker (own_of number seen)
   pub counted : Adds (tally_of (own_of number seen)) none_counted tally
   pub most : counted_in tally ≤ 7 * grants
 
--- A worker: its station, which share it does, whether it has begun, and what it counted.
+-- A worker: its station, which share it does, under which START, whether it has begun, and what it counted.
 pub record WorkerState : Type 0 where
   pub station : StationState Setup GnapEntry
   pub grants : ℕ
+  pub start : ℕ
   pub workers : ℕ
   pub worker : ℕ
   pub begun : Bool
@@ -30,39 +31,41 @@ pub record WorkerState : Type 0 where
 pub record IsSoundWorker (w : WorkerState) : Type 0 where
   pub some : 0 < w.workers
   pub unseen : w.begun ≡ false → w.station.seen ≡ []
-  pub counted : IfOk w.made (HasCounted w.grants w.workers w.worker w.station.number w.station.seen)
+  pub counted : IfOk w.made (HasCounted w.grants w.start w.workers w.worker w.station.number w.station.seen)
 
 -- what work leaves of a worker
 pub record IsSameWorker (before after : WorkerState) : Type 0 where
   pub home : after.station.home ≡ before.station.home
   pub number : after.station.number ≡ before.station.number
   pub grants : after.grants ≡ before.grants
+  pub start : after.start ≡ before.start
   pub workers : after.workers ≡ before.workers
   pub worker : after.worker ≡ before.worker
 
--- a worker of this number, of all that share so many grants at this core
-pub record IsWorker (core : Sharing Setup) (grants k : ℕ) (w : WorkerState) : Type 0 where
+-- a worker of this number, of all that share so many grants at this core under this START
+pub record IsWorker (core : Sharing Setup) (grants start k : ℕ) (w : WorkerState) : Type 0 where
   pub home : w.station.home ≡ core
   pub number : w.station.number ≡ k
   pub grants_are : w.grants ≡ grants
+  pub start_is : w.start ≡ start
   pub workers_are : w.workers ≡ core.count
   pub worker_is : w.worker ≡ k
 
 -- all workers, in order
-pub record AreWorkers (core : Sharing Setup) (grants : ℕ) (workers : List WorkerState) : Type 0 where
+pub record AreWorkers (core : Sharing Setup) (grants start : ℕ) (workers : List WorkerState) : Type 0 where
   pub count : length workers ≡ core.count
-  pub each : (k : ℕ) (w : WorkerState) → get_elem? workers k ≡ some w → IsWorker core grants k w
+  pub each : (k : ℕ) (w : WorkerState) → get_elem? workers k ≡ some w → IsWorker core grants start k w
 
 -- A pass of this number came back from a worker that has counted this.
-pub record HasDone (core : Sharing Setup) (grants k : ℕ) (pass : PassState Setup GnapEntry) (tally : Tally) : Type 0 where
+pub record HasDone (core : Sharing Setup) (grants start k : ℕ) (pass : PassState Setup GnapEntry) (tally : Tally) : Type 0 where
   pub of : IsPassOf core pass
   pub number : pass.number ≡ k
-  pub counted : HasCounted grants core.count k k pass.seen tally
+  pub counted : HasCounted grants start core.count k k pass.seen tally
 
 -- All passes came back, in order, and the total is what all workers counted.
-pub record HaveDone (core : Sharing Setup) (grants : ℕ) (passes : List (PassState Setup GnapEntry)) (total : Tally) : Type 0 where
+pub record HaveDone (core : Sharing Setup) (grants start : ℕ) (passes : List (PassState Setup GnapEntry)) (total : Tally) : Type 0 where
   pub reports : List (PassState Setup GnapEntry × Tally)
   pub passes_are : map (λ r. r.0) reports ≡ passes
   pub total_is : total ≡ sum_of_tallies (map (λ r. r.1) reports)
   pub count : length reports ≡ core.count
-  pub each : (k : ℕ) (r : PassState Setup GnapEntry × Tally) → get_elem? reports k ≡ some r → HasDone core grants k r.0 r.1
+  pub each : (k : ℕ) (r : PassState Setup GnapEntry × Tally) → get_elem? reports k ≡ some r → HasDone core grants start k r.0 r.1

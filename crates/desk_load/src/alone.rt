@@ -5,7 +5,6 @@ ghost use Rattle.desk_load.specs.Loads.{IsLoad};
 
 use crate::share::do_share;
 use crate::tally::Tally;
-use crate::words::Words;
 use bytes_and_lists::memory::Mem;
 use grant_machine::Gnap;
 use histories::lone::Lone;
@@ -22,11 +21,10 @@ pub fn put_load_alone<C: Core<M = Gnap> + Drop>(
 ) -> Result<Tally, Mem>
     requires rules { C.rules core ≡ load_setup }
     requires empty { C.stands core [] }
-    ensures { IfOk result (IsLoad grants 1) }
+    ensures { IfOk result (IsLoad grants start 1) }
 {
     let mut desk = Lone::new(core);
-    let mut words = Words::new(start, 0);
-    let tally = do_share(alloc, &mut desk, &mut words, grants, 1, 0)?;
+    let tally = do_share(alloc, &mut desk, grants, start, 1, 0)?;
     desk.into_core();
     Ok(tally)
 }

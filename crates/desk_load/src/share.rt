@@ -1,12 +1,12 @@
 //! A grant put through, and a worker's share of all grants.
 ghost use Rattle.std.specs.Prelude.{◌≡◌, ◌+◌, ◌*◌, ◌-◌, ◌<◌, ◌≤◌, ◌^◌, ◌==◌, ◌%◌, ℕ, Bool, IfOk, IsOk};
-ghost use Rattle.desk_load.specs.Loads.{HasRoom, Asks, PutsThrough, IsPutThrough, IsPart, IsShare, EndsGrant};
-ghost use Rattle.desk_load.specs.Tallies.{counted_in, none_counted};
+ghost use Rattle.desk_load.specs.Loads.{HasRoom, Asks, PutsThrough, IsPutThrough, IsPart, EndsGrant, DoesShare};
+ghost use Rattle.desk_load.specs.Tallies.{counted_in};
 
 use crate::asking::ask;
 use crate::grant_calls::{cancellation_of, opening_call, question_about, rotation_of};
+use crate::progress::Progress;
 use crate::tally::Tally;
-use crate::words::Words;
 use bytes_and_lists::memory::Mem;
 use gnap_model::calls::Reply;
 use grant_machine::Gnap;
@@ -17,29 +17,28 @@ use std::alloc::Global;
 fn end_grant<D: Desk<M = Gnap>>(
     alloc: Global,
     desk: &mut D,
-    words: &mut Words,
-    tally: &mut Tally,
+    progress: &mut Progress,
     ends: bool,
     grant: u32,
     opened: &Reply,
     rotated: &Reply,
 ) -> Result<(), Mem>
     requires room { HasRoom (D.number desk.old) (D.seen desk.old) 2 }
-    requires few { counted_in tally.old + 2 < 2 ^ 64 }
+    requires few { counted_in progress.old.tally + 2 < 2 ^ 64 }
     ensures rules { D.rules desk.new ≡ D.rules desk.old }
     ensures number { D.number desk.new ≡ D.number desk.old }
     ensures home { D.home desk.new ≡ D.home desk.old }
     ensures ends { IfOk result (λ _. (h : _) → D.seen desk.old h
-        → PutsThrough (EndsGrant ends grant opened.now rotated.now) (D.number desk.old) (D.seen desk.new) h tally.old tally.new) }
+        → PutsThrough (EndsGrant ends grant opened.now rotated.now) (D.number desk.old) (D.seen desk.new) h progress.old progress.new) }
     ensures room { IsOk result → (m : ℕ) → HasRoom (D.number desk.old) (D.seen desk.old) (m + 2)
         → HasRoom (D.number desk.new) (D.seen desk.new) m }
-    ensures most { counted_in tally.new ≤ counted_in tally.old + 2 }
+    ensures most { counted_in progress.new.tally ≤ counted_in progress.old.tally + 2 }
 {
     if !ends {
         return Ok(());
     }
-    ask(desk, words, tally, cancellation_of(alloc, grant, opened)?)?;
-    ask(desk, words, tally, question_about(alloc, rotated)?)?;
+    ask(desk, progress, cancellation_of(alloc, grant, opened)?)?;
+    ask(desk, progress, question_about(alloc, rotated)?)?;
     Ok(())
 }
 
@@ -47,62 +46,60 @@ fn end_grant<D: Desk<M = Gnap>>(
 fn put_through<D: Desk<M = Gnap>>(
     alloc: Global,
     desk: &mut D,
-    words: &mut Words,
-    tally: &mut Tally,
+    progress: &mut Progress,
     ends: bool,
     grant: u32,
 ) -> Result<(), Mem>
     requires room { HasRoom (D.number desk.old) (D.seen desk.old) 7 }
-    requires few { counted_in tally.old + 7 < 2 ^ 64 }
+    requires few { counted_in progress.old.tally + 7 < 2 ^ 64 }
     ensures rules { D.rules desk.new ≡ D.rules desk.old }
     ensures number { D.number desk.new ≡ D.number desk.old }
     ensures home { D.home desk.new ≡ D.home desk.old }
     ensures puts { IfOk result (λ _. (h : _) → D.seen desk.old h
-        → PutsThrough (IsPutThrough ends grant) (D.number desk.old) (D.seen desk.new) h tally.old tally.new) }
+        → PutsThrough (IsPutThrough ends grant) (D.number desk.old) (D.seen desk.new) h progress.old progress.new) }
     ensures room { IsOk result → (m : ℕ) → HasRoom (D.number desk.old) (D.seen desk.old) (m + 7)
         → HasRoom (D.number desk.new) (D.seen desk.new) m }
-    ensures most { counted_in tally.new ≤ counted_in tally.old + 7 }
+    ensures most { counted_in progress.new.tally ≤ counted_in progress.old.tally + 7 }
 {
-    let opened = ask(desk, words, tally, opening_call(alloc, grant)?)?;
-    ask(desk, words, tally, question_about(alloc, &opened)?)?;
-    let rotated = ask(desk, words, tally, rotation_of(alloc, grant, &opened)?)?;
-    ask(desk, words, tally, question_about(alloc, &opened)?)?;
-    ask(desk, words, tally, question_about(alloc, &rotated)?)?;
-    end_grant(alloc, desk, words, tally, ends, grant, &opened, &rotated)
+    let opened = ask(desk, progress, opening_call(alloc, grant)?)?;
+    ask(desk, progress, question_about(alloc, &opened)?)?;
+    let rotated = ask(desk, progress, rotation_of(alloc, grant, &opened)?)?;
+    ask(desk, progress, question_about(alloc, &opened)?)?;
+    ask(desk, progress, question_about(alloc, &rotated)?)?;
+    end_grant(alloc, desk, progress, ends, grant, &opened, &rotated)
 }
 
 // Puts a grant through where it is the worker's. Each grant of an even number is ended.
 fn do_part<D: Desk<M = Gnap>>(
     alloc: Global,
     desk: &mut D,
-    words: &mut Words,
-    tally: &mut Tally,
+    progress: &mut Progress,
     grant: u32,
     mine: bool,
 ) -> Result<(), Mem>
     requires room { HasRoom (D.number desk.old) (D.seen desk.old) 7 }
-    requires few { counted_in tally.old + 7 < 2 ^ 64 }
+    requires few { counted_in progress.old.tally + 7 < 2 ^ 64 }
     ensures rules { D.rules desk.new ≡ D.rules desk.old }
     ensures number { D.number desk.new ≡ D.number desk.old }
     ensures home { D.home desk.new ≡ D.home desk.old }
     ensures does { IfOk result (λ _. (h : _) → D.seen desk.old h
-        → PutsThrough (IsPart mine grant) (D.number desk.old) (D.seen desk.new) h tally.old tally.new) }
+        → PutsThrough (IsPart mine grant) (D.number desk.old) (D.seen desk.new) h progress.old progress.new) }
     ensures room { IsOk result → (m : ℕ) → HasRoom (D.number desk.old) (D.seen desk.old) (m + 7)
         → HasRoom (D.number desk.new) (D.seen desk.new) m }
-    ensures most { counted_in tally.new ≤ counted_in tally.old + 7 }
+    ensures most { counted_in progress.new.tally ≤ counted_in progress.old.tally + 7 }
 {
     if mine {
-        return put_through(alloc, desk, words, tally, grant % 2 == 0, grant);
+        return put_through(alloc, desk, progress, grant % 2 == 0, grant);
     }
     Ok(())
 }
 
-/// Does a worker's share of so many grants, and counts the replies. An `Err` says that memory ran out.
+/// Does a worker's share of so many grants with the words of the worker's number, and counts the replies. An `Err` says that memory ran out.
 pub fn do_share<D: Desk<M = Gnap>>(
     alloc: Global,
     desk: &mut D,
-    words: &mut Words,
     grants: u32,
+    start: u64,
     workers: usize,
     worker: usize,
 ) -> Result<Tally, Mem>
@@ -112,13 +109,13 @@ pub fn do_share<D: Desk<M = Gnap>>(
     ensures number { D.number desk.new ≡ D.number desk.old }
     ensures home { D.home desk.new ≡ D.home desk.old }
     ensures shares { IfOk result (λ tally. (h : _) → D.seen desk.old h
-        → PutsThrough (IsShare workers worker grants) (D.number desk.old) (D.seen desk.new) h none_counted tally) }
+        → DoesShare grants start workers worker (D.number desk.old) (D.seen desk.new) h tally) }
     ensures most { IfOk result (λ tally. counted_in tally ≤ 7 * grants) }
 {
-    let mut tally = Tally::new();
+    let mut progress = Progress::new(start, worker as u64);
     for grant in 0..grants {
         let mine = grant as usize % workers == worker;
-        do_part(alloc, desk, words, &mut tally, grant, mine)?;
+        do_part(alloc, desk, &mut progress, grant, mine)?;
     }
-    Ok(tally)
+    Ok(progress.tally)
 }

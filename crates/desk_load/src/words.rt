@@ -1,27 +1,44 @@
 //! Random words of a worker.
-use rand_chacha::ChaCha20Rng;
-use rand_core::{Rng, SeedableRng};
+ghost use Rattle.std.specs.Prelude.{◌≡◌};
+ghost use Rattle.desk_load.specs.Words.{draw_from, after_words, seed_under, generator_at};
 
-/// Words of ChaCha20 under a key that begins with a number in 8 little-endian bytes and has zeros behind it, in a stream for each worker.
+use rand_chacha::ChaCha20Rng;
+use rand_core::SeedableRng;
+use rand_core::utils::next_u64_via_u32;
+
+// The number in 8 bytes, the low one first, and zeros behind it.
+fn seed_under(start: u64) -> [u8; 32]
+    ensures { result ≡ seed_under start }
+{
+    let mut seed = [0; 32];
+    seed[0..8].copy_from_slice(&start.to_le_bytes());
+    seed
+}
+
+/// Words of ChaCha20 under a seed that begins with a number, in a stream for each worker.
 #[derive(Drop)]
 pub struct Words {
     generator: ChaCha20Rng,
 }
 
 impl Words {
-    pub fn new(start: u64, worker: u64) -> Words {
-        let mut key = [0; 32];
-        key[0..8].copy_from_slice(&start.to_le_bytes());
-        let mut generator = ChaCha20Rng::from_seed(key);
+    /// The words of the worker of a number, from the first on.
+    pub fn new(start: u64, worker: u64) -> Words
+        ensures { result.generator ≡ generator_at start worker 0 }
+    {
+        let mut generator = ChaCha20Rng::from_seed(seed_under(start));
         generator.set_stream(worker);
         Words { generator }
     }
 
-    /// The next 48 words.
-    pub fn draw(&mut self) -> [u64; 48] {
+    /// The next 48 words of 64 bits, each of two words of ChaCha20, the low half first.
+    pub fn draw(&mut self) -> [u64; 48]
+        ensures draw { result ≡ draw_from self.old.generator }
+        ensures next { self.new.generator ≡ after_words 48 self.old.generator }
+    {
         let mut draw = [0; 48];
-        for word in &mut draw {
-            *word = self.generator.next_u64();
+        for i in 0..48 {
+            draw[i] = next_u64_via_u32(&mut self.generator);
         }
         draw
     }

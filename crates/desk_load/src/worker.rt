@@ -5,7 +5,6 @@ ghost use Rattle.desk_load.specs.Sharing.{IsSameWorker, HasCounted};
 
 use crate::share::do_share;
 use crate::tally::Tally;
-use crate::words::Words;
 use bytes_and_lists::memory::Mem;
 use grant_machine::Gnap;
 use histories::machine::Core;
@@ -15,13 +14,14 @@ use std::alloc::Global;
 use std::marker::Model;
 use std::sync::Wait;
 
-/// Does one share of a load, with a station and words of its own. Its type keeps that what was counted is of just the calls of the share.
+/// Does one share of a load, with a station and words of its own. Its type keeps that what was counted is of just the calls of the share, each with the
+/// next draw of these words.
 #[derive(Drop)]
 pub struct Worker<'a, C: Core<M = Gnap>, R> {
     alloc: Global,
     station: Station<'a, C, R>,
-    words: Words,
     grants: u32,
+    start: u64,
     workers: usize,
     worker: usize,
     begun: bool,
@@ -33,9 +33,25 @@ impl<'a, C: Core<M = Gnap>, R> Model for Worker<'a, C, R> {
 
     ghost Value = { WorkerState };
 
-    ghost view = { λ w. record { station = w.station; grants = w.grants; workers = w.workers; worker = w.worker; begun = w.begun; made = w.made } };
+    ghost view = { λ w. record {
+      station = w.station;
+      grants = w.grants;
+      start = w.start;
+      workers = w.workers;
+      worker = w.worker;
+      begun = w.begun;
+      made = w.made;
+    } };
 
-    ghost invariant = { λ w. IsSoundWorker (record { station = w.station; grants = w.grants; workers = w.workers; worker = w.worker; begun = w.begun; made = w.made }) };
+    ghost invariant = { λ w. IsSoundWorker (record {
+      station = w.station;
+      grants = w.grants;
+      start = w.start;
+      workers = w.workers;
+      worker = w.worker;
+      begun = w.begun;
+      made = w.made;
+    }) };
 }
 
 impl<'a, C: Core<M = Gnap>, R: Wait> Worker<'a, C, R> {
@@ -54,13 +70,13 @@ impl<'a, C: Core<M = Gnap>, R: Wait> Worker<'a, C, R> {
         requires unseen { pass.seen ≡ [] }
         requires some { 0 < workers }
         ensures station { result.station ≡ record { home = shared.now; number = pass.number; seen = pass.seen } }
-        ensures share { (result.grants ≡ grants) × (result.workers ≡ workers) × (result.worker ≡ worker) }
+        ensures share { (result.grants ≡ grants) × (result.start ≡ start) × (result.workers ≡ workers) × (result.worker ≡ worker) }
     {
         Worker {
             alloc,
             station: Station::new(rt, shared, pass),
-            words: Words::new(start, worker as u64),
             grants,
+            start,
             workers,
             worker,
             begun: false,
@@ -79,8 +95,8 @@ impl<'a, C: Core<M = Gnap>, R: Wait> Worker<'a, C, R> {
         self.made = do_share(
             self.alloc,
             &mut self.station,
-            &mut self.words,
             self.grants,
+            self.start,
             self.workers,
             self.worker,
         );
@@ -90,13 +106,14 @@ impl<'a, C: Core<M = Gnap>, R: Wait> Worker<'a, C, R> {
     pub fn leave(self) -> (Pass<C>, Result<Tally, Mem>)
         ensures of { IsPassOf self.entry.station.home result.0 }
         ensures number { result.0.number ≡ self.entry.station.number }
-        ensures counted { IfOk result.1 (HasCounted self.entry.grants self.entry.workers self.entry.worker self.entry.station.number result.0.seen) }
+        ensures counted { IfOk result.1
+            (HasCounted self.entry.grants self.entry.start self.entry.workers self.entry.worker self.entry.station.number result.0.seen) }
     {
         let Worker {
             alloc: _,
             station,
-            words: _,
             grants: _,
+            start: _,
             workers: _,
             worker: _,
             begun: _,

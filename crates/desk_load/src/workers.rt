@@ -29,7 +29,7 @@ fn start_workers<'a, C: Core<M = Gnap>, R: Wait>(
     start: u64,
 ) -> Result<Vec<Worker<'a, C, R>>, Mem>
     requires new { AreNew shared.now passes.items }
-    ensures { IfOk result (λ workers. AreWorkers shared.now grants workers.items) }
+    ensures { IfOk result (λ workers. AreWorkers shared.now grants start workers.items) }
 {
     let count = passes.len();
     let mut workers = Vec::new(alloc);
@@ -61,10 +61,11 @@ fn end_workers<'a, C: Core<M = Gnap>, R: Wait>(
     shared: &Shared<C>,
     workers: Vec<Worker<'a, C, R>>,
     grants: u32,
+    start: u64,
 ) -> Result<(Vec<Pass<C>>, Tally), Mem>
-    requires workers { AreWorkers shared.now grants workers.items }
+    requires workers { AreWorkers shared.now grants start workers.items }
     requires few { length workers.items ≤ 64 }
-    ensures { IfOk result (λ r. HaveDone shared.now grants r.0.items r.1) }
+    ensures { IfOk result (λ r. HaveDone shared.now grants start r.0.items r.1) }
 {
     let _shared = shared;
     let mut passes = Vec::new(alloc);
@@ -86,9 +87,9 @@ fn take_back<C: Core<M = Gnap> + Drop>(shared: Shared<C>, passes: Vec<Pass<C>>)
 }
 
 /// Shares a core that stands for the empty history among workers, each on a thread of its own, which put so many grants through together. The words
-/// of worker k are those of ChaCha20 under the key that begins with `start`, in stream k.
+/// of worker k are those of ChaCha20 under the key that begins with `start`, in stream k, from the first on.
 ///
-/// The tally is that of all replies of one legal history, in which each worker did its share and nobody else anything. An `Err` says that memory
+/// The tally is that of all replies of one legal history, in which each worker did its share with its words and nobody else anything. An `Err` says that memory
 /// ran out.
 pub fn put_load<C: Core<M = Gnap> + Send + Drop, R: Threads + Wait + Sync>(
     rt: &R,
@@ -102,14 +103,14 @@ pub fn put_load<C: Core<M = Gnap> + Send + Drop, R: Threads + Wait + Sync>(
     requires empty { C.stands core [] }
     requires some { 0 < workers }
     requires few { workers ≤ 64 }
-    ensures { IfOk result (IsLoad grants workers) }
+    ensures { IfOk result (IsLoad grants start workers) }
 {
     let Ok((shared, passes)) = Shared::new(alloc, core, workers) else {
         return Err(Mem);
     };
     let mut all = start_workers(rt, alloc, &shared, passes, grants, start)?;
     run_workers(rt, all.as_mut_slice());
-    let (passes, tally) = end_workers(alloc, &shared, all, grants)?;
+    let (passes, tally) = end_workers(alloc, &shared, all, grants, start)?;
     take_back(shared, passes);
     Ok(tally)
 }

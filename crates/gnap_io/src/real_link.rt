@@ -14,14 +14,20 @@ use crate::transcript::Transcript;
 use bytes_and_lists::bytes::Bytes;
 use http_server::Log;
 use std::alloc::Global;
-use std::net::{Net, TcpStream};
+use std::io;
+use std::io::ErrorKind;
+use std::net::{Net, TcpStream, ToSocketAddrs};
 use std::rt::Clock;
+use std::time::Duration;
 
 /// The most bytes of a reply. A longer one is a fault.
 const REPLY_LIMIT: usize = 1_048_576;
 
-/// A link that makes a connection for each exchange: it writes the request, and reads the reply to the end of input. A peer whose reply doesn't
-/// begin within 60 seconds, or isn't whole 60 seconds later, is a fault. The first fault is told on standard error.
+/// How long it may take to make a connection to each address of a host, in seconds.
+const CONNECT_LIMIT: u64 = 60;
+
+/// A link that makes a connection for each exchange: it writes the request, and reads the reply to the end of input. A peer that isn't connected to within
+/// 60 seconds, or whose reply doesn't begin within 60 seconds, or isn't whole 60 seconds later, is a fault. The first fault is told on standard error.
 #[derive(Drop)]
 pub struct RealLink<'a, R: Net<Stream = TcpStream> + Clock + Eprint> {
     rt: &'a R,
@@ -78,6 +84,18 @@ pub(crate) fn ask<C: Source + Sink>(
     read_reply(conn, room)
 }
 
+// A connection to the first address of this host that takes one in time. The fault is that of the last.
+fn connected_in_time<R: Net<Stream = TcpStream>>(rt: &R, host: &str) -> io::Result<TcpStream> {
+    let mut fault = io::Error::from(ErrorKind::InvalidInput);
+    for address in host.to_socket_addrs(rt)? {
+        match TcpStream::connect_timeout(rt, &address, Duration::from_secs(CONNECT_LIMIT)) {
+            Ok(stream) => return Ok(stream),
+            Err(error) => fault = error,
+        }
+    }
+    Err(fault)
+}
+
 // A connection to the address.
 fn connected<'a, R: Net<Stream = TcpStream> + Clock + Eprint>(
     rt: &'a R,
@@ -92,7 +110,7 @@ fn connected<'a, R: Net<Stream = TcpStream> + Clock + Eprint>(
         }
         return Err(Failed);
     };
-    match TcpStream::connect(rt, address) {
+    match connected_in_time(rt, address) {
         Ok(stream) => Ok(Stream::new(TimedSocket::new(rt, stream, None))),
         Err(error) => {
             if is_told {

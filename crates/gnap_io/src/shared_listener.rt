@@ -10,9 +10,10 @@ use std::{io, thread};
 
 /// How often a worker asks for a connection before that is a fault. An attempt fails where no descriptor is free, or where the peer is gone
 /// before it is accepted.
-const TRIES: u32 = 1000;
+const TRIES: u32 = 12_000;
 
-/// How long it waits after an attempt that failed, in milliseconds; so it gives up after some 10 seconds.
+/// How long it waits after an attempt that failed, in milliseconds. So it gives up after some 120 seconds, the longest that a slow peer keeps a descriptor: as
+/// long as a message and its reply may take.
 const PAUSE: u64 = 10;
 
 /// A listener, and how many workers are free: those that wait for a connection.

@@ -1,16 +1,19 @@
 -- What holds of each command.
-use Rattle.std.proofs.Common.{◌≡◌, ℕ, List, [], refl, sym, subst, inl, inr}
+use Rattle.std.proofs.Common.{◌≡◌, ◌⊎◌, ℕ, List, [], refl, sym, subst, inl, inr}
 use Rattle.std.specs.Prelude.{Option, Some}
 use Rattle.gnap_io.specs.Outside.{Told}
 use Rattle.gnap_io.specs.Worlds.{WorldState}
+use Rattle.gnap_io.specs.declared.world.Opening.{Opening}
+use Rattle.gnap_io.specs.Openings.{Gives}
 use Rattle.gnap_io.proofs.Devices.{writes_none}
 use Rattle.command_inputs.specs.declared.ended.Ended.{Ended}
-use Rattle.command_inputs.specs.declared.ended.Ended.TheVariants.{Memory}
+use Rattle.command_inputs.specs.declared.ended.Ended.TheVariants.{Done, NoSetup, Failed, WriteFault, Memory, Refused, TooLong}
+use Rattle.command_inputs.specs.Ends.{status_of}
 use Rattle.gnap_tool.specs.declared.command.Command.{Command}
 use Rattle.gnap_tool.specs.declared.command.Command.TheVariants.{Replay, Field, Sign, Verify, Serve, Rs, Client, Hash, Load}
 use Rattle.gnap_tool.specs.declared.purpose.Purpose.{Purpose}
 use Rattle.gnap_tool.specs.declared.purpose.Purpose.TheVariants as purposes
-use Rattle.gnap_tool.specs.Commands.{openings_of, input_place}
+use Rattle.gnap_tool.specs.Commands.{openings_of, quota_of, input_place}
 use Rattle.gnap_tool.specs.Runs.{CarriesOut, input_of}
 use Rattle.world_uses.specs.Uses.{UsesWorld}
 
@@ -41,3 +44,22 @@ module _ (named : Command) (before after : WorldState) (ended : Ended) (command 
 
   pub used_as : UsesWorld (openings_of named) (input_place named) before after ended → UsesWorld (openings_of command) (input_place command) before after ended
   used_as uses = subst (λ (c : Command). UsesWorld (openings_of c) (input_place c) before after ended) (sym is) uses
+
+  pub quota_as : (P : Option ℕ → Type 0) → P (quota_of named) → P (quota_of command)
+  quota_as P holds = subst (λ (c : Command). P (quota_of c)) (sym is) holds
+
+-- at the statuses 0 and 7 a command was carried out, so all was opened and is back
+pub all_at_0 : (openings : List Opening) (input : Option ℕ) (before after : WorldState) (ended : Ended) → UsesWorld openings input before after ended
+    → (status_of ended ≡ 0) ⊎ (status_of ended ≡ 7) → Gives openings before after
+all_at_0 openings input before after Done uses is = uses.all (inl refl)
+all_at_0 openings input before after Refused uses is = uses.all (inr refl)
+all_at_0 openings input before after (NoSetup why) uses (inl is) = absurd cc
+all_at_0 openings input before after (NoSetup why) uses (inr is) = absurd cc
+all_at_0 openings input before after Failed uses (inl is) = absurd cc
+all_at_0 openings input before after Failed uses (inr is) = absurd cc
+all_at_0 openings input before after WriteFault uses (inl is) = absurd cc
+all_at_0 openings input before after WriteFault uses (inr is) = absurd cc
+all_at_0 openings input before after Memory uses (inl is) = absurd cc
+all_at_0 openings input before after Memory uses (inr is) = absurd cc
+all_at_0 openings input before after TooLong uses (inl is) = absurd cc
+all_at_0 openings input before after TooLong uses (inr is) = absurd cc

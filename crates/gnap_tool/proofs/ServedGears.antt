@@ -1,6 +1,6 @@
 -- What serving at an address does to the world.
 use Rattle.std.proofs.Common.{◌≡◌, ◌≢◌, ◌∙◌, ℕ, nat_lt, List, [], ◌∷◌, length, refl, ap, sym, subst, ◌⊎◌, inl, inr}
-use Rattle.std.specs.Prelude.{true, None, IsSome, All, Any, drop, Result, Ok, Err}
+use Rattle.std.specs.Prelude.{true, None, IsSome, IfOk, All, Any, drop, Result, Ok, Err}
 use Rattle.std.proofs.Math.Seq.{drop-length, drop-append_seam}
 use Rattle.std.proofs.lemmas.List.Elements.{All-nil}
 use Rattle.std.proofs.lemmas.List.Folds.{Any-from_list_any}
@@ -78,6 +78,12 @@ module _ (address : List ℕ) (n quota : ℕ) (before after : WorldState) (gears
     limited = λ is. absurd cc;
     to_end = λ is. absurd cc;
   }
+
+-- what is so where serving went well is so where the command ended well by it
+pub done_by : (answer : Result (Unit {0}) WorldFault) (ended : Ended) (P : Type 0) → ended ≡ ended_service answer → IfOk answer (λ _. P) → ended ≡ Done → P
+done_by (Ok done) ended P is holds well = holds
+done_by (Err faults.Failed) ended P is holds well = absurd (let bad : Failed ≡ Done = sym is ∙ well in cc)
+done_by (Err faults.OutOfMemory) ended P is holds well = absurd (let bad : Memory ≡ Done = sym is ∙ well in cc)
 
 pub gears_used : (address : List ℕ) (n quota : ℕ) (before after : WorldState) (gears : List GearState) (answer : Result (Unit {0}) WorldFault)
     → after ≡ with_gears gears (with_opening (Gears address n quota) before) → length gears ≡ n → IsEndOfService gears answer

@@ -219,6 +219,20 @@ IsWithinRanges (Client config address script) = Unit {0}
 IsWithinRanges (Hash texts) = Unit {0}
 IsWithinRanges (Load grants start workers) = (1 ≤ workers) × (workers ≤ 64)
 
+-- ---- whom they wait for
+
+-- whether a command has workers: then threads are started, and a worker may wait for its turn at what they share
+abbrev pub has_workers : Command → Bool
+has_workers (Replay file) = false
+has_workers (Field kind file) = false
+has_workers (Sign config key created file _) = false
+has_workers (Verify config now file) = false
+has_workers (Serve service served) = true
+has_workers (Rs config listen server quota cache) = false
+has_workers (Client config address script) = false
+has_workers (Hash texts) = false
+has_workers (Load grants start workers) = true
+
 -- ---- what they open
 
 -- what is opened behind the setup that is served
@@ -238,6 +252,18 @@ openings_of (Rs config listen server quota cache) = File config ∷ Link server 
 openings_of (Client config address script) = File config ∷ Link address ∷ File script ∷ []
 openings_of (Hash texts) = []
 openings_of (Load grants start workers) = []
+
+-- how many connections each gear of a command is to serve
+abbrev pub quota_of : Command → Option ℕ
+quota_of (Replay file) = None
+quota_of (Field kind file) = None
+quota_of (Sign config key created file _) = None
+quota_of (Verify config now file) = None
+quota_of (Serve service served) = Some served.quota
+quota_of (Rs config listen server quota cache) = Some quota
+quota_of (Client config address script) = None
+quota_of (Hash texts) = None
+quota_of (Load grants start workers) = None
 
 -- which of the files that a command opens is the input that may be too long, counted from 0; none where it has no such input
 abbrev pub input_place : Command → Option ℕ

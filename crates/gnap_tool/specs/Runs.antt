@@ -9,7 +9,7 @@ use Rattle.gnap_io.specs.declared.world.WorldFault.{WorldFault}
 use Rattle.as_service.specs.Services.{IsService}
 use Rattle.rs_facing.specs.SetServices.{IsSetService}
 use Rattle.derivation_requests.specs.Pairs.{Pair}
-use Rattle.derived_tokens.specs.DerivedServices.{IsDerivingService}
+use Rattle.as_service.specs.DerivedServices.{IsDerivingService}
 use Rattle.gnap_tool.specs.declared.command.Command.{Command}
 use Rattle.gnap_tool.specs.declared.command.Command.TheVariants.{Replay, Field, Sign, Verify, Serve, Rs, Client, Hash, Load}
 use Rattle.gnap_tool.specs.declared.command.Service.{Service}
@@ -133,7 +133,7 @@ CarriesOut (Client config address script) text before after out out_now ended =
     Linked between after (Unopened out out_now ended) (λ link opened.
     Over (text script) opened after (Unopened out out_now ended × (link.asked ≡ [])) (λ taken rest. RunsClient parts taken rest link.asked out out_now ended)))
 CarriesOut (Hash texts) text before after out out_now ended = (after ≡ before) × PrintsHash texts out out_now ended
-CarriesOut (Load grants start workers) text before after out out_now ended = (after ≡ before) × PrintsLoad grants workers out out_now ended
+CarriesOut (Load grants start workers) text before after out out_now ended = (after ≡ before) × PrintsLoad grants start workers out out_now ended
 
 -- the same, of the status that says how it ended
 pub record Carries (command : Command) (text : List ℕ → Option (List ℕ)) (before after : WorldState) (out out_now : Told) (status : ℕ) : Type 0 where

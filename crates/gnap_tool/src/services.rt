@@ -1,6 +1,7 @@
 //! The servers of a setup: what is served of it, at an address.
-ghost use Rattle.std.specs.Prelude.{◌≡◌, ℕ, ◌∷◌, None};
+ghost use Rattle.std.specs.Prelude.{◌≡◌, ℕ, ◌∷◌, None, true};
 ghost use Rattle.gnap_io.specs.Outside.{Told};
+ghost use Rattle.serving.specs.ServiceEnds.{HaveServedJust};
 ghost use Rattle.gnap_objects.specs.Setups.{IsSetup};
 ghost use Rattle.command_inputs.specs.Ends.{CountsWrites};
 ghost use Rattle.world_uses.specs.Uses.{UsesWorld};
@@ -10,10 +11,9 @@ ghost use Rattle.gnap_tool.specs.declared.command.Service.TheVariants.{Derivatio
 
 use crate::command::{Command, ServedSetup, Service};
 use crate::config::PairsReader;
-use as_service::serve_at;
+use as_service::{serve_at, serve_deriving_at};
 use bytes_and_lists::bytes::Bytes;
 use command_inputs::{Ended, SetupReader};
-use derived_tokens::serve_deriving_at;
 use gnap_io::world::{Opening, World, WorldFault};
 use gnap_model::objects::Setup;
 use rs_facing::serve_sets_at;
@@ -46,6 +46,7 @@ fn serve_deriving<R: Threads + Wait + Sync, W: World>(
     ensures served { (out : Told) → ServesBy (Derivations pairs.now) setup served.now (W.text world.old) (W.state world.old) (W.state world.new) out out result }
     ensures world { UsesWorld (service_openings (Derivations pairs.now) served.now) None (W.state world.old) (W.state world.new) result }
     ensures writes { (faults : ℕ) → CountsWrites result faults faults }
+    ensures quota { W.gives_quota ≡ true → result ≡ Ended.Done → HaveServedJust served.now.quota (W.state world.new).gears }
 {
     let reader = PairsReader { setup: &setup };
     match open_config(alloc, &reader, pairs, world) {
@@ -77,6 +78,7 @@ fn serve_setup<R: Threads + Wait + Sync, W: World>(
     ensures served { (out : Told) → ServesBy service.now setup served.now (W.text world.old) (W.state world.old) (W.state world.new) out out result }
     ensures world { UsesWorld (service_openings service.now served.now) None (W.state world.old) (W.state world.new) result }
     ensures writes { (faults : ℕ) → CountsWrites result faults faults }
+    ensures quota { W.gives_quota ≡ true → result ≡ Ended.Done → HaveServedJust served.now.quota (W.state world.new).gears }
 {
     let listen = &served.listen;
     let workers = served.workers;
@@ -104,6 +106,7 @@ pub(crate) fn serve<R: Threads + Wait + Sync, W: World>(
     ensures carried { (out : Told) → CarriesOut (Command.Serve service.now served.now) (W.text world.old) (W.state world.old) (W.state world.new) out out result }
     ensures world { UsesWorld (Opening.File served.now.config ∷ service_openings service.now served.now) None (W.state world.old) (W.state world.new) result }
     ensures writes { (faults : ℕ) → CountsWrites result faults faults }
+    ensures quota { W.gives_quota ≡ true → result ≡ Ended.Done → HaveServedJust served.now.quota (W.state world.new).gears }
 {
     match open_config(alloc, &SetupReader, &served.config, world) {
         Ok(setup) => serve_setup(rt, alloc, service, setup, served, world),

@@ -14,11 +14,11 @@ load_line grants tally =
     codes "grants " ++ decimal grants ++ codes " active " ++ decimal tally.active ++ codes " inactive " ++ decimal tally.inactive
     ++ codes " cancelled " ++ decimal tally.done ++ 10 ∷ []
 
--- the line of a load that so many workers put through
-abbrev pub IsLoadLine : ℕ → ℕ → List ℕ → Type 0
-IsLoadLine grants workers line = (tally : Tally) × IsLoad grants workers tally × (line ≡ load_line grants tally)
+-- the line of a load that so many workers put through, each with its words under START
+abbrev pub IsLoadLine : ℕ → ℕ → ℕ → List ℕ → Type 0
+IsLoadLine grants start workers line = (tally : Tally) × IsLoad grants start workers tally × (line ≡ load_line grants tally)
 
 -- The line was printed, as far as that went: all of it, or a beginning where a write failed, or nothing for want of memory.
-abbrev pub PrintsLoad : ℕ → ℕ → Told → Told → Ended → Type 0
-PrintsLoad grants workers before after ended =
-    PrintsAnswer (IsLoadLine grants workers) (λ line. ⊥) before after ended × ((ended ≡ Done) ⊎ (ended ≡ WriteFault) ⊎ (ended ≡ Memory))
+abbrev pub PrintsLoad : ℕ → ℕ → ℕ → Told → Told → Ended → Type 0
+PrintsLoad grants start workers before after ended =
+    PrintsAnswer (IsLoadLine grants start workers) (λ line. ⊥) before after ended × ((ended ≡ Done) ⊎ (ended ≡ WriteFault) ⊎ (ended ≡ Memory))

@@ -28,7 +28,7 @@ fn load_line(alloc: Global, grants: u32, tally: &Tally) -> Result<Bytes, Mem>
     Ok(line)
 }
 
-// Puts a load on tables, and says what was counted.
+// Puts a load on tables, with the words under a number, and says what was counted.
 fn line_of_load<R: Threads + Wait + Sync>(
     rt: &R,
     alloc: Global,
@@ -37,15 +37,15 @@ fn line_of_load<R: Threads + Wait + Sync>(
     workers: usize,
 ) -> Result<Bytes, Mem>
     requires workers { (1 ≤ workers) × (workers ≤ 64) }
-    ensures { IfOk result (IsLoadLine grants workers) }
+    ensures { IfOk result (IsLoadLine grants start workers) }
 {
     let core = TableCore::new(alloc, load_setup(alloc)?);
     let tally = put_load(rt, alloc, core, grants, start, workers)?;
     load_line(alloc, grants, &tally)
 }
 
-/// Has so many workers put so many grants through together, and prints how many, and how many replies said that a token is active, that there is
-/// none, and that a grant was ended.
+/// Has so many workers put so many grants through together, with the words of ChaCha20 under a key that begins with `start`, a stream for each, and prints
+/// how many, and how many replies said that a token is active, that there is none, and that a grant was ended.
 pub fn print_load<R: Threads + Wait + Sync, O: Sink>(
     rt: &R,
     alloc: Global,
@@ -55,7 +55,7 @@ pub fn print_load<R: Threads + Wait + Sync, O: Sink>(
     out: &mut O,
 ) -> Ended
     requires workers { (1 ≤ workers) × (workers ≤ 64) }
-    ensures prints { PrintsLoad grants workers (O.told out.old) (O.told out.new) result }
+    ensures prints { PrintsLoad grants start workers (O.told out.old) (O.told out.new) result }
     ensures writes { CountsWrites result (O.faults out.old) (O.faults out.new) }
 {
     match line_of_load(rt, alloc, grants, start, workers) {

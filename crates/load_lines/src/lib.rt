@@ -1,7 +1,7 @@
 //! What a load counted, printed.
 //!
-//! The contract of `print_load` says: the line tells the counts of one legal history in which so many workers put so many grants through
-//! (`specs/LoadLines`).
+//! The contract of `print_load` says: the line tells the counts of one legal history in which so many workers put so many grants through, each with the
+//! random words of its stream (`specs/LoadLines`).
 #![tactic(auto)]
 
 mod counts;

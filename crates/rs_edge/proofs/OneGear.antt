@@ -2,15 +2,16 @@
 use Rattle.std.proofs.Common.{◌≡◌, ◌∙◌, ℕ, List, [], ◌∷◌, map, length, refl, sym, ap, subst, arith, Bool, true, false}
 use Rattle.std.specs.Prelude.{slice_index_or, slice_set, Result, Ok, Err, All}
 use Rattle.std.proofs.lemmas.List.Elements.{All-nil, All-push}
-use Rattle.gnap_io.specs.Gears.{GearState, IsUnused}
+use Rattle.gnap_io.specs.Gears.{GearState, IsUnused, AreFull}
 use Rattle.gnap_io.specs.Links.{LinkState, new_link}
 use Rattle.gnap_io.specs.Worlds.{WorldState, HasWorldCause, with_opening, with_gears, with_link}
 use Rattle.gnap_io.specs.declared.world.Opening.TheVariants as opening
 use Rattle.gnap_io.specs.declared.world.WorldFault.{WorldFault}
 use Rattle.gnap_io.specs.declared.world.WorldFault.TheVariants as faults
 use Rattle.serving.specs.Workers.{HasServedAll}
-use Rattle.serving.specs.ServiceEnds.{has_failed, IsUsedUp}
+use Rattle.serving.specs.ServiceEnds.{has_failed, IsUsedUp, HaveServedJust}
 use Rattle.serving.proofs.UsedUp.{used_up}
+use Rattle.serving.proofs.ServiceLemmas.{served_just}
 use Rattle.resource_server.specs.declared.setup.RsSetup.{RsSetup}
 use Rattle.rs_edge.specs.GuardedSteps.{GuardsKeeping}
 use Rattle.rs_edge.specs.RsSessions.{IsRsAccount}
@@ -19,6 +20,25 @@ use Rattle.rs_edge.specs.RsServices.{ServesOneGear, IsRsService, not_started, se
 served_whole : (before after : GearState) → IsUnused before → HasServedAll before after → has_failed after ≡ false → IsUsedUp after
 served_whole before after unused all none =
     used_up (before ∷ []) (after ∷ []) (All-push IsUnused [] before (All-nil IsUnused) unused) (all, tt) (rw none refl) 0 after (omega arith)
+
+-- where the door of the first gear, of a list that has no other, could give just so many connections, and didn't fail, the gear served so many
+pub gear_served_just : {G : Type 0} (state : G → GearState) (gears : List G) (first after : G) (failed : Bool) (quota : ℕ) → length gears ≡ 1
+    → first ≡ slice_index_or gears 0 first → All (λ gear. IsUnused (state gear)) gears → AreFull state quota gears → HasServedAll (state first) (state after)
+    → failed ≡ has_failed (state after) → failed ≡ false → HaveServedJust quota (map state (slice_set gears 0 after))
+gear_served_just state [] first after failed quota one is unused full all failed_is unfailed = absurd (omega (arith, one))
+gear_served_just state (g ∷ []) first after failed quota one is unused full all failed_is unfailed =
+    let new = subst (λ x. IsUnused (state x)) (sym is) (unused 0 g (omega arith)) in
+    let Full : GearState → Type 0 = λ gear. gear.left ≡ quota in
+    served_just quota (state first ∷ []) (state after ∷ []) (All-push IsUnused [] (state first) (All-nil IsUnused) new)
+    (All-push Full [] (state first) (All-nil Full) (subst (λ x. (state x).left ≡ quota) (sym is) (full 0 g (omega arith)))) (all, tt)
+    (All-push IsUsedUp [] (state after) (All-nil IsUsedUp) (served_whole (state first) (state after) new all (sym failed_is ∙ unfailed)))
+gear_served_just state (g ∷ h ∷ gears) first after failed quota one is unused full all failed_is unfailed = absurd (omega (arith, one))
+
+-- the same of the gears that a world took back before a link
+pub just_back : (quota : ℕ) (link : LinkState) (gears : List GearState) (stopped after : WorldState) → stopped.gears ≡ gears → after ≡ with_link link stopped
+    → HaveServedJust quota gears → HaveServedJust quota after.gears
+just_back quota link gears stopped after gears_back link_back just =
+    subst (HaveServedJust quota) (sym (ap (λ (s : WorldState). s.gears) link_back ∙ gears_back)) just
 
 module _ {K : Type 0} (guards : GuardsKeeping K) (setup : RsSetup) (kept kept_now : K) (link : LinkState) where
   pub one_gear : (before after : GearState) (gears : List GearState) (failed : Bool) → gears ≡ after ∷ [] → IsUnused before

@@ -1,7 +1,8 @@
 //! Serving at an address of a world.
-ghost use Rattle.std.specs.Prelude.{◌≡◌, All, length, map};
-ghost use Rattle.gnap_io.specs.Gears.{IsUnused};
+ghost use Rattle.std.specs.Prelude.{◌≡◌, ℕ, All, length, map, true, false, IfOk};
+ghost use Rattle.gnap_io.specs.Gears.{IsUnused, AreFull};
 ghost use Rattle.gnap_io.specs.Links.{new_link};
+ghost use Rattle.serving.specs.ServiceEnds.{HaveServedJust};
 ghost use Rattle.resource_server.specs.Fits.{RsSetupFits};
 ghost use Rattle.rs_edge.specs.RsServices.{IsRsService, ServesOneGear};
 
@@ -25,7 +26,8 @@ fn serve_gear<K: RequestGuard, L: Link, G: Gear>(
     requires one { length gears.items ≡ 1 }
     requires unused { All (λ gear. IsUnused (G.state gear)) gears.items }
     requires link { L.link link.old ≡ new_link }
-    ensures { ServesOneGear K.guards setup.now (K.kept guard.old) (L.link link.new) (map G.state result.0.items) result.1 (K.kept guard.new) }
+    ensures served { ServesOneGear K.guards setup.now (K.kept guard.old) (L.link link.new) (map G.state result.0.items) result.1 (K.kept guard.new) }
+    ensures just { (quota : ℕ) → AreFull G.state quota gears.items → result.1 ≡ false → HaveServedJust quota (map G.state result.0.items) }
 {
     let mut gears = gears;
     let gear = &mut gears[0];
@@ -52,6 +54,7 @@ pub fn serve_resources_at<K: RequestGuard, W: World>(
     ensures text { W.text world.new ≡ W.text world.old }
     ensures served { IsRsService K.guards setup.now listen.now server.now quota (W.state world.old) (W.state world.new)
         (K.kept guard.old) (K.kept guard.new) result }
+    ensures quota { W.gives_quota ≡ true → IfOk result (λ _. HaveServedJust quota (W.state world.new).gears) }
 {
     let mut link = match world.open_link(server) {
         Ok(link) => link,

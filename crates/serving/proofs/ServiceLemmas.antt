@@ -1,10 +1,10 @@
 -- Gears that were started, served and taken back.
-use Rattle.std.proofs.Common.{◌≡◌, ◌∙◌, ℕ, suc, ◌≤◌, List, [], ◌∷◌, map, length, ap, arith}
+use Rattle.std.proofs.Common.{◌≡◌, ◌∙◌, ℕ, suc, ◌≤◌, List, [], ◌∷◌, map, length, ap, sym, subst, arith}
 use Rattle.std.specs.Prelude.{All, Result}
 use Rattle.std.proofs.lemmas.List.{length-map}
 use Rattle.std.proofs.lemmas.List.Elements.{All-map, All-nil, All-cons}
 use Rattle.gnap_io.specs.Outside.{Served}
-use Rattle.gnap_io.specs.Gears.{GearState, IsUnused, AreStarted}
+use Rattle.gnap_io.specs.Gears.{GearState, IsUnused, AreStarted, AreFull}
 use Rattle.gnap_io.specs.Worlds.{WorldState, with_opening, with_gears}
 use Rattle.gnap_io.specs.declared.world.Opening.TheVariants as opening
 use Rattle.gnap_io.specs.declared.world.WorldFault.{WorldFault}
@@ -13,7 +13,7 @@ use Rattle.histories.specs.History.{Law}
 use Rattle.histories.specs.Turns.{Turn}
 use Rattle.histories.specs.Whole.{OneHistory}
 use Rattle.serving.specs.Workers.{HaveServedAll, accounts_of}
-use Rattle.serving.specs.ServiceEnds.{IsEndOfService}
+use Rattle.serving.specs.ServiceEnds.{IsUsedUp, IsEndOfService, HaveServedJust}
 use Rattle.serving.specs.Services.{IsService, served}
 
 none_served : (gear : GearState) → IsUnused gear → length gear.log.served ≡ 0
@@ -41,6 +41,30 @@ pub started_few : {G : Type 0} (state : G → GearState) (n quota : ℕ) (before
 started_few state n quota before after started all =
     served_few quota (map state before) (map state after) (All-map IsUnused state before started.unused)
     (All-map (λ gear. gear.left ≤ quota) state before started.within) all
+
+-- each gear whose door could give just so many connections, and gave all of them, served so many
+pub served_just : (quota : ℕ) (before after : List GearState) → All IsUnused before → All (λ gear. gear.left ≡ quota) before → HaveServedAll before after
+    → All IsUsedUp after → HaveServedJust quota after
+served_just quota [] [] unused full all used = All-nil (λ (gear : GearState). length gear.log.served ≡ quota)
+served_just quota [] (a ∷ after) unused full all used = absurd all
+served_just quota (b ∷ before) [] unused full all used = absurd all
+served_just quota (b ∷ before) (a ∷ after) unused full all used =
+    let none = none_served b (unused 0 b (omega arith)) in
+    let start = full 0 b (omega arith) in
+    let counted = all.0.served in
+    let left = (used 0 a (omega arith)).left in
+    All-cons (λ (gear : GearState). length gear.log.served ≡ quota) a after (omega (arith, none, start, counted, left))
+    (served_just quota before after (λ k d lt. unused (suc k) d (omega (arith, lt))) (λ k d lt. full (suc k) d (omega (arith, lt))) all.1
+    (λ k d lt. used (suc k) d (omega (arith, lt))))
+
+-- the same of gears that were started, served all, and were taken back
+pub taken_back_full : {G : Type 0} (state : G → GearState) (n quota : ℕ) (before after : List G) (last : List GearState) → AreStarted state n quota before
+    → AreFull state quota before → HaveServedAll (map state before) (map state after) → All IsUsedUp (map state after)
+    → last ≡ map state after → HaveServedJust quota last
+taken_back_full state n quota before after last are_started full all used back =
+    subst (HaveServedJust quota) (sym back)
+    (served_just quota (map state before) (map state after) (All-map IsUnused state before are_started.unused)
+    (All-map (λ gear. gear.left ≡ quota) state before full) all used)
 
 module _ {Message Rules Call Reply Note : Type 0} (law : Law Rules Call Reply Note) (rules : Rules)
     (session : Served → List (Turn Message (Entry Call Reply Note)) → Type 0) where

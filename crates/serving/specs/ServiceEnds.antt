@@ -1,5 +1,5 @@
 -- How the serving of gears ends.
-use Rattle.std.specs.Prelude.{◌≡◌, nat_lt, Bool, true, List, All, Result, Ok, Err}
+use Rattle.std.specs.Prelude.{◌≡◌, ℕ, nat_lt, Bool, true, List, All, length, Result, Ok, Err}
 use Rattle.std.specs.List.{list_any}
 use Rattle.gnap_io.specs.Gears.{GearState, IsUnused}
 use Rattle.gnap_io.specs.declared.world.WorldFault.{WorldFault}
@@ -19,3 +19,7 @@ abbrev pub IsEndOfService : {Done : Type 0} → List GearState → Result Done W
 IsEndOfService gears (Ok done) = All IsUsedUp gears
 IsEndOfService gears (Err Failed) = list_any has_failed gears ≡ true
 IsEndOfService gears (Err OutOfMemory) = All IsUnused gears
+
+-- each gear served just so many connections
+abbrev pub HaveServedJust : ℕ → List GearState → Type 0
+HaveServedJust quota gears = All (λ gear. length gear.log.served ≡ quota) gears

@@ -1,7 +1,7 @@
 //! Serving at an address.
-ghost use Rattle.std.specs.Prelude.{◌≡◌, ◌≤◌, []};
+ghost use Rattle.std.specs.Prelude.{◌≡◌, ◌≤◌, [], true, IfOk};
 ghost use Rattle.std.specs.List.{list_any};
-ghost use Rattle.serving.specs.ServiceEnds.{has_failed};
+ghost use Rattle.serving.specs.ServiceEnds.{has_failed, HaveServedJust};
 ghost use Rattle.serving.specs.Services.{IsService};
 
 use crate::front::Front;
@@ -56,6 +56,7 @@ where
     requires rules { C.rules core ≡ F.rules front.now }
     ensures text { W.text world.new ≡ W.text world.old }
     ensures served { IsService C.M.law (F.rules front.now) (F.session front.now) address.now workers quota (W.state world.old) (W.state world.new) result }
+    ensures quota { W.gives_quota ≡ true → IfOk result (λ _. HaveServedJust quota (W.state world.new).gears) }
 {
     let gears = world.start_gears(address, workers, quota)?;
     let (gears, served) = serve_gears(rt, alloc, core, front, gears);

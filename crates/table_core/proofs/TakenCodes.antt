@@ -11,6 +11,7 @@ use Rattle.gnap_model.specs.Standing.{code_in}
 use Rattle.gnap_model.specs.Values.{code_count, code_text, free_code}
 use Rattle.gnap_model.specs.declared.notes.RoundNote.{RoundNote}
 use Rattle.gnap_laws.proofs.FreeCodes.{free_code_free}
+use Rattle.grant_rules.proofs.UserCodes.{free_code-mod, free_code-taken}
 use Rattle.gnap_laws.proofs.NoteCounts.{length-filter_map}
 use Rattle.gnap_tables.specs.declared.rows.GrantRow.{GrantRow}
 use Rattle.gnap_tables.specs.RowSearches.{Interaction, interaction_where, newest, open_round, open_rounds}
@@ -51,7 +52,7 @@ pub code_taken : (code : Text) (now : ℕ) (rows : List GrantRow)
 code_taken code now rows =
     taken_first code now (reverse rows) ∙ ap (list_any (same_text code)) (sym (filter_map-filter_map (open_round now) code_in (reverse rows)))
 
--- ---- no more tries than there are grants
+-- ---- how many tries find a free code
 
 -- more tries find the same free code
 more_tries : (few many number : ℕ) (taken : List Text) → few ≤ many → list_any (same_text (free_code few number taken)) taken ≡ false → free_code many number taken ≡ free_code few number taken
@@ -75,10 +76,26 @@ few_taken now rows =
     let undecided = count_by-le-length (λ (r : GrantRow). is_some (open_round now r)) (reverse rows) in
     let turned = length-reverse rows in omega (arith, codes, coded, rounds, undecided, turned)
 
--- As many tries as there are grants find the code that as many as there are taken codes find.
-pub enough_tries : (number now : ℕ) (rows : List GrantRow) → length rows < code_count
-    → free_code (length rows) number (filter_map code_in (open_rounds now rows)) ≡ free_code (length (filter_map code_in (open_rounds now rows))) number (filter_map code_in (open_rounds now rows))
-enough_tries number now rows few =
+-- As many tries as there are grants, or more, find the code that as many as there are taken codes find.
+pub enough_tries : (tries number now : ℕ) (rows : List GrantRow) → length rows ≤ tries → length rows < code_count
+    → free_code tries number (filter_map code_in (open_rounds now rows)) ≡ free_code (length (filter_map code_in (open_rounds now rows))) number (filter_map code_in (open_rounds now rows))
+enough_tries tries number now rows enough few =
     let taken = filter_map code_in (open_rounds now rows) in
     let fewer = few_taken now rows in
-    more_tries (length taken) (length rows) number taken fewer (free_code_free number taken (omega (arith, fewer, few)))
+    more_tries (length taken) tries number taken (omega (arith, fewer, enough)) (free_code_free number taken (omega (arith, fewer, few)))
+
+-- Where the codes of a run are taken, the search goes on behind it.
+pub passed_run : (run tries number : ℕ) (taken : List Text) → number + run ≤ code_count → ((k : ℕ) → number ≤ k → k < number + run → list_any (same_text (code_text k)) taken ≡ true)
+    → free_code (run + tries) number taken ≡ free_code tries ((number + run) % code_count) taken
+passed_run zero tries number taken within there =
+    let none : 0 + tries ≡ tries = omega arith in
+    let here : number ≡ number + 0 = omega arith in
+    ap (λ n. free_code n number taken) none ∙ sym (free_code-mod tries number taken) ∙ ap (λ n. free_code tries (n % code_count) taken) here
+passed_run (suc run) tries number taken within there =
+    let more : suc run + tries ≡ suc (run + tries) = omega arith in
+    let end : number + 1 + run ≡ number + suc run = omega arith in
+    ap (λ n. free_code n number taken) more
+    ∙ free_code-taken (run + tries) number taken (omega (arith, within)) (there number (omega arith) (omega arith))
+    ∙ free_code-mod (run + tries) (number + 1) taken
+    ∙ passed_run run tries (number + 1) taken (omega (arith, within)) (λ k le lt. there k (omega (arith, le)) (omega (arith, lt)))
+    ∙ ap (λ n. free_code tries (n % code_count) taken) end

@@ -1,10 +1,11 @@
 //! The user is asked: a grant is pending in a new round of interaction (RFC 9635, section 3.3).
-ghost use Rattle.std.specs.Prelude.{◌≡◌, IfOk};
+ghost use Rattle.std.specs.Prelude.{◌≡◌, ◌<◌, ◌+◌, ℕ, IfOk};
 ghost use Rattle.std.specs.List.{list_any};
 ghost use Rattle.std.specs.declared.option.Option.TheVariants.{None};
 ghost use Rattle.gnap_model.specs.Common.{same_text, some_if};
 ghost use Rattle.gnap_model.specs.Asked.{wants_code};
 ghost use Rattle.gnap_model.specs.Actions.{drawn_value};
+ghost use Rattle.gnap_model.specs.Values.{code_count, free_code};
 ghost use Rattle.gnap_tables.specs.Rows.{round_row};
 ghost use Rattle.grant_rules.specs.UserCodes.{code_for};
 ghost use Rattle.table_core.specs.Entries.{supply};
@@ -46,7 +47,17 @@ fn is_taken(entering: &Entering, code: &[u8; 8]) -> bool
         .is_some()
 }
 
+// The number behind a run of codes of live interactions that begins with this number. The search for a free code goes on there.
+fn passed(entering: &Entering, number: u64) -> u64
+    requires { number < code_count }
+    ensures within { result < code_count }
+    ensures same { (run : ℕ) × ((tries : ℕ) → free_code (run + tries) number (supply entering.now).taken ≡ free_code tries result (supply entering.now).taken) }
+{
+    entering.grants.past_taken(entering.supply.moment, number) % CODE_COUNT
+}
+
 // The user code that the entry draws: that of no live interaction (RFC 9635, section 3.3.3). No memory holds so many grants that all codes could be taken.
+// The table passes over a run of taken codes up to the next first letter at once, so two passes find its end, and few codes are tried one by one.
 fn user_code(entering: &Entering) -> Result<[u8; 8], Mem>
     ensures { IfOk result (λ code. code ≡ code_for (supply entering.now)) }
 {
@@ -54,7 +65,8 @@ fn user_code(entering: &Entering) -> Result<[u8; 8], Mem>
     if CODE_COUNT <= grants as u64 {
         return Err(Mem);
     }
-    let mut tried = entering.supply.words[47] % CODE_COUNT;
+    let first = passed(entering, entering.supply.words[47] % CODE_COUNT);
+    let mut tried = passed(entering, first);
     for _ in 0..grants {
         let code = code_text(tried);
         if !is_taken(entering, &code) {

@@ -22,7 +22,7 @@ use Rattle.world_uses.specs.Uses.{ended_by_fault, Over, Unopened, HasNoConfig, E
 -- ---- how the reading of a setup ends
 
 -- something may be left
-some_rest : (told : Told) → (rest : List ℕ) × IsRest told rest
+pub some_rest : (told : Told) → (rest : List ℕ) × IsRest told rest
 some_rest told = at told.left refl
   where
     at : (left : Option (List ℕ)) → told.left ≡ left → (rest : List ℕ) × IsRest told rest
@@ -256,6 +256,9 @@ module _ {X S : Type 0} (view : X → S) (read : List ℕ → Option S) (text : 
     (config : Over text before between (HasNoConfig {X = X} (Err ended)) (GivesConfig view read (Err ended))) where
   pub unread_used : (openings more : List Opening) (input : Option ℕ) → UsesWorld openings None before between ended → UsesWorld (openings ++ more) input before between ended
   unread_used openings more input uses = uses_stopped openings more input before between ended uses (stopped view read text before between ended config)
+
+  pub unread_isnt_done : ended ≢ Done
+  unread_isnt_done is = not_done ended (stopped view read text before between ended config) (inl is)
 
   pub unread_writes : (faults : ℕ) → CountsWrites ended faults faults
   unread_writes faults = stopped_writes ended faults (stopped view read text before between ended config)

@@ -208,3 +208,12 @@ to_end_at_0 openings input before after WriteFault uses is = absurd cc
 to_end_at_0 openings input before after Memory uses is = absurd cc
 to_end_at_0 openings input before after Refused uses is = absurd cc
 to_end_at_0 openings input before after TooLong uses is = absurd cc
+
+pub done_at_0 : (ended : Ended) → status_of ended ≡ 0 → ended ≡ Done
+done_at_0 Done is = refl
+done_at_0 (NoSetup why) is = absurd cc
+done_at_0 Failed is = absurd cc
+done_at_0 WriteFault is = absurd cc
+done_at_0 Memory is = absurd cc
+done_at_0 Refused is = absurd cc
+done_at_0 TooLong is = absurd cc

@@ -10,7 +10,7 @@ do_share-requires-clause-room g c = ([], c.new-desk.ensures.empty, omega arith)
 pub returns : goal.returns
 returns g c =
     let p = c.in_ok-tally.ensures.shares [] c.new-desk.ensures.empty in
-    let k = p.grows.history in
-    let back = c.into_core.ensures.stands k p.grows.seen_now in
+    let k = p.history in
+    let back = c.into_core.ensures.stands k p.seen_now in
     let rules = c.into_core.ensures.rules ∙ c.do_share.ensures.rules ∙ c.new-desk.ensures.rules ∙ c.requires.rules in
-    load_of_one c.args.grants c.in_ok-tally.tally _ p back.1 (subst (λ r. Legal gnap r k) rules (g.met.C.Core.legal c.into_core.result k back.0))
+    load_of_one c.args.grants c.args.start c.in_ok-tally.tally _ p back.1 (subst (λ r. Legal gnap r k) rules (g.met.C.Core.legal c.into_core.result k back.0))

@@ -1,7 +1,6 @@
 use Rattle.std.proofs.Common.{◌≡◌, ◌∙◌, ◌+◌, ◌*◌, ◌-◌, refl, subst, arith}
-use Rattle.desk_load.specs.Loads.{PutsThrough, IsShare}
-use Rattle.desk_load.specs.Tallies.{none_counted}
-use Rattle.desk_load.proofs.Growing.{less-room, share-next}
+use Rattle.desk_load.specs.Loads.{PutsThrough, IsShare, begun}
+use Rattle.desk_load.proofs.Growing.{less-room, share-next, share-done}
 use Rattle.desk_load.proofs.share.do_share.Goals as goal
 
 pub loop-grant-preserved : goal.loop-grant-preserved
@@ -20,7 +19,7 @@ loop-grant-preserved g c =
       most = let a = i.most in let b = c.do_part.ensures.most in omega (arith, a, b);
       shares = λ h s.
           let first = i.shares h s in
-          share-next c.args.workers c.args.worker grant _ _ _ _ h none_counted c.loop-grant.tally c.do_part.new.tally i.same_number first
+          share-next c.args.workers c.args.worker grant _ _ _ _ h (begun c.args.start c.args.worker) c.loop-grant.progress c.do_part.new.progress i.same_number first
           (part.ensures.does first.grows.history first.grows.seen_now);
     }
 
@@ -30,5 +29,6 @@ returns-clause-shares g c = λ h s.
     let over = c.loop-grant-test.false in
     let under = c.loop-grant.auto.grant-end in
     let all : c.loop-grant.grant ≡ c.args.grants = omega (arith, over, under) in
-    subst (λ n. PutsThrough (IsShare c.args.workers c.args.worker n) (D.number c.args.desk.now) (D.seen c.loop-grant.desk) h none_counted c.loop-grant.tally) all
-    (c.loop-grant.invariant.shares h s)
+    share-done c.args.grants c.args.start c.args.workers c.args.worker _ (D.seen c.loop-grant.desk) h c.loop-grant.progress
+    (subst (λ n. PutsThrough (IsShare c.args.workers c.args.worker n) (D.number c.args.desk.now) (D.seen c.loop-grant.desk) h
+    (begun c.args.start c.args.worker) c.loop-grant.progress) all (c.loop-grant.invariant.shares h s))

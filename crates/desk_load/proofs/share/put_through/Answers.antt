@@ -57,7 +57,7 @@ returns-clause-puts g c =
     if-ok-then c.end_grant.result _ _ c.end_grant.ensures.ends (λ u end.
     put_through c.args.grant (D.number c.args.desk.now) (D.number c.ask.new.desk) (D.number c.ask-2.new.desk) (D.number c.ask-3.new.desk) (D.number c.ask-4.new.desk) (D.number c.ask-5.new.desk)
     s0 (D.seen c.ask.new.desk) (D.seen c.ask-2.new.desk) (D.seen c.ask-3.new.desk) (D.seen c.ask-4.new.desk) (D.seen c.ask-5.new.desk) (D.seen c.end_grant.new.desk)
-    c.args.tally.now c.ask.new.tally c.ask-2.new.tally c.ask-3.new.tally c.ask-4.new.tally c.ask-5.new.tally c.end_grant.new.tally
+    c.args.progress.now c.ask.new.progress c.ask-2.new.progress c.ask-3.new.progress c.ask-4.new.progress c.ask-5.new.progress c.end_grant.new.progress
     c.args.ends c.in_ok-opened.opened c.in_ok-ask.field-0 c.in_ok-rotated.rotated c.in_ok-ask-2.field-0 c.in_ok-ask-3.field-0
     c.ask.ensures.number c.ask-2.ensures.number c.ask-3.ensures.number c.ask-4.ensures.number c.ask-5.ensures.number
     (asks-as _ _ _ _ _ _ _ _ c.in_ok-opening_call.ensures.call c.in_ok-opened.ensures.asks)

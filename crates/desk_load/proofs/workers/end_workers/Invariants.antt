@@ -10,6 +10,6 @@ invariant-loop-worker g l =
     × (goal.iterator-loop-worker g).is_finite l.worker-iterator
     × (l.yielded ++ into_iter_items l.worker-iterator ≡ l.fn.workers.items)
     × (length l.passes.items ≡ length l.yielded)
-    × HaveDoneSoFar l.shared l.grants l.passes.items l.total
+    × HaveDoneSoFar l.shared l.grants l.start l.passes.items l.total
     × (counted_in l.total ≤ length l.passes.items * 2 ^ 40)
     × (into_iter_len l.worker-iterator ≡ length (into_iter_items l.worker-iterator))

@@ -29,13 +29,14 @@ loop-pass-preserved g c =
       tt,
       parts-next c.loop-pass.yielded _ _ _ c.in-Some.pass i.2 c.in-Some.ensures.steps.0,
       (let a = ap length pushed in let b = i.3 in omega (arith, a, b, size, done)),
-      subst (λ l. (k : _) (v : _) → get_elem? l k ≡ some v → IsWorker c.args.shared.now c.args.grants k v) (sym pushed)
-          (each-next (λ k v. IsWorker c.args.shared.now c.args.grants k v) c.loop-pass.workers.items w i.4 (record {
+      subst (λ l. (k : _) (v : _) → get_elem? l k ≡ some v → IsWorker c.args.shared.now c.args.grants c.args.start k v) (sym pushed)
+          (each-next (λ k v. IsWorker c.args.shared.now c.args.grants c.args.start k v) c.loop-pass.workers.items w i.4 (record {
             home = ap (λ (s : StationState Setup GnapEntry). s.home) c.new.ensures.station;
             number = ap (λ (s : StationState Setup GnapEntry). s.number) c.new.ensures.station ∙ (c.requires.new.all.each (length c.loop-pass.yielded) c.in-Some.pass at).1 ∙ sym i.3;
             grants_are = c.new.ensures.share.0;
-            workers_are = c.new.ensures.share.1 ∙ (let long = c.args.passes.ok in omega (arith, long, count));
-            worker_is = c.new.ensures.share.2 ∙ (let long = c.loop-pass.workers.ok in omega (arith, long));
+            start_is = c.new.ensures.share.1;
+            workers_are = c.new.ensures.share.2 ∙ (let long = c.args.passes.ok in omega (arith, long, count));
+            worker_is = c.new.ensures.share.3 ∙ (let long = c.loop-pass.workers.ok in omega (arith, long));
           })),
       (let a = c.in-Some.ensures.steps.1 in let b = ap length c.in-Some.ensures.steps.0 in let d = i.5 in omega (arith, a, b, d)),
     )

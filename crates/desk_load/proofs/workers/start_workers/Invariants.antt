@@ -11,5 +11,5 @@ invariant-loop-pass g l =
     × (goal.iterator-loop-pass g).is_finite l.pass-iterator
     × (l.yielded ++ into_iter_items l.pass-iterator ≡ l.fn.passes.items)
     × (length l.workers.items ≡ length l.yielded)
-    × ((k : ℕ) (w : _) → get_elem? l.workers.items k ≡ some w → IsWorker l.shared l.grants k w)
+    × ((k : ℕ) (w : _) → get_elem? l.workers.items k ≡ some w → IsWorker l.shared l.grants l.start k w)
     × (into_iter_len l.pass-iterator ≡ length (into_iter_items l.pass-iterator))

@@ -3,6 +3,7 @@ use Rattle.std.specs.Prelude.{None}
 use Rattle.gnap_io.specs.declared.world.Opening.TheVariants.{Gears, Link}
 use Rattle.command_inputs.specs.declared.ended.Ended.{Ended}
 use Rattle.world_uses.specs.Uses.{UsesWorld}
+use Rattle.gnap_tool.proofs.ServedGears.{done_by}
 use Rattle.gnap_tool.proofs.ServedResources.{resources_used}
 use Rattle.gnap_tool.proofs.commands.serve_guarded.Goals as goal
 
@@ -17,3 +18,6 @@ returns-clause-world g c =
     subst U (sym c.ended_service.ensures)
     (resources_used g.K.RequestGuard.guards (g.K.RequestGuard.kept c.args.guard.now) (g.K.RequestGuard.kept c.serve_resources_at.new.guard) c.args.setup.now
     c.args.listen.now c.args.server.now c.args.quota before after c.serve_resources_at.result c.serve_resources_at.ensures.served)
+
+pub returns-clause-quota : goal.returns-clause-quota
+returns-clause-quota g c = λ gives. done_by c.serve_resources_at.result c.ended_service.result _ c.ended_service.ensures (c.serve_resources_at.ensures.quota gives)

@@ -6,7 +6,7 @@ use Rattle.resource_server.specs.declared.setup.RsSetup.{RsSetup}
 use Rattle.gnap_tool.specs.Configs.{rs_setup_in}
 use Rattle.gnap_tool.specs.Runs.{ServesRs}
 use Rattle.gnap_tool.proofs.ServedResources.{unserved}
-use Rattle.world_uses.proofs.AfterConfig.{by_setup_on, by_setup_off, unread_used, unread_writes, uses_then}
+use Rattle.world_uses.proofs.AfterConfig.{by_setup_on, by_setup_off, unread_used, unread_isnt_done, unread_writes, uses_then}
 use Rattle.gnap_tool.proofs.commands.serve_rs.Goals as goal
 
 pub returns-in-Ok-clause-carried : goal.returns-in-Ok-clause-carried
@@ -45,3 +45,8 @@ pub returns-in-Err-clause-writes : goal.returns-in-Err-clause-writes
 returns-in-Err-clause-writes g c faults =
     unread_writes (λ (setup : RsSetup). setup) rs_setup_in (g.W.World.text c.args.world.now c.args.config.now) (g.W.World.state c.args.world.now) (g.W.World.state c.open_config.new.world) c.in-Err.ended
     c.in-Err.ensures.config faults
+
+pub returns-in-Err-clause-quota : goal.returns-in-Err-clause-quota
+returns-in-Err-clause-quota g c = λ gives well.
+    absurd (unread_isnt_done (λ (setup : RsSetup). setup) rs_setup_in (g.W.World.text c.args.world.now c.args.config.now) (g.W.World.state c.args.world.now)
+    (g.W.World.state c.open_config.new.world) c.in-Err.ended c.in-Err.ensures.config well)

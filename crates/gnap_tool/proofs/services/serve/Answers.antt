@@ -6,7 +6,7 @@ use Rattle.gnap_model.specs.declared.objects.Setup.{Setup}
 use Rattle.command_inputs.specs.Configs.{setup_in}
 use Rattle.gnap_tool.specs.Commands.{service_openings}
 use Rattle.gnap_tool.specs.Runs.{ServesBy}
-use Rattle.world_uses.proofs.AfterConfig.{by_setup_on, by_setup_off, unread_used, unread_writes, uses_then}
+use Rattle.world_uses.proofs.AfterConfig.{by_setup_on, by_setup_off, unread_used, unread_isnt_done, unread_writes, uses_then}
 use Rattle.gnap_tool.proofs.ServedSetups.{nothing_served}
 use Rattle.gnap_tool.proofs.services.serve.Goals as goal
 
@@ -45,3 +45,8 @@ pub returns-in-Err-clause-writes : goal.returns-in-Err-clause-writes
 returns-in-Err-clause-writes g c faults =
     unread_writes (λ (setup : Setup). setup) setup_in (g.W.World.text c.args.world.now c.args.served.now.config) (g.W.World.state c.args.world.now)
     (g.W.World.state c.open_config.new.world) c.in-Err.ended c.in-Err.ensures.config faults
+
+pub returns-in-Err-clause-quota : goal.returns-in-Err-clause-quota
+returns-in-Err-clause-quota g c = λ gives well.
+    absurd (unread_isnt_done (λ (setup : Setup). setup) setup_in (g.W.World.text c.args.world.now c.args.served.now.config) (g.W.World.state c.args.world.now)
+    (g.W.World.state c.open_config.new.world) c.in-Err.ended c.in-Err.ensures.config well)

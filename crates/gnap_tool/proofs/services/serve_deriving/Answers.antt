@@ -7,7 +7,8 @@ use Rattle.command_inputs.specs.declared.ended.Ended.{Ended}
 use Rattle.gnap_tool.specs.Configs.{pairs_in}
 use Rattle.gnap_tool.specs.Runs.{ServesDeriving}
 use Rattle.world_uses.specs.Uses.{UsesWorld}
-use Rattle.world_uses.proofs.AfterConfig.{by_setup_on, by_setup_off, unread_used, unread_writes, uses_then}
+use Rattle.world_uses.proofs.AfterConfig.{by_setup_on, by_setup_off, unread_used, unread_isnt_done, unread_writes, uses_then}
+use Rattle.gnap_tool.proofs.ServedGears.{done_by}
 use Rattle.gnap_tool.proofs.ServedSetups.{derivations_used}
 use Rattle.gnap_tool.proofs.services.serve_deriving.Goals as goal
 
@@ -51,3 +52,12 @@ pub returns-in-Err-clause-writes : goal.returns-in-Err-clause-writes
 returns-in-Err-clause-writes g c faults =
     unread_writes (λ (known : List Pair). known) (pairs_in c.args.setup) (g.W.World.text c.args.world.now c.args.pairs.now) (g.W.World.state c.args.world.now)
     (g.W.World.state c.open_config.new.world) c.in-Err.ended c.in-Err.ensures.config faults
+
+pub returns-in-Ok-clause-quota : goal.returns-in-Ok-clause-quota
+returns-in-Ok-clause-quota g c = λ gives.
+    done_by c.serve_deriving_at.result c.ended_service.result _ c.ended_service.ensures (c.serve_deriving_at.ensures.quota gives)
+
+pub returns-in-Err-clause-quota : goal.returns-in-Err-clause-quota
+returns-in-Err-clause-quota g c = λ gives well.
+    absurd (unread_isnt_done (λ (known : List Pair). known) (pairs_in c.args.setup) (g.W.World.text c.args.world.now c.args.pairs.now)
+    (g.W.World.state c.args.world.now) (g.W.World.state c.open_config.new.world) c.in-Err.ended c.in-Err.ensures.config well)

@@ -4,6 +4,7 @@ use Rattle.gnap_io.specs.declared.world.Opening.TheVariants.{Gears}
 use Rattle.command_inputs.specs.declared.ended.Ended.{Ended}
 use Rattle.gnap_tool.specs.declared.command.Service.TheVariants.{Grants, Derivations, Sets}
 use Rattle.world_uses.specs.Uses.{UsesWorld}
+use Rattle.gnap_tool.proofs.ServedGears.{done_by}
 use Rattle.gnap_tool.proofs.ServedSetups.{grants_used, sets_used, serves_as, service_used}
 use Rattle.gnap_tool.proofs.services.serve_setup.Goals as goal
 
@@ -43,3 +44,10 @@ pub returns-in-Derivations-clause-world : goal.returns-in-Derivations-clause-wor
 returns-in-Derivations-clause-world g c =
     service_used (Derivations c.in-Derivations.pairs) _ c.in-Derivations.is c.args.setup c.args.served.now (g.W.World.state c.args.world.now)
     (g.W.World.state c.serve_deriving.new.world) c.serve_deriving.result c.serve_deriving.ensures.world
+
+pub returns-in-Grants-clause-quota : goal.returns-in-Grants-clause-quota
+returns-in-Grants-clause-quota g c = λ gives. done_by c.serve_at.result c.ended_service.result _ c.ended_service.ensures (c.serve_at.ensures.quota gives)
+
+pub returns-in-Sets-clause-quota : goal.returns-in-Sets-clause-quota
+returns-in-Sets-clause-quota g c = λ gives.
+    done_by c.serve_sets_at.result c.ended_service-in-Sets.result _ c.ended_service-in-Sets.ensures (c.serve_sets_at.ensures.quota gives)

@@ -5,10 +5,11 @@ use Rattle.std.specs.Result.{is_ok, is_err}
 use Rattle.std.proofs.lemmas.Result.{err_from_is_err_and}
 use Rattle.std.proofs.lemmas.List.Elements.{All-map}
 use Rattle.gnap_io.specs.Gears.{IsUnused}
+use Rattle.gnap_io.specs.Worlds.{WorldState}
 use Rattle.serving.specs.ServiceEnds.{has_failed}
 use Rattle.serving.specs.Services.{not_started}
 use Rattle.serving.proofs.UsedUp.{any_counted, used_up}
-use Rattle.serving.proofs.ServiceLemmas.{unused_few, started_few, taken_back}
+use Rattle.serving.proofs.ServiceLemmas.{unused_few, started_few, taken_back, taken_back_full}
 use Rattle.serving.proofs.service.serve_front_at.Goals as goal
 
 pub returns-in_err-gears-clause-served : goal.returns-in_err-gears-clause-served
@@ -50,3 +51,18 @@ returns-else-failed-clause-served g c =
     (started_few st c.args.workers c.args.quota c.in_ok-gears.gears.items gears c.in_ok-gears.ensures.gears done)
     (used_up (map st c.in_ok-gears.gears.items) (map st gears) (All-map IsUnused st c.in_ok-gears.gears.items c.in_ok-gears.ensures.gears.unused) done
     (any_counted st gears ∙ ap (list_any (λ gear. has_failed (st gear))) (sym c.as_slice.ensures.value) ∙ sym c.any_failed-failed.ensures ∙ c.if-failed.false))
+
+pub returns-in_err-gears-clause-quota : goal.returns-in_err-gears-clause-quota
+returns-in_err-gears-clause-quota g c =
+    let p = err_from_is_err_and c.from_residual.result c.from_residual.ensures.1 in
+    rw p.1 (λ _. tt)
+
+pub returns-else-failed-clause-quota : goal.returns-else-failed-clause-quota
+returns-else-failed-clause-quota g c = λ gives.
+    let st = g.W.Gear.Counted.state in
+    let gears = c.serve_gears-gears.result.0.items in
+    let done = c.serve_gears-gears.ensures.done (ap is_ok c.in-Ok.is) in
+    taken_back_full st c.args.workers c.args.quota c.in_ok-gears.gears.items gears _ c.in_ok-gears.ensures.gears (c.in_ok-gears.ensures.quota gives) done
+    (used_up (map st c.in_ok-gears.gears.items) (map st gears) (All-map IsUnused st c.in_ok-gears.gears.items c.in_ok-gears.ensures.gears.unused) done
+    (any_counted st gears ∙ ap (list_any (λ gear. has_failed (st gear))) (sym c.as_slice.ensures.value) ∙ sym c.any_failed-failed.ensures ∙ c.if-failed.false))
+    (ap (λ (s : WorldState). s.gears) c.stop_gears.ensures.state)
