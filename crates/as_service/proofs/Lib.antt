@@ -1,1 +1,2 @@
 mod FewEntries
+mod ServedDeriving

@@ -4,6 +4,8 @@
 //! gears back to the world. Its contract has one legal history behind all that the gears tell, of which the machine's laws hold (`specs/Services.antt`).
 #![tactic(auto)]
 
+mod deriving_service;
 mod service;
 
+pub use deriving_service::serve_deriving_at;
 pub use service::serve_at;

@@ -2,4 +2,3 @@ pub mod Openings
 pub mod Terms
 pub mod Turning
 pub mod DerivedEntries
-pub mod ServedDeriving

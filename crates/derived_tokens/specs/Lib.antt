@@ -3,4 +3,3 @@ pub mod DerivingSetups
 pub mod Answering
 pub mod DerivedTurns
 pub mod DerivedSessions
-pub mod DerivedServices

@@ -9,8 +9,8 @@ use Rattle.gnap_model.specs.declared.objects.Setup.{Setup}
 use Rattle.as_service.specs.Services.{IsService}
 use Rattle.as_service.specs.Services as grants
 use Rattle.derivation_requests.specs.Pairs.{Pair}
-use Rattle.derived_tokens.specs.DerivedServices.{IsDerivingService}
-use Rattle.derived_tokens.specs.DerivedServices as derivations
+use Rattle.as_service.specs.DerivedServices.{IsDerivingService}
+use Rattle.as_service.specs.DerivedServices as derivations
 use Rattle.rs_facing.specs.SetServices.{IsSetService}
 use Rattle.rs_facing.specs.SetServices as sets
 use Rattle.command_inputs.specs.declared.ended.Ended.{Ended}

@@ -9,7 +9,7 @@ use Rattle.gnap_io.specs.declared.world.WorldFault.{WorldFault}
 use Rattle.as_service.specs.Services.{IsService}
 use Rattle.rs_facing.specs.SetServices.{IsSetService}
 use Rattle.derivation_requests.specs.Pairs.{Pair}
-use Rattle.derived_tokens.specs.DerivedServices.{IsDerivingService}
+use Rattle.as_service.specs.DerivedServices.{IsDerivingService}
 use Rattle.gnap_tool.specs.declared.command.Command.{Command}
 use Rattle.gnap_tool.specs.declared.command.Command.TheVariants.{Replay, Field, Sign, Verify, Serve, Rs, Client, Hash, Load}
 use Rattle.gnap_tool.specs.declared.command.Service.{Service}

@@ -10,10 +10,9 @@ ghost use Rattle.gnap_tool.specs.declared.command.Service.TheVariants.{Derivatio
 
 use crate::command::{Command, ServedSetup, Service};
 use crate::config::PairsReader;
-use as_service::serve_at;
+use as_service::{serve_at, serve_deriving_at};
 use bytes_and_lists::bytes::Bytes;
 use command_inputs::{Ended, SetupReader};
-use derived_tokens::serve_deriving_at;
 use gnap_io::world::{Opening, World, WorldFault};
 use gnap_model::objects::Setup;
 use rs_facing::serve_sets_at;

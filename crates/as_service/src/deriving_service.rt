@@ -1,15 +1,15 @@
-//! Serving at an address.
+//! Serving at an address where tokens are derived.
 ghost use Rattle.std.specs.Prelude.{◌≡◌, ◌≤◌};
 ghost use Rattle.gnap_objects.specs.Setups.{IsSetup};
 ghost use Rattle.derivation_requests.specs.Pairs.{ArePairs};
-ghost use Rattle.derived_tokens.specs.DerivedServices.{IsDerivingService};
+ghost use Rattle.as_service.specs.DerivedServices.{IsDerivingService};
 
-use crate::deriving_server::DerivingServer;
-use crate::laws::ends_with_its_term;
 use as_requests::Edge;
 use bytes_and_lists::bytes::Bytes;
 use bytes_and_lists::memory::Duplicate;
 use derivation_requests::Pairs;
+use derived_tokens::DerivingServer;
+use derived_tokens::laws::ends_with_its_term;
 use gnap_io::world::{World, WorldFault};
 use gnap_model::objects::Setup;
 use grant_machine::laws::what_holds;

@@ -24,7 +24,7 @@ use Rattle.derived_tokens.specs.Terms.{TermsHold, EndsWithItsTerm}
 use Rattle.derived_tokens.specs.DerivedTurns.{deriving_face, IsDerivingTurn}
 use Rattle.derived_tokens.specs.DerivedTurns as derived
 use Rattle.derived_tokens.specs.DerivedSessions.{IsDerivingSession}
-use Rattle.derived_tokens.specs.DerivedServices.{IsDerivingService, not_started, served}
+use Rattle.as_service.specs.DerivedServices.{IsDerivingService, not_started, served}
 use Rattle.derived_tokens.proofs.DerivedEntries.{history_derived}
 
 -- ---- how many entries there are

@@ -1,8 +1,8 @@
 use Rattle.std.proofs.Common.{arith, refl}
 use Rattle.gnap_io.specs.declared.world.WorldFault.TheVariants.{OutOfMemory}
-use Rattle.derived_tokens.specs.DerivedServices.{not_started}
-use Rattle.derived_tokens.proofs.ServedDeriving.{deriving_service}
-use Rattle.derived_tokens.proofs.service.serve_deriving_at.Goals as goal
+use Rattle.as_service.specs.DerivedServices.{not_started}
+use Rattle.as_service.proofs.ServedDeriving.{deriving_service}
+use Rattle.as_service.proofs.deriving_service.serve_deriving_at.Goals as goal
 
 pub returns-in_default-clause-served : goal.returns-in_default-clause-served
 returns-in_default-clause-served g c = not_started OutOfMemory refl refl
