@@ -1,5 +1,5 @@
 -- Rows of grants, as they are stored.
-use Rattle.std.proofs.Common.{ℕ, ◌≡◌, ◌⊎◌, ◌<◌, ◌≤◌, ◌+◌, ◌^◌, Bool, true, false, List, [], ◌∷◌, ◌++◌, length, get_or, map, refl, sym, ◌∙◌, ap, subst, inl, inr, arith, cond, Option, Some, None}
+use Rattle.std.proofs.Common.{ℕ, ◌≡◌, ◌⊎◌, ◌<◌, ◌≤◌, ◌+◌, ◌^◌, Bool, true, false, List, [], ◌∷◌, ◌++◌, length, get_or, map, refl, sym, ◌∙◌, ap, subst, inl, inr, arith, Option, Some, None}
 use Rattle.std.specs.Prelude.{slice_get, not, ◌&&◌, ◌||◌, filter, ◌==◌, if◌then◌else◌, option_map, is_some}
 use Rattle.std.specs.Option.{option_and_then}
 use Rattle.std.specs.List.{All, AllPairs, remove}
@@ -23,8 +23,9 @@ use Rattle.grant_states.specs.declared.changes.Change.{Change}
 use Rattle.grant_states.specs.declared.changes.Change.TheVariants.{Terms, Approve, Decide, Wrong}
 use Rattle.grant_states.specs.declared.grant_table.GrantPlace.{GrantPlace}
 use Rattle.grant_states.specs.declared.grant_table.DoorPlace.{DoorPlace}
-use Rattle.grant_states.specs.Grants.{BeginsWith, grant_in, door_place, IsGrantPlace, AreGrantPlaces, is_current_door, is_door_of, where_some, Changes, ChangesAll, changed_by}
-use Rattle.grant_states.proofs.Items.{item_all, item_of_map, item_left, item_right, item_in, get_at, get_has, get_past, newest_none, newest_only, found_in, found_none, any_newest}
+use Rattle.grant_states.specs.Grants.{BeginsWith, grant_in, door_place, IsGrantPlace, AreGrantPlaces, is_current_door, is_door_of, Changes, ChangesAll, changed_by}
+use Rattle.grant_states.specs.Listed.{where_some}
+use Rattle.grant_states.proofs.Items.{item_all, item_filtered, item_of_map, item_left, item_right, item_in, get_at, get_has, get_past, newest_none, newest_only, found_in, found_none, any_newest}
 use Rattle.grant_states.proofs.Placed.{ascending_keys, at_place, one_key, placed, placed_key, eqb-self}
 use Rattle.grant_states.proofs.Changed.{changed_at, changed_past, removed_at, all_left, map-filter}
 use Rattle.grant_states.proofs.Decoding.{Tells, no_number}
@@ -335,19 +336,6 @@ place_pushed places doors bound new are fresh keyed small begins above =
     )
 
 -- ---- continuation values that are left out of the index
-
-pub item_filtered : {A : Type 0} (test : A → Bool) (xs : List A) (z : A) → HasItem xs z → test z ≡ true → HasItem (filter test xs) z
-item_filtered test [] z h t = absurd h
-item_filtered {A} test (x ∷ xs) z (inl e) t = at (test x) (ap test (sym e) ∙ t)
-  where
-    at : (b : Bool) → b ≡ true → HasItem (cond b (x ∷ filter test xs) (filter test xs)) z
-    at true k = inl e
-    at false k = cc k
-item_filtered {A} test (x ∷ xs) z (inr h) t = at (test x) (item_filtered test xs z h t)
-  where
-    at : (b : Bool) → HasItem (filter test xs) z → HasItem (cond b (x ∷ filter test xs) (filter test xs)) z
-    at true k = inr k
-    at false k = k
 
 is_current : (places : List GrantPlace) (p : GrantPlace) → HasItem places p → is_current_door places (door_place p.door_serial p.number) ≡ true
 is_current [] p h = absurd h

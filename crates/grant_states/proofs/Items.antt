@@ -1,6 +1,6 @@
 -- Elements of lists, and look-ups that find one thing at most.
-use Rattle.std.proofs.Common.{ℕ, zero, suc, ◌≡◌, ◌⊎◌, ◌<◌, ◌≤◌, Bool, true, false, List, [], ◌∷◌, ◌++◌, map, reverse, length, get_or, refl, sym, ◌∙◌, ap, subst, inl, inr, arith, Option, Some, None}
-use Rattle.std.specs.Prelude.{slice_get, is_some, option_map, ◌||◌}
+use Rattle.std.proofs.Common.{cond, ℕ, zero, suc, ◌≡◌, ◌⊎◌, ◌<◌, ◌≤◌, Bool, true, false, List, [], ◌∷◌, ◌++◌, map, reverse, length, get_or, refl, sym, ◌∙◌, ap, subst, inl, inr, arith, Option, Some, None}
+use Rattle.std.specs.Prelude.{filter, slice_get, is_some, option_map, ◌||◌}
 use Rattle.std.specs.Option.{option_or}
 use Rattle.std.specs.List.{All, list_any}
 use Rattle.gnap_model.specs.Common.{first_of, some_if}
@@ -44,6 +44,29 @@ pub item_in : {A : Type 0} (xs : List A) (i : ℕ) (d : A) → i < length xs →
 item_in [] i d h = absurd (omega arith)
 item_in (x ∷ xs) zero d h = inl refl
 item_in (x ∷ xs) (suc i) d h = inr (item_in xs i d (omega arith))
+
+-- what passes a test
+pub item_filtered : {A : Type 0} (test : A → Bool) (xs : List A) (z : A) → HasItem xs z → test z ≡ true → HasItem (filter test xs) z
+item_filtered test [] z h t = absurd h
+item_filtered {A} test (x ∷ xs) z (inl e) t = at (test x) (ap test (sym e) ∙ t)
+  where
+    at : (b : Bool) → b ≡ true → HasItem (cond b (x ∷ filter test xs) (filter test xs)) z
+    at true k = inl e
+    at false k = cc k
+item_filtered {A} test (x ∷ xs) z (inr h) t = at (test x) (item_filtered test xs z h t)
+  where
+    at : (b : Bool) → HasItem (filter test xs) z → HasItem (cond b (x ∷ filter test xs) (filter test xs)) z
+    at true k = inr k
+    at false k = k
+
+pub item_of_filter : {A : Type 0} (test : A → Bool) (xs : List A) (z : A) → HasItem (filter test xs) z → HasItem xs z × (test z ≡ true)
+item_of_filter test [] z h = absurd h
+item_of_filter {A} test (x ∷ xs) z h = at (test x) refl h (item_of_filter test xs z)
+  where
+    at : (b : Bool) → test x ≡ b → HasItem (cond b (x ∷ filter test xs) (filter test xs)) z → (HasItem (filter test xs) z → HasItem xs z × (test z ≡ true)) → HasItem (x ∷ xs) z × (test z ≡ true)
+    at true e (inl same) rest = (inl same, ap test same ∙ e)
+    at true e (inr m) rest = let r = rest m in (inr r.0, r.1)
+    at false e m rest = let r = rest m in (inr r.0, r.1)
 
 -- a fact of all elements
 pub item_all : {A : Type 0} (P : A → Type 0) (xs : List A) (z : A) → All P xs → HasItem xs z → P z
@@ -119,6 +142,13 @@ found_none test xs e z h t =
     let n = first_nothing (λ x. some_if (test x) x) (reverse xs) e z (item-reversed xs z h) in
     let y : some_if (test z) z ≡ Some z = rw t refl in
     let k : None ≡ Some z = sym n ∙ y in cc k
+
+pub newest_some : {A B : Type 0} (look : A → Option B) (xs : List A) (z : A) (w : B) → HasItem xs z → look z ≡ Some w → is_some (newest look xs) ≡ true
+newest_some {A} {B} look xs z w h e = by (newest look xs) refl
+  where
+    by : (o : Option B) → newest look xs ≡ o → is_some (newest look xs) ≡ true
+    by None n = let k : None ≡ Some w = sym (first_nothing look (reverse xs) n z (item-reversed xs z h)) ∙ e in cc k
+    by (Some y) n = ap is_some n
 
 -- an element passes where the newest that passes is found
 pub any_newest : {A : Type 0} (test : A → Bool) (xs : List A) → is_some (newest (λ x. some_if (test x) x) xs) ≡ list_any test xs

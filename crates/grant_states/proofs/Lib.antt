@@ -3,6 +3,8 @@ pub mod Items
 pub mod Placed
 pub mod ListedNumbers
 pub mod Changed
+pub mod CodeLists
 pub mod GrantLemmas
 pub mod InteractionLemmas
 pub mod NamedRounds
+pub mod OpenRounds

@@ -1,5 +1,5 @@
 -- Numbers in the order of their keys.
-use Rattle.std.proofs.Common.{ℕ, zero, suc, ◌≡◌, ◌<◌, ◌≤◌, Bool, true, false, List, [], ◌∷◌, length, get_or, take, drop, map, refl, sym, ◌∙◌, ap, subst, inl, inr, arith, Option, Some, None, leb, ltb}
+use Rattle.std.proofs.Common.{ℕ, zero, suc, ◌≡◌, ◌<◌, ◌≤◌, Bool, true, false, List, [], ◌∷◌, length, get_or, take, drop, refl, sym, ◌∙◌, ap, subst, inl, inr, arith, leb, ltb}
 use Rattle.std.specs.List.{insert, items_where_true}
 use Rattle.std.specs.List.Sorted.{IsNonDecreasingBy, IsPartitionPoint}
 use Rattle.std.proofs.lemmas.List.{take-append-drop}
@@ -61,7 +61,7 @@ of_within listed high key one point h mine = item_before high listed one h (λ i
 
 -- ---- what is left of a list in order
 
-picked_item : {A : Type 0} (bs : List Bool) (xs : List A) (z : A) → HasItem (items_where_true bs xs) z → HasItem xs z
+pub picked_item : {A : Type 0} (bs : List Bool) (xs : List A) (z : A) → HasItem (items_where_true bs xs) z → HasItem xs z
 picked_item [] xs z h = absurd h
 picked_item (b ∷ bs) [] z h = absurd h
 picked_item (true ∷ bs) (x ∷ xs) z (inl e) = inl e

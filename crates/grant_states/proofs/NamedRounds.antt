@@ -2,11 +2,11 @@
 use Rattle.std.proofs.Common.{ℕ, ◌≡◌, ◌⊎◌, ◌<◌, ◌≤◌, ◌+◌, suc, Bool, true, false, List, [], ◌∷◌, ◌++◌, length, get_or, take, map, reverse, refl, sym, ◌∙◌, ap, subst, inl, inr, arith, Option, Some, None}
 use Rattle.std.specs.Prelude.{◌==◌, ◌&&◌, nat_lt, not, is_some, filter, if◌then◌else◌, option_map, slice_get, IfSome}
 use Rattle.std.specs.Option.{option_and_then, option_or}
-use Rattle.std.specs.List.{All, AllPairs, remove}
+use Rattle.std.specs.List.{AllPairs, remove}
 use Rattle.std.proofs.Math.ListN.{set}
 use Rattle.std.proofs.lemmas.List.Elements.{All-push, All-set, All-filter}
 use Rattle.std.proofs.lemmas.Bool.{eqb-true}
-use Rattle.std.proofs.lemmas.List.{take_more}
+use Rattle.std.proofs.lemmas.List.{map-append, take_more, reverse-append}
 use Rattle.std.proofs.lemmas.Bool.Decides.{nat_tests}
 use Rattle.gnap_model.specs.Common.{Text, first_of, some_if}
 use Rattle.gnap_model.proofs.LookUps.{some_if_some, first_of-append}
@@ -20,52 +20,46 @@ use Rattle.grant_states.specs.declared.grant_table.GrantPlace.{GrantPlace}
 use Rattle.grant_states.specs.declared.grant_table.DoorPlace.{DoorPlace}
 use Rattle.grant_states.specs.declared.interactions.InteractionName.{InteractionName}
 use Rattle.grant_states.specs.declared.numbers_by_key.Listed.{Listed}
-use Rattle.grant_states.specs.declared.round_names.RoundNames.{RoundNames}
-use Rattle.grant_states.specs.Listed.{under}
+use Rattle.grant_states.specs.Listed.{under, where_some}
 use Rattle.grant_states.specs.Interactions.{goes_by, is_called, is_open_by}
-use Rattle.grant_states.specs.RoundNames.{IsRoundListed, handle_key, code_key}
-use Rattle.grant_states.specs.Grants.{grant_in, AreGrantPlaces, AreRoundsListed, Changes, changed_by, in_round, is_handle_listed, is_code_listed, later_of, open_numbered, place_numbered, round_numbered, where_some, IsLatest}
-use Rattle.grant_states.proofs.Items.{found_in, found_none, item_all, item_append, item_at, item_in, item_left, item_mapped, item_of_map, item_right, newest_none, newest_only}
+use Rattle.grant_states.specs.Serials.{handle_key}
+use Rattle.grant_states.specs.Grants.{grant_in, AreGrantPlaces, AreHandlesListed, IsHandleListed, Changes, changed_by, in_round, is_handle_listed, later_of, open_numbered, place_numbered, IsLatest}
+use Rattle.grant_states.proofs.Items.{found_in, found_none, item_all, item_append, item_filtered, item_at, item_in, item_left, item_mapped, item_of_map, item_right, newest_none, newest_only}
 use Rattle.ordered_search.specs.Order.{IsAscending, IsPlaceOf}
 use Rattle.grant_states.proofs.Placed.{eqb-self, one_key, placed_key}
 use Rattle.grant_states.proofs.Changed.{removed_at}
-use Rattle.grant_states.proofs.GrantLemmas.{item_filtered, place_pairs, KeepsDoor, KeepsNumber}
+use Rattle.grant_states.proofs.GrantLemmas.{place_pairs, KeepsDoor, KeepsNumber}
 use Rattle.grant_states.proofs.InteractionLemmas.{open_rows}
 
--- ---- names stay listed
+-- ---- handles stay listed
 
 -- what is listed in the one is listed in the other
-abbrev pub Extends : RoundNames → RoundNames → Type 0
-Extends names more =
-    ((one : Listed) → HasItem names.handles.listed one → HasItem more.handles.listed one) × ((one : Listed) → HasItem names.codes.listed one → HasItem more.codes.listed one)
+abbrev pub Extends : List Listed → List Listed → Type 0
+Extends names more = (one : Listed) → HasItem names one → HasItem more one
 
-more_listed : (names more : RoundNames) (number : ℕ) (o : Option Round) → Extends names more → IfSome o (IsRoundListed names number) → IfSome o (IsRoundListed more number)
+more_listed : (names more : List Listed) (number : ℕ) (o : Option Round) → Extends names more → IfSome o (IsHandleListed names number) → IfSome o (IsHandleListed more number)
 more_listed names more number None extends is = tt
-more_listed names more number (Some round) extends is = record { handle = extends.0 (under (handle_key round.handle) number) is.handle; code = by round.code is.code }
-  where
-    by : (c : Option Text) → IfSome c (λ (code : Text). HasItem names.codes.listed (under (code_key code) number)) → IfSome c (λ (code : Text). HasItem more.codes.listed (under (code_key code) number))
-    by None i = tt
-    by (Some code) i = extends.1 (under (code_key code) number) i
+more_listed names more number (Some round) extends is = extends (under (handle_key round.handle) number) is
 
-pub still_listed : (names more : RoundNames) (places : List GrantPlace) → Extends names more → AreRoundsListed names places → AreRoundsListed more places
+pub still_listed : (names more : List Listed) (places : List GrantPlace) → Extends names more → AreHandlesListed names places → AreHandlesListed more places
 still_listed names more places extends all = λ k d kn. more_listed names more (get_or places k d).number (get_or places k d).row.value.round extends (all k d kn)
 
-abbrev pub IsNamed : RoundNames → GrantPlace → Type 0
-IsNamed names place = IfSome place.row.value.round (IsRoundListed names place.number)
+abbrev pub IsNamed : List Listed → GrantPlace → Type 0
+IsNamed names place = IfSome place.row.value.round (IsHandleListed names place.number)
 
-pub named_pushed : (names : RoundNames) (places : List GrantPlace) (new : GrantPlace) → AreRoundsListed names places → IsNamed names new → AreRoundsListed names (places ++ new ∷ [])
+pub named_pushed : (names : List Listed) (places : List GrantPlace) (new : GrantPlace) → AreHandlesListed names places → IsNamed names new → AreHandlesListed names (places ++ new ∷ [])
 named_pushed names places new all one = All-push (IsNamed names) places new all one
 
-pub named_kept : (names : RoundNames) (test : GrantPlace → Bool) (places : List GrantPlace) → AreRoundsListed names places → AreRoundsListed names (filter test places)
+pub named_kept : (names : List Listed) (test : GrantPlace → Bool) (places : List GrantPlace) → AreHandlesListed names places → AreHandlesListed names (filter test places)
 named_kept names test places all = All-filter test (IsNamed names) places all
 
-pub named_set : (names : RoundNames) (places : List GrantPlace) (at : ℕ) (new : GrantPlace) → AreRoundsListed names places → IsNamed names new → AreRoundsListed names (set places at new)
+pub named_set : (names : List Listed) (places : List GrantPlace) (at : ℕ) (new : GrantPlace) → AreHandlesListed names places → IsNamed names new → AreHandlesListed names (set places at new)
 named_set names places at new all one = All-set (IsNamed names) places at new one all
 
-pub named_left : (names : RoundNames) (places : List GrantPlace) (doors : List DoorPlace) (bound at number : ℕ) (old : GrantPlace) → AreGrantPlaces places doors bound → at < length places → old ≡ get_or places at old → old.number ≡ number
-    → AreRoundsListed names places → AreRoundsListed names (remove places at)
+pub named_left : (names : List Listed) (places : List GrantPlace) (doors : List DoorPlace) (bound at number : ℕ) (old : GrantPlace) → AreGrantPlaces places doors bound → at < length places → old ≡ get_or places at old → old.number ≡ number
+    → AreHandlesListed names places → AreHandlesListed names (remove places at)
 named_left names places doors bound at number old are inside is mine all =
-    subst (AreRoundsListed names) (sym (removed_at (λ (p : GrantPlace). p.number) places at number old (place_pairs places doors bound are) inside (ap (λ (p : GrantPlace). p.number) (sym is) ∙ mine)))
+    subst (AreHandlesListed names) (sym (removed_at (λ (p : GrantPlace). p.number) places at number old (place_pairs places doors bound are) inside (ap (λ (p : GrantPlace). p.number) (sym is) ∙ mine)))
     (named_kept names (λ (p : GrantPlace). not (number == p.number)) places all)
 
 pub round_keeps_number : (round : Round) → KeepsNumber (in_round round)
@@ -75,29 +69,29 @@ pub round_keeps_door : (round : Round) → KeepsDoor (in_round round)
 round_keeps_door round row = refl
 
 -- the names of a row that was changed are listed, where those that the change leaves are
-pub named_after : (names : RoundNames) (number : ℕ) (f : GrantRow → GrantRow) (old new : GrantPlace) → Changes number f old new → IsNamed names old
-    → (number ≡ old.number → IfSome (f old.row.value).round (IsRoundListed names old.number)) → IsNamed names new
+pub named_after : (names : List Listed) (number : ℕ) (f : GrantRow → GrantRow) (old new : GrantPlace) → Changes number f old new → IsNamed names old
+    → (number ≡ old.number → IfSome (f old.row.value).round (IsHandleListed names old.number)) → IsNamed names new
 named_after names number f old new changes was after =
-    subst (λ n. IfSome new.row.value.round (IsRoundListed names n)) (sym changes.number_kept)
-    (subst (λ (row : GrantRow). IfSome row.round (IsRoundListed names old.number)) (sym changes.row) (by (number == old.number) refl))
+    subst (λ n. IfSome new.row.value.round (IsHandleListed names n)) (sym changes.number_kept)
+    (subst (λ (row : GrantRow). IfSome row.round (IsHandleListed names old.number)) (sym changes.row) (by (number == old.number) refl))
   where
-    by : (b : Bool) → (number == old.number) ≡ b → IfSome (if b then f old.row.value else old.row.value).round (IsRoundListed names old.number)
+    by : (b : Bool) → (number == old.number) ≡ b → IfSome (if b then f old.row.value else old.row.value).round (IsHandleListed names old.number)
     by true e = after (eqb-true number old.number e)
     by false e = was
 
-pub round_after : (names : RoundNames) (number : ℕ) (change : Change) (row : GrantRow) → IfSome row.round (IsRoundListed names number) → IfSome (changed_by change row).round (IsRoundListed names number)
+pub round_after : (names : List Listed) (number : ℕ) (change : Change) (row : GrantRow) → IfSome row.round (IsHandleListed names number) → IfSome (changed_by change row).round (IsHandleListed names number)
 round_after names number (Terms asks single subject) row is = is
 round_after names number (Approve consent) row is = tt
 round_after names number (Decide decision) row is = by row.round is
   where
-    by : (o : Option Round) → IfSome o (IsRoundListed names number) → IfSome (option_map (λ (round : Round). record round { decision = Some decision }) o) (IsRoundListed names number)
+    by : (o : Option Round) → IfSome o (IsHandleListed names number) → IfSome (option_map (λ (round : Round). record round { decision = Some decision }) o) (IsHandleListed names number)
     by None i = tt
-    by (Some round) i = record { handle = i.handle; code = i.code }
+    by (Some round) i = i
 round_after names number Wrong row is = by row.round is
   where
-    by : (o : Option Round) → IfSome o (IsRoundListed names number) → IfSome (option_map (λ (round : Round). record round { wrongs = round.wrongs + 1 }) o) (IsRoundListed names number)
+    by : (o : Option Round) → IfSome o (IsHandleListed names number) → IfSome (option_map (λ (round : Round). record round { wrongs = round.wrongs + 1 }) o) (IsHandleListed names number)
     by None i = tt
-    by (Some round) i = record { handle = i.handle; code = i.code }
+    by (Some round) i = i
 
 -- ---- a place by its number
 
@@ -127,43 +121,25 @@ handle_current places p round pairs h e =
     ap (λ (o : Option GrantPlace). where_some (λ (r : Round). handle_key r.handle == handle_key round.handle) (option_and_then (λ (q : GrantPlace). q.row.value.round) o)) (numbered_place places p pairs h)
     ∙ ap (where_some (λ (r : Round). handle_key r.handle == handle_key round.handle)) e ∙ eqb-self (handle_key round.handle)
 
-code_current : (places : List GrantPlace) (p : GrantPlace) (round : Round) (code : Text) → AllPairs (λ (a b : GrantPlace). a.number < b.number) places → HasItem places p → p.row.value.round ≡ Some round
-    → round.code ≡ Some code → is_code_listed places (under (code_key code) p.number) ≡ true
-code_current places p round code pairs h e drawn =
-    ap (λ (o : Option GrantPlace). where_some test (option_and_then (λ (q : GrantPlace). q.row.value.round) o)) (numbered_place places p pairs h)
-    ∙ ap (where_some test) e ∙ ap (where_some (λ (c : Text). code_key c == code_key code)) drawn ∙ eqb-self (code_key code)
-  where
-    test : Round → Bool
-    test r = where_some (λ (c : Text). code_key c == code_key code) r.code
-
-pub still_named : (slice places : List GrantPlace) (doors : List DoorPlace) (bound : ℕ) (names left : RoundNames) → slice ≡ places → AreGrantPlaces places doors bound → AreRoundsListed names places
-    → left.handles.listed ≡ filter (is_handle_listed slice) names.handles.listed → left.codes.listed ≡ filter (is_code_listed slice) names.codes.listed → AreRoundsListed left places
-still_named slice places doors bound names left same are all handles codes = λ k d kn. one (get_or places k d) (item_in places k d kn) (get_or places k d).row.value.round refl (all k d kn)
+pub still_named : (slice places : List GrantPlace) (doors : List DoorPlace) (bound : ℕ) (names left : List Listed) → slice ≡ places → AreGrantPlaces places doors bound → AreHandlesListed names places
+    → left ≡ filter (is_handle_listed slice) names → AreHandlesListed left places
+still_named slice places doors bound names left same are all handles = λ k d kn. one (get_or places k d) (item_in places k d kn) (get_or places k d).row.value.round refl (all k d kn)
   where
     pairs : AllPairs (λ (a b : GrantPlace). a.number < b.number) places
     pairs = place_pairs places doors bound are
 
-    one : (p : GrantPlace) → HasItem places p → (o : Option Round) → p.row.value.round ≡ o → IfSome o (IsRoundListed names p.number) → IfSome o (IsRoundListed left p.number)
+    one : (p : GrantPlace) → HasItem places p → (o : Option Round) → p.row.value.round ≡ o → IfSome o (IsHandleListed names p.number) → IfSome o (IsHandleListed left p.number)
     one p h None e is = tt
-    one p h (Some round) e is = record {
-      handle = subst (λ (ls : List Listed). HasItem ls (under (handle_key round.handle) p.number)) (sym handles)
-          (item_filtered (is_handle_listed slice) names.handles.listed (under (handle_key round.handle) p.number) is.handle
-          (subst (λ (ps : List GrantPlace). is_handle_listed ps (under (handle_key round.handle) p.number) ≡ true) (sym same) (handle_current places p round pairs h e)));
-      code = by round.code refl is.code;
-    }
-      where
-        by : (c : Option Text) → round.code ≡ c → IfSome c (λ (code : Text). HasItem names.codes.listed (under (code_key code) p.number)) → IfSome c (λ (code : Text). HasItem left.codes.listed (under (code_key code) p.number))
-        by None drawn i = tt
-        by (Some code) drawn i = subst (λ (ls : List Listed). HasItem ls (under (code_key code) p.number)) (sym codes)
-            (item_filtered (is_code_listed slice) names.codes.listed (under (code_key code) p.number) i
-            (subst (λ (ps : List GrantPlace). is_code_listed ps (under (code_key code) p.number) ≡ true) (sym same) (code_current places p round code pairs h e drawn)))
+    one p h (Some round) e is = subst (λ (ls : List Listed). HasItem ls (under (handle_key round.handle) p.number)) (sym handles)
+        (item_filtered (is_handle_listed slice) names (under (handle_key round.handle) p.number) is
+        (subst (λ (ps : List GrantPlace). is_handle_listed ps (under (handle_key round.handle) p.number) ≡ true) (sym same) (handle_current places p round pairs h e)))
 
 -- ---- the latest of those that are listed
 
 pub latest_none : (look : ℕ → Option GrantRow) → IsLatest look [] None
 latest_none look = record { is = tt; last = λ one row h e. absurd h }
 
-latest_more : (look : ℕ → Option GrantRow) (listed : List Listed) (one : Listed) (found : Option GrantRow) → IsLatest look listed found → IsLatest look (listed ++ one ∷ []) (later_of found (look one.number))
+pub latest_more : (look : ℕ → Option GrantRow) (listed : List Listed) (one : Listed) (found : Option GrantRow) → IsLatest look listed found → IsLatest look (listed ++ one ∷ []) (later_of found (look one.number))
 latest_more look listed one found latest = by found (look one.number) refl latest
   where
     split : (other : Listed) → HasItem (listed ++ one ∷ []) other → HasItem listed other ⊎ (other ≡ one)
@@ -238,6 +214,18 @@ newest_cons {A} {B} look x xs = ap (first_of look) (reverse-cons x xs) ∙ first
     end None = refl
     end (Some y) = refl
 
+pub newest_push : {A B : Type 0} (look : A → Option B) (xs : List A) (x : A) → newest look (xs ++ x ∷ []) ≡ option_or (look x) (newest look xs)
+newest_push look xs x = ap (first_of look) (reverse-append xs (x ∷ []))
+
+pub newest_step : (look : GrantRow → Option GrantRow) (places : List GrantPlace) (k : ℕ) (place : GrantPlace) (row : GrantRow) (found result : Option GrantRow) → k < length places → place ≡ get_or places k place → row ≡ place.row.value
+    → found ≡ newest look (map grant_in (take k places)) → result ≡ option_or (look row) found → result ≡ newest look (map grant_in (take (k + 1) places))
+newest_step look places k place row found result inside is read was step =
+    let there : row ≡ grant_in (get_or places k place) = read ∙ ap grant_in is in
+    step ∙ ap (λ (r : GrantRow). option_or (look r) found) there ∙ ap (option_or (look (grant_in (get_or places k place)))) was
+    ∙ sym (newest_push look (map grant_in (take k places)) (grant_in (get_or places k place)))
+    ∙ ap (newest look) (sym (map-append grant_in (take k places) (get_or places k place ∷ [])))
+    ∙ ap (λ (ps : List GrantPlace). newest look (map grant_in ps)) (sym (take_more places k place inside))
+
 -- what is found has the greatest number of all that pass
 newest_last : (test : GrantRow → Bool) (rows : List GrantRow) (y : GrantRow) → AllPairs (λ (a b : GrantRow). a.number < b.number) rows → newest (λ (row : GrantRow). some_if (test row) row) rows ≡ Some y
     → (z : GrantRow) → HasItem rows z → test z ≡ true → z.number ≤ y.number
@@ -291,12 +279,30 @@ newest_greatest test rows y pairs has passes greatest = by (newest (λ (row : Gr
 abbrev pub HasNumber : List Listed → ℕ → Type 0
 HasNumber listed number = (one : Listed) × HasItem listed one × (one.number ≡ number)
 
-pub interaction_latest : (slice places : List GrantPlace) (doors : List DoorPlace) (bound : ℕ) (names : RoundNames) (rows : List GrantRow) (listed : List Listed) (name : InteractionName) (now : ℕ) (found : Option GrantRow)
-    → slice ≡ places → map grant_in places ≡ rows → AreGrantPlaces places doors bound → AreRoundsListed names places
-    → ((number : ℕ) (round : Round) → is_called name round ≡ true → IsRoundListed names number round → HasNumber listed number)
+-- the parts of what it means that the user may still decide
+open_called : (name : InteractionName) (now : ℕ) (o : Option Round) → is_open_by name now o ≡ true → (round : Round) × (o ≡ Some round) × (is_called name round ≡ true)
+open_called name now None e = cc e
+open_called name now (Some round) e = (round, refl, last (not (is_some round.decision)) (nat_lt now round.until) (is_called name round) e)
+  where
+    last : (a b c : Bool) → (a && b && c) ≡ true → c ≡ true
+    last true true c e = e
+    last true false c e = cc e
+    last false b c e = cc e
+
+-- a grant whose round goes by the handle is among those that are listed under the handle
+pub handle_finds : (names listed : List Listed) (places : List GrantPlace) (name : InteractionName) (handle : Text) (key now : ℕ) → AreHandlesListed names places → ((round : Round) → is_called name round ≡ true → round.handle ≡ handle)
+    → key ≡ handle_key handle → ((one : Listed) → HasItem names one → one.key ≡ key → HasItem listed one)
+    → (p : GrantPlace) → HasItem places p → is_open_by name now p.row.value.round ≡ true → HasNumber listed p.number
+handle_finds names listed places name handle key now all called is finds p h e =
+    let r = open_called name now p.row.value.round e in
+    let named : IsHandleListed names p.number r.0 = subst (λ (o : Option Round). IfSome o (IsHandleListed names p.number)) r.1 (item_all (IsNamed names) places p all h) in
+    (under (handle_key r.0.handle) p.number, finds (under (handle_key r.0.handle) p.number) named (ap handle_key (called r.0 r.2) ∙ sym is), refl)
+
+pub interaction_latest : (slice places : List GrantPlace) (doors : List DoorPlace) (bound : ℕ) (rows : List GrantRow) (listed : List Listed) (name : InteractionName) (now : ℕ) (found : Option GrantRow)
+    → slice ≡ places → map grant_in places ≡ rows → AreGrantPlaces places doors bound → ((p : GrantPlace) → HasItem places p → is_open_by name now p.row.value.round ≡ true → HasNumber listed p.number)
     → IsLatest (open_numbered slice now name) listed found
     → found ≡ option_map (λ (i : Interaction). i.row) (newest (interaction_where (goes_by name) now) rows)
-interaction_latest slice places doors bound names rows listed name now found same view are all finds latest = by found latest_here ∙ sym (open_rows name now rows)
+interaction_latest slice places doors bound rows listed name now found same view are finds latest = by found latest_here ∙ sym (open_rows name now rows)
   where
     test : GrantRow → Bool
     test row = is_open_by name now row.round
@@ -310,21 +316,12 @@ interaction_latest slice places doors bound names rows listed name now found sam
     row_pairs : AllPairs (λ (a b : GrantRow). a.number < b.number) rows
     row_pairs = subst (λ (rs : List GrantRow). AllPairs (λ (a b : GrantRow). a.number < b.number) rs) view are.ascending
 
-    called : (o : Option Round) (number : ℕ) → is_open_by name now o ≡ true → IfSome o (IsRoundListed names number) → HasNumber listed number
-    called None number decides is = cc decides
-    called (Some round) number decides is = finds number round (last (not (is_some round.decision)) (nat_lt now round.until) (is_called name round) decides) is
-      where
-        last : (a b c : Bool) → (a && b && c) ≡ true → c ≡ true
-        last true true c e = e
-        last true false c e = cc e
-        last false b c e = cc e
-
     -- a row that is open is listed, and what is listed finds it
     listed_row : (z : GrantRow) → HasItem rows z → test z ≡ true → (one : Listed) × HasItem listed one × (open_numbered places now name one.number ≡ Some z)
     listed_row z h decides =
         let p = item_of_map grant_in places z (subst (λ (rs : List GrantRow). HasItem rs z) (sym view) h) in
         let open_p : is_open_by name now p.0.row.value.round ≡ true = ap (λ (r : GrantRow). is_open_by name now r.round) p.2 ∙ decides in
-        let one = called p.0.row.value.round p.0.number open_p (item_all (λ (q : GrantPlace). IsNamed names q) places p.0 all p.1) in
+        let one = finds p.0 p.1 open_p in
         let there : place_numbered one.0.number places ≡ Some p.0 = ap (λ n. place_numbered n places) one.2 ∙ numbered_place places p.0 pairs p.1 in (
           one.0,
           one.1,

@@ -16,7 +16,8 @@ use Rattle.grant_states.proofs.Items.{item_at, get_at, get_has, newest_only, new
 pub eqb-self : (n : ℕ) → (n == n) ≡ true
 eqb-self n = (Decides-eqb n n).1 refl
 
-key_at : {A : Type 0} (key : A → ℕ) (xs : List A) (i : ℕ) (d : A) → i < length xs → slice_index (map key xs) i ≡ key (get_or xs i d)
+-- the key at a place
+pub key_at : {A : Type 0} (key : A → ℕ) (xs : List A) (i : ℕ) (d : A) → i < length xs → slice_index (map key xs) i ≡ key (get_or xs i d)
 key_at key xs i d at = get_or-map key xs i d 0 at
 
 -- the keys of items in order ascend

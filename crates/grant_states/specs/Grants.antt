@@ -1,5 +1,5 @@
 -- Rows of grants in the order of their numbers, and the index of their continuation values.
-use Rattle.std.specs.Prelude.{ℕ, ◌≡◌, ◌^◌, ◌<◌, ◌≤◌, ◌==◌, nat_lt, Bool, true, false, ◌&&◌, List, map, option_map, if◌then◌else◌, IfSome}
+use Rattle.std.specs.Prelude.{ℕ, ◌≡◌, ◌^◌, ◌<◌, ◌≤◌, ◌==◌, nat_lt, Bool, true, false, ◌&&◌, List, map, option_map, is_some, if◌then◌else◌, IfSome}
 use Rattle.std.specs.Option.{option_and_then}
 use Rattle.std.specs.List.{All, AllPairs, list_any}
 use Rattle.std.specs.declared.option.Option.{Option}
@@ -17,9 +17,11 @@ use Rattle.grant_states.specs.declared.grant_table.GrantPlace.{GrantPlace}
 use Rattle.grant_states.specs.declared.grant_table.DoorPlace.{DoorPlace}
 use Rattle.grant_states.specs.declared.interactions.InteractionName.{InteractionName}
 use Rattle.grant_states.specs.declared.numbers_by_key.Listed.{Listed}
-use Rattle.grant_states.specs.declared.round_names.RoundNames.{RoundNames}
+use Rattle.grant_states.specs.declared.open_codes.OpenCodes.{OpenCodes}
 use Rattle.grant_states.specs.Interactions.{is_open_by}
-use Rattle.grant_states.specs.RoundNames.{IsRoundListed, handle_key, code_key}
+use Rattle.grant_states.specs.Listed.{under, where_some}
+use Rattle.grant_states.specs.Serials.{handle_key}
+use Rattle.grant_states.specs.OpenCodes.{HasCode, IsCodeIn, IsCodeListed, open_code}
 
 -- What contracts see of a table of grants: its rows, room for so many changes that take room, and a number above the serials of all continuation values that
 -- it was given.
@@ -74,14 +76,26 @@ pub record AreGrantPlaces (places : List GrantPlace) (doors : List DoorPlace) (d
 abbrev pub is_door_of : DoorPlace → GrantPlace → Bool
 is_door_of door place = (place.number == door.grant) && (place.door_serial == door.serial)
 
--- the names of the rounds of all rows are listed
-abbrev pub AreRoundsListed : RoundNames → List GrantPlace → Type 0
-AreRoundsListed names places = All (λ (place : GrantPlace). IfSome place.row.value.round (IsRoundListed names place.number)) places
+-- the grant is listed under the handle of its round
+abbrev pub IsHandleListed : List Listed → ℕ → Round → Type 0
+IsHandleListed listed number round = HasItem listed (under (handle_key round.handle) number)
 
--- the test of what is there, and false where nothing is
-abbrev pub where_some : {A : Type 0} → (A → Bool) → Option A → Bool
-where_some test None = false
-where_some test (Some x) = test x
+-- the handles of the rounds of all rows are listed
+abbrev pub AreHandlesListed : List Listed → List GrantPlace → Type 0
+AreHandlesListed listed places = All (λ (place : GrantPlace). IfSome place.row.value.round (IsHandleListed listed place.number)) places
+
+-- the code of a row's round in which the user may still decide after this moment
+abbrev pub code_at : ℕ → GrantPlace → Option Text
+code_at moment place = open_code moment place.row.value.round
+
+-- the code with this number is that of a round in which the user may still decide after this moment, of the grant with this number
+abbrev pub IsOpenUnder : ℕ → List GrantPlace → ℕ → ℕ → Type 0
+IsOpenUnder moment places code number = (place : GrantPlace) × HasItem places place × (place.number ≡ number) × IsCodeIn code (code_at moment place)
+
+-- what is listed are codes of rounds in which the user may still decide after this moment, and all of them where the index is complete
+pub record AreCodesListed (moment : ℕ) (codes : OpenCodes) (places : List GrantPlace) : Type 0 where
+  pub open_under : (code number : ℕ) → HasCode codes code number → IsOpenUnder moment places code number
+  pub listed : codes.complete ≡ true → (place : GrantPlace) → HasItem places place → IfSome (code_at moment place) (IsCodeListed codes place.number)
 
 -- the continuation value with this serial is that of a row
 abbrev pub is_current_door : List GrantPlace → DoorPlace → Bool
@@ -95,12 +109,13 @@ place_numbered number places = newest (λ (place : GrantPlace). some_if (place.n
 abbrev pub round_numbered : ℕ → List GrantPlace → Option Round
 round_numbered number places = option_and_then (λ (place : GrantPlace). place.row.value.round) (place_numbered number places)
 
--- the grant that is listed has a round with this handle, or this user code
+-- the grant that is listed has a round with this handle
 abbrev pub is_handle_listed : List GrantPlace → Listed → Bool
 is_handle_listed places one = where_some (λ (round : Round). handle_key round.handle == one.key) (round_numbered one.number places)
 
-abbrev pub is_code_listed : List GrantPlace → Listed → Bool
-is_code_listed places one = where_some (λ (round : Round). where_some (λ (code : Text). code_key code == one.key) round.code) (round_numbered one.number places)
+-- the user may still decide after this moment in the round of the grant with this number, which has a user code
+abbrev pub is_round_open : ℕ → List GrantPlace → ℕ → Bool
+is_round_open moment places number = where_some (λ (place : GrantPlace). is_some (code_at moment place)) (place_numbered number places)
 
 -- the grant with this number, where the user may still decide in a round of this name
 abbrev pub open_numbered : List GrantPlace → ℕ → InteractionName → ℕ → Option GrantRow

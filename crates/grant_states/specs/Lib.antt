@@ -1,5 +1,6 @@
 pub mod Serials
 pub mod Listed
-pub mod RoundNames
+pub mod CodeNumbers
+pub mod OpenCodes
 pub mod Interactions
 pub mod Grants

@@ -1,6 +1,7 @@
 -- The serial with which a drawn value begins.
 use Rattle.std.specs.Prelude.{ℕ, ◌++◌, drop, length, replicate, Result, Ok, Err}
 use Rattle.std.specs.Int.{from_be_bytes, w64}
+use Rattle.std.specs.Option.{unwrap_or}
 use Rattle.std.specs.declared.option.Option.{Option}
 use Rattle.std.specs.declared.option.Option.TheVariants.{None, Some}
 use Rattle.base64.specs.declared.DecodeSliceError.{DecodeSliceError}
@@ -19,3 +20,7 @@ serial_where (Err e) word = None
 -- the serial of a text that decodes
 unfoldable pub serial_of : Text → Option ℕ
 serial_of text = serial_where (decode_slice_of url_safe_no_pad text 24) (first_word text)
+
+-- a handle is listed under its serial
+abbrev pub handle_key : Text → ℕ
+handle_key handle = unwrap_or (serial_of handle) 0

@@ -1,26 +1,31 @@
 //! The rows of grants.
-ghost use Rattle.std.specs.Prelude.{◌≡◌, ◌+◌, ◌-◌, ◌*◌, ◌^◌, ◌<◌, ◌≤◌, [], ◌∷◌, ◌++◌, length, map, filter, option_map, slice_get, IfSome, OnOk, not, ◌==◌};
+ghost use Rattle.std.specs.Prelude.{◌≡◌, ℕ, ◌+◌, ◌-◌, ◌*◌, ◌^◌, ◌<◌, ◌≤◌, [], ◌∷◌, ◌++◌, true, length, map, filter, option_map, slice_get, get_or, is_some, IfSome, OnOk, not, ◌==◌};
 ghost use Rattle.std.specs.Option.{option_and_then};
 ghost use Rattle.std.specs.List.{All};
-ghost use Rattle.gnap_model.specs.Common.{same_text, some_if};
+ghost use Rattle.std.specs.Option.{option_or};
+ghost use Rattle.gnap_model.specs.Common.{same_text, some_if, is_text};
+ghost use Rattle.gnap_model.specs.Values.{code_text};
+ghost use Rattle.gnap_model.specs.declared.notes.RoundNote.{RoundNote};
 ghost use Rattle.gnap_tables.specs.declared.rows.GrantRow.{GrantRow};
 ghost use Rattle.gnap_tables.specs.Tables.{is_row_over as over, is_round_over as round_over, sweep_grants, drop_grant, has_grant, change_grant, with_door};
-ghost use Rattle.gnap_tables.specs.RowSearches.{Interaction, interaction_where, newest, row_by_door, row_by_number, is_approved_grant};
+ghost use Rattle.gnap_tables.specs.RowSearches.{Interaction, interaction_where, newest, row_by_door, row_by_number, is_approved_grant, interaction_by_code};
 ghost use Rattle.ordered_search.specs.Order.{IsAscending};
-ghost use Rattle.grant_states.specs.Grants.{BeginsWith, changed_by, in_round, CanChange, ChangesAll, is_door_of, where_some, is_current_door, grant_in};
-ghost use Rattle.grant_states.specs.Grants.{round_numbered, is_handle_listed, is_code_listed, open_numbered, later_of, IsLatest};
+ghost use Rattle.grant_states.specs.Grants.{BeginsWith, changed_by, in_round, CanChange, ChangesAll, is_door_of, is_current_door, grant_in};
+ghost use Rattle.grant_states.specs.Listed.{where_some};
+ghost use Rattle.grant_states.specs.Grants.{round_numbered, is_handle_listed, is_round_open, code_at, open_numbered, later_of, IsLatest, IsHandleListed};
 ghost use Rattle.grant_states.specs.Interactions.{goes_by, is_open_by};
-ghost use Rattle.grant_states.specs.RoundNames.{IsRoundListed, code_key as code_key_of};
+ghost use Rattle.grant_states.specs.OpenCodes.{open_code as code_while_open};
 ghost use Rattle.gnap_tables.proofs.Lists.{HasItem};
 ghost use Rattle.grant_states.specs.declared.numbers_by_key.Listed.{Listed};
 ghost use Rattle.grant_states.specs.declared.grant_table.GrantPlace.{GrantPlace};
 ghost use Rattle.grant_states.specs.declared.grant_table.DoorPlace.{DoorPlace};
 
 use crate::changes::{Change, apply};
+use crate::code_list::CodeList;
 use crate::interactions::{InteractionName, is_open};
-use crate::numbers_by_key::Listed;
-use crate::round_names::{RoundNames, code_key, handle_key};
-use crate::serials::serial_in_value;
+use crate::numbers_by_key::{Listed, NumbersByKey};
+use crate::open_codes::{OpenCodes, open_code};
+use crate::serials::{handle_key, serial_in_value};
 use bytes_and_lists::memory::Mem;
 use gnap_tables::rows::{GrantRow, KeptRound, Round};
 use ordered_search::{Keyed, Steps, place, place_of};
@@ -65,22 +70,26 @@ pub struct GrantTable {
     places: Vec<GrantPlace>,
     doors: Vec<DoorPlace>,
     doors_below: u64,
-    names: RoundNames,
+    // The grants by the handles of the rounds that they have or had.
+    handles: NumbersByKey,
+    // The grants by the user codes of rounds in which the user may still decide after the greatest moment of a sweep.
+    codes: OpenCodes,
+    swept: u64,
 }
 
 impl Model for GrantTable {
     ghost use Rattle.std.specs.Prelude.{map, ◌-◌, min, vec_len, vec_capacity};
-    ghost use Rattle.grant_states.specs.Grants.{StoredGrants, AreGrantPlaces, AreRoundsListed, grant_in};
+    ghost use Rattle.grant_states.specs.Grants.{StoredGrants, AreGrantPlaces, AreHandlesListed, AreCodesListed, grant_in};
 
     ghost Value = { StoredGrants };
 
     ghost view = { λ s. record {
       rows = map grant_in s.places.items;
-      spare = min (min (vec_capacity s.places - vec_len s.places) (vec_capacity s.doors - vec_len s.doors)) (min s.names.handles.spare s.names.codes.spare);
+      spare = min (min (vec_capacity s.places - vec_len s.places) (vec_capacity s.doors - vec_len s.doors)) s.handles.spare;
       doors_below = s.doors_below;
     } };
 
-    ghost invariant = { λ s. AreGrantPlaces s.places.items s.doors.items s.doors_below × AreRoundsListed s.names s.places.items };
+    ghost invariant = { λ s. AreGrantPlaces s.places.items s.doors.items s.doors_below × AreHandlesListed s.handles.listed s.places.items × AreCodesListed s.swept s.codes s.places.items };
 }
 
 // The row at a place, where it has this number.
@@ -221,48 +230,97 @@ fn has_handle(places: &[GrantPlace], one: &Listed) -> bool
     }
 }
 
-// The round has this user code.
-fn is_code_of(round: &Round, key: u64) -> bool
-    ensures { result ≡ where_some (λ code. code_key_of code == key) round.now.code }
+// The code of the row's round in which the user may still decide after this moment.
+fn open_code_at(place: &GrantPlace, moment: u64) -> Option<[u8; 8]>
+    ensures { result ≡ code_at moment place.now }
 {
-    match &round.code {
-        Some(code) => code_key(code) == key,
+    open_code(&place.row.as_ref().round, moment)
+}
+
+// In the round of the row, which has a user code, the user may still decide after this moment.
+fn has_open_code(row: Option<&GrantRow>, moment: u64) -> bool
+    ensures { result ≡ where_some (λ (row : GrantRow). is_some (code_while_open moment row.round)) (option_map (λ row. row.now) row.entry) }
+{
+    match row {
+        Some(row) => open_code(&row.round, moment).is_some(),
         None => false,
     }
 }
 
-// The grant that is listed has a round with this user code.
-fn has_code(places: &[GrantPlace], one: &Listed) -> bool
+// The same of the grant with this number.
+fn is_open_after(places: &[GrantPlace], number: u64, moment: u64) -> bool
     requires { IsAscending (map (λ (place : GrantPlace). place.number) places.now) }
-    ensures { result ≡ is_code_listed places.now one.now }
+    ensures { result ≡ is_round_open moment places.now number }
 {
-    match round_at(places, one.number) {
-        Some(round) => is_code_of(round, one.key),
-        None => false,
+    has_open_code(numbered(places, place_of(places, number), number), moment)
+}
+
+// The row, where it has an interaction of this name in which the user may still decide, else what was found before.
+fn open_or<'a>(
+    row: &'a GrantRow,
+    found: Option<&'a GrantRow>,
+    now: u64,
+    name: InteractionName,
+) -> Option<&'a GrantRow>
+    ensures { option_map (λ row. row.now) result ≡ option_or (some_if (is_open_by name.entry now row.entry.now.round) row.entry.now) (option_map (λ row. row.now) found.entry) }
+{
+    if is_open(&row.round, now, name) {
+        Some(row)
+    } else {
+        found
     }
 }
 
-// Lists a grant under the names of its round, where it has one.
-fn list_round(names: &mut RoundNames, number: u64, round: &Option<KeptRound>)
-    requires handle_room { 0 < names.old.handles.spare }
-    requires code_room { 0 < names.old.codes.spare }
-    ensures listed { IfSome round.now (IsRoundListed names.new number) }
-    ensures handles { (one : Listed) → HasItem names.old.handles.listed one → HasItem names.new.handles.listed one }
-    ensures codes { (one : Listed) → HasItem names.old.codes.listed one → HasItem names.new.codes.listed one }
+// The last of all grants that has an interaction of this name in which the user may still decide.
+fn last_open_of_all<'a>(
+    places: &'a [GrantPlace],
+    now: u64,
+    name: InteractionName,
+) -> Option<&'a GrantRow>
+    ensures { option_map (λ row. row.now) result ≡ newest (λ (row : GrantRow). some_if (is_open_by name.entry now row.round) row) (map grant_in places.now) }
+{
+    let mut found = None;
+    for place in places {
+        found = open_or(place.row.as_ref(), found, now, name);
+    }
+    found
+}
+
+// Lists a grant under the handle of its round, where it has one.
+fn list_handle(handles: &mut NumbersByKey, number: u64, round: &Option<KeptRound>)
+    requires room { 0 < handles.old.spare }
+    ensures listed { IfSome round.now (IsHandleListed handles.new.listed number) }
+    ensures kept { (one : Listed) → HasItem handles.old.listed one → HasItem handles.new.listed one }
 {
     if let Some(kept) = round {
-        names.list(number, kept.round());
+        handles.list(handle_key(&kept.round().handle), number);
     }
 }
 
-// Leaves out the names of rounds that grants had before.
-fn drop_unnamed(names: &mut RoundNames, places: &[GrantPlace])
+// Leaves out the handles of rounds that grants had before.
+fn drop_unnamed(handles: &mut NumbersByKey, places: &[GrantPlace])
     requires { IsAscending (map (λ (place : GrantPlace). place.number) places.now) }
-    ensures handles { names.new.handles.listed ≡ filter (is_handle_listed places.now) names.old.handles.listed }
-    ensures codes { names.new.codes.listed ≡ filter (is_code_listed places.now) names.old.codes.listed }
+    ensures { handles.new.listed ≡ filter (is_handle_listed places.now) handles.old.listed }
 {
-    names.handles.keep(|one| has_handle(places, one));
-    names.codes.keep(|one| has_code(places, one));
+    handles.keep(|one| has_handle(places, one));
+}
+
+// Leaves out the codes of rounds in which the user can't decide any more after this moment.
+fn drop_closed_in(list: &mut CodeList, places: &[GrantPlace], moment: u64)
+    requires { IsAscending (map (λ (place : GrantPlace). place.number) places.now) }
+    ensures { list.new ≡ filter (λ (one : Listed). is_round_open moment places.now one.number) list.old }
+{
+    list.keep(|one| is_open_after(places, one.number, moment));
+}
+
+// The same in each list.
+fn drop_closed(lists: &mut Vec<CodeList>, places: &[GrantPlace], moment: u64)
+    requires { IsAscending (map (λ (place : GrantPlace). place.number) places.now) }
+    ensures { (i : ℕ) → get_or lists.new.items i [] ≡ filter (λ (one : Listed). is_round_open moment places.now one.number) (get_or lists.old.items i []) }
+{
+    for i in 0..lists.len() {
+        drop_closed_in(&mut lists[i], places, moment);
+    }
 }
 
 /// The end of the round has come.
@@ -378,7 +436,9 @@ impl GrantTable {
             places: Vec::new(alloc),
             doors: Vec::new(alloc),
             doors_below: 0,
-            names: RoundNames::new(alloc),
+            handles: NumbersByKey::new(alloc),
+            codes: OpenCodes::new(alloc),
+            swept: 0,
         }
     }
 
@@ -446,7 +506,53 @@ impl GrantTable {
     pub fn by_interaction(&self, now: u64, name: InteractionName) -> Option<&GrantRow>
         ensures { option_map (λ row. row.now) result ≡ option_map (λ (i : Interaction). i.row) (newest (interaction_where (goes_by name.entry) now) self.now.rows) }
     {
-        last_open(self.places.as_slice(), self.names.of(name), now, name)
+        match name {
+            InteractionName::Handle(handle) => self.by_handle(now, handle),
+            InteractionName::Code(code) => self.by_code(now, code),
+        }
+    }
+
+    // The grant with the interaction of this handle in which the user may still decide.
+    fn by_handle(&self, now: u64, handle: &[u8]) -> Option<&GrantRow>
+        ensures { option_map (λ row. row.now) result ≡ option_map (λ (i : Interaction). i.row) (newest (interaction_where (λ (round : RoundNote). same_text round.handle handle.now) now) self.now.rows) }
+    {
+        let listed = self.handles.of(handle_key(handle));
+        last_open(
+            self.places.as_slice(),
+            listed,
+            now,
+            InteractionName::Handle(handle),
+        )
+    }
+
+    // The grant with the interaction of this user code in which the user may still decide. Where the index has all codes that may be asked for, a search in it
+    // tells the grant.
+    fn by_code(&self, now: u64, code: &[u8; 8]) -> Option<&GrantRow>
+        ensures { option_map (λ row. row.now) result ≡ option_map (λ (i : Interaction). i.row) (newest (interaction_where (λ (round : RoundNote). is_text code.now round.code) now) self.now.rows) }
+    {
+        let places = self.places.as_slice();
+        let name = InteractionName::Code(code);
+        if now < self.swept || !self.codes.complete {
+            return last_open_of_all(places, now, name);
+        }
+        match self.codes.number(code) {
+            Some(number) => open_at(places, number, now, name),
+            None => None,
+        }
+    }
+
+    /// All user codes from that of this number up to that of the result are those of interactions in which the user may still decide. It is the first whose code
+    /// is not, or with which another letter begins, where the rows were swept at this moment.
+    pub fn past_taken(&self, now: u64, number: u64) -> u64
+        requires { number < 20 ^ 8 }
+        ensures low { number ≤ result }
+        ensures high { result ≤ 20 ^ 8 }
+        ensures taken { (k : ℕ) → number ≤ k → k < result → is_some (interaction_by_code now (code_text k) self.now.rows) ≡ true }
+    {
+        if self.swept < now {
+            return number;
+        }
+        self.codes.run_end(number)
     }
 
     // Leaves out of the index of continuation values what grants had before, where that is more than there are rows.
@@ -459,13 +565,13 @@ impl GrantTable {
         }
     }
 
-    // Leaves out the names of rounds that grants had before, where they are more than there are rows.
-    fn drop_former_names(&mut self)
+    // Leaves out the handles of rounds that grants had before, where they are more than there are rows.
+    fn drop_former_handles(&mut self)
         ensures rows { self.new.rows ≡ self.old.rows }
         ensures doors { self.new.doors_below ≡ self.old.doors_below }
     {
-        if self.names.handles.len() / 2 > self.places.len() {
-            drop_unnamed(&mut self.names, self.places.as_slice());
+        if self.handles.len() / 2 > self.places.len() {
+            drop_unnamed(&mut self.handles, self.places.as_slice());
         }
     }
 
@@ -476,14 +582,15 @@ impl GrantTable {
         ensures ok { OnOk result (2 ≤ self.new.spare) }
     {
         self.drop_former();
-        self.drop_former_names();
+        self.drop_former_handles();
         if self.places.reserve(2).is_err() {
             return Err(Mem);
         }
         if self.doors.reserve(2).is_err() {
             return Err(Mem);
         }
-        self.names.reserve(2)
+        self.handles.reserve(2)?;
+        self.codes.reserve(2)
     }
 
     /// Appends a row, which has a greater number than all, with a continuation value that begins with this serial. Takes no memory.
@@ -497,7 +604,9 @@ impl GrantTable {
         ensures doors { self.new.doors_below ≡ serial + 1 }
     {
         let number = row.number;
-        list_round(&mut self.names, number, &row.as_ref().round);
+        list_handle(&mut self.handles, number, &row.as_ref().round);
+        let code = open_code(&row.as_ref().round, self.swept);
+        self.codes.change(number, &None, &code);
         let place = GrantPlace {
             number,
             door_serial: serial,
@@ -521,7 +630,10 @@ impl GrantTable {
     {
         let at = place_of(self.places.as_slice(), number);
         if at < self.places.len() {
+            let before = open_code_at(&self.places[at], self.swept);
             change_place(&mut self.places[at], number, change);
+            let after = open_code_at(&self.places[at], self.swept);
+            self.codes.change(self.places[at].number, &before, &after);
         }
     }
 
@@ -553,10 +665,13 @@ impl GrantTable {
         ensures rows { self.new.rows ≡ change_grant number (in_round round) self.old.rows }
         ensures doors { self.new.doors_below ≡ self.old.doors_below }
     {
-        self.names.list(number, round.round());
+        self.handles.list(handle_key(&round.round().handle), number);
         let at = place_of(self.places.as_slice(), number);
         if at < self.places.len() {
+            let before = open_code_at(&self.places[at], self.swept);
             pend_place(&mut self.places[at], number, round);
+            let after = open_code_at(&self.places[at], self.swept);
+            self.codes.change(self.places[at].number, &before, &after);
         }
     }
 
@@ -568,6 +683,8 @@ impl GrantTable {
     {
         let at = place_of(self.places.as_slice(), number);
         if at < self.places.len() && self.places[at].number == number {
+            let before = open_code_at(&self.places[at], self.swept);
+            self.codes.change(number, &before, &None);
             let _gone = self.places.remove(at);
         }
     }
@@ -579,5 +696,7 @@ impl GrantTable {
         ensures doors { self.new.doors_below ≡ self.old.doors_below }
     {
         self.places.retain(|place| lasts(place, now));
+        self.swept = self.swept.max(now);
+        drop_closed(&mut self.codes.lists, self.places.as_slice(), self.swept);
     }
 }

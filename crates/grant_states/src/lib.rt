@@ -5,10 +5,12 @@
 #![tactic(auto)]
 
 pub mod changes;
+mod code_list;
+mod code_numbers;
 pub mod grant_table;
 pub mod interactions;
 pub mod numbers_by_key;
-mod round_names;
+mod open_codes;
 pub mod serials;
 
 pub use changes::Change;

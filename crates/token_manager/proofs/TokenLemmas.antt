@@ -24,10 +24,9 @@ use Rattle.gnap_tables.specs.ActionsByRows.{rows_of_others}
 use Rattle.gnap_tables.proofs.Lists.{HasItem, filter_is, filter_map_same, all_kept}
 use Rattle.ordered_search.specs.Order.{IsAscending, IsPlaceOf}
 use Rattle.grant_states.specs.declared.numbers_by_key.Listed.{Listed}
-use Rattle.grant_states.specs.Listed.{under}
+use Rattle.grant_states.specs.Listed.{under, where_some}
 use Rattle.token_manager.specs.declared.token_table.TokenPlace.{TokenPlace}
 use Rattle.token_manager.specs.Tokens.{IsTokenRow, AreTokenRows, row_by_value, token_in, IsTokenPlace, AreTokenPlaces, AreListed, is_among, Marks, is_live_place, is_live_elsewhere}
-use Rattle.grant_states.specs.Grants.{where_some}
 use Rattle.grant_states.proofs.Decoding.{Tells, no_number}
 use Rattle.grant_states.proofs.Items.{any_newest, item_all, item_in, item_of_map, get_at, get_past, newest_none}
 use Rattle.grant_states.proofs.Placed.{ascending_keys, at_place, one_key, placed, placed_key, eqb-self}

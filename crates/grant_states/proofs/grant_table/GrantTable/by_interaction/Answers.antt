@@ -1,14 +1,14 @@
-use Rattle.std.proofs.Common.{ap}
+use Rattle.std.proofs.Common.{◌∙◌, ap, sym}
 use Rattle.std.specs.Prelude.{option_map}
-use Rattle.grant_states.specs.Grants.{StoredGrants}
-use Rattle.grant_states.proofs.GrantLemmas.{ascending_places}
-use Rattle.grant_states.proofs.NamedRounds.{interaction_latest}
+use Rattle.gnap_tables.specs.RowSearches.{Interaction, interaction_where, newest}
+use Rattle.grant_states.specs.declared.interactions.InteractionName.{InteractionName}
+use Rattle.grant_states.specs.Interactions.{goes_by}
 use Rattle.grant_states.proofs.grant_table.GrantTable.by_interaction.Goals as goal
 
-pub last_open-requires : goal.last_open-requires
-last_open-requires c = ascending_places c.as_slice.result.now c.self.inside.places.items c.self.inside.doors.items c.self.inside.doors_below c.as_slice.ensures.value c.self.invariant.0
+pub returns-in-Handle : goal.returns-in-Handle
+returns-in-Handle c =
+    c.by_handle.ensures ∙ ap (λ (n : InteractionName). option_map (λ (i : Interaction). i.row) (newest (interaction_where (goes_by n) c.args.now) c.args.self.now.rows)) (sym c.in-Handle.is)
 
-pub returns : goal.returns
-returns c =
-    interaction_latest c.as_slice.result.now c.self.inside.places.items c.self.inside.doors.items c.self.inside.doors_below c.self.inside.names c.args.self.now.rows c.of.result.now c.args.name c.args.now (option_map (λ row. row.now) c.last_open.result)
-    c.as_slice.ensures.value (ap (λ (s : StoredGrants). s.rows) c.self.view_is) c.self.invariant.0 c.self.invariant.1 c.of.ensures c.last_open.ensures
+pub returns-in-Code : goal.returns-in-Code
+returns-in-Code c =
+    c.by_code.ensures ∙ ap (λ (n : InteractionName). option_map (λ (i : Interaction). i.row) (newest (interaction_where (goes_by n) c.args.now) c.args.self.now.rows)) (sym c.in-Code.is)

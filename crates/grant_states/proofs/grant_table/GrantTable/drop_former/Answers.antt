@@ -12,4 +12,5 @@ invariant_of-self c = (
   subst (λ (ds : List DoorPlace). AreGrantPlaces c.self.inside.places.items ds c.self.inside.doors_below) (sym c.drop_stale.ensures)
       (current_kept c.as_slice.result.now c.self.inside.places.items c.self.inside.doors.items c.self.inside.doors_below c.as_slice.ensures.value c.self.invariant.0),
   c.self.invariant.1,
+  c.self.invariant.2,
 )
