@@ -43,7 +43,7 @@ module _ {V : Type 0} where
   -- ---- entries of a list whose names are distinct
 
   -- a name that has no value isn't that of an entry
-  apart_at : (es : List (List ℕ × V)) (m : List ℕ) → value_at es m ≡ None → (i : ℕ) (n : List ℕ) (v : V) → slice_get es i ≡ Some (n, v) → bytes_eq m n ≡ false
+  pub apart_at : (es : List (List ℕ × V)) (m : List ℕ) → value_at es m ≡ None → (i : ℕ) (n : List ℕ) (v : V) → slice_get es i ≡ Some (n, v) → bytes_eq m n ≡ false
   apart_at [] m none = λ i n v e. absurd cc
   apart_at (x ∷ es) m none = by (bytes_eq m x.0) refl none (apart_at es m)
     where

@@ -1,7 +1,8 @@
 pub mod Entries
-pub mod Places
 pub mod Runs
 pub mod Fronts
+pub mod NameNotes
+pub mod Places
 pub mod Numbers
 pub mod Base64
 pub mod Strings

@@ -1,33 +1,29 @@
--- A name's place among entries: in the list, in a front of it and behind that, and in the tree that finds it there.
-use Rattle.std.proofs.Common.{◌≡◌, ℕ, zero, suc, ◌+◌, ◌-◌, ◌<◌, ◌≤◌, Bool, true, false, cond, List, [], ◌∷◌, ◌++◌, length, get_or, take, drop, slice_get, Option, Some, None, refl, sym, ap, subst, ◌∙◌, arith, true≢false, length-append, length-drop}
-use Rattle.std.specs.Prelude.{slice_set, nat_lt, IfSome}
+-- A name's place among entries: in the list, in a front of it and behind that, and as notes tell it there.
+use Rattle.std.proofs.Common.{◌≡◌, ℕ, zero, suc, ◌+◌, ◌-◌, ◌<◌, ◌≤◌, Bool, true, false, cond, List, [], ◌∷◌, ◌++◌, length, get_or, take, drop, slice_get, Option, Some, None, refl, sym, ap, subst, ◌∙◌, arith, length-append}
+use Rattle.std.specs.Prelude.{slice_set, IfSome, IsSome}
 use Rattle.std.specs.Str.{bytes_eq}
-use Rattle.std.specs.Global.{Vec}
 use Rattle.std.specs.Option.{option_map}
-use Rattle.std.specs.Map.{lookup}
-use Rattle.std.specs.declared.cmp.Ordering.{Ordering}
-use Rattle.std.specs.declared.cmp.Ordering.TheVariants.{Less, Equal, Greater}
-use Rattle.std.specs.Ordering.{is_eq, nat_cmp, match_ordering}
-use Rattle.std.specs.Cmp.Lexicographic.{slice_cmp}
-use Rattle.std.specs.BTreeMap.{BTreeMap}
-use Rattle.std.specs.BTreeMap as tree
-use Rattle.std.proofs.lemmas.Bool.Decides.{nat_tests}
-use Rattle.std.proofs.lemmas.List.{drop_all, drop_more, drop-append-le, take_more}
-use Rattle.std.proofs.lemmas.Map.Text.{is_eq-slice_cmp}
+use Rattle.std.proofs.lemmas.List.{drop_more, take_more}
 use Rattle.std.proofs.lemmas.Slice.Eq.{bytes_eq-Decides}
-use Rattle.structured_fields.specs.Named.{value_at, with_value, place_of, few, place_in, Finds}
-use Rattle.structured_fields.proofs.Entries.{goes_last}
+use Rattle.structured_fields.specs.Named.{value_at, with_value, place_of, few, Covers, IsDistinct}
+use Rattle.structured_fields.specs.NameNotes.{noted, Extends}
+use Rattle.structured_fields.proofs.Entries.{goes_last, turned, apart_at}
+use Rattle.structured_fields.proofs.NameNotes.{absent_before}
 
 same : (a b : List ℕ) → bytes_eq a b ≡ true → a ≡ b
 same a b = (bytes_eq-Decides a b).0
 
--- two names that are the same stand the same to a third
-alike : (q a b : List ℕ) → bytes_eq a b ≡ true → bytes_eq q a ≡ bytes_eq q b
-alike q a b e = ap (bytes_eq q) (same a b e)
+-- a name of which no note is taken isn't one of which a note is
+noted_apart : (notes : List ℕ) (name q : List ℕ) → IsSome (noted notes name) → noted notes q ≡ None → bytes_eq q name ≡ false
+noted_apart notes name q there none = by (bytes_eq q name) refl
+  where
+    told : (o : Option ℕ) → IsSome o → o ≡ None → ⊥
+    told None some e = absurd cc
+    told (Some n) some e = absurd cc
 
--- the test of a query among the keys
-abbrev pub test : List ℕ → Vec ℕ → Bool
-test q key = is_eq (slice_cmp nat_cmp q key.items)
+    by : (b : Bool) → bytes_eq q name ≡ b → b ≡ false
+    by true t = absurd (told (noted notes name) there (ap (noted notes) (sym (same q name t)) ∙ none))
+    by false t = refl
 
 module _ {V : Type 0} where
   -- ---- what stands at the place
@@ -67,18 +63,7 @@ module _ {V : Type 0} where
 
   -- ---- in a front and behind it
 
-  -- a name that the front has stands there
-  pub in_front : (n : ℕ) (es : List (List ℕ × V)) (name : List ℕ) (i : ℕ) → place_of (take n es) name ≡ Some i → place_of es name ≡ Some i
-  in_front zero es name i e = absurd cc
-  in_front (suc n) [] name i e = absurd cc
-  in_front (suc n) (x ∷ es) name i e = by (bytes_eq name x.0) (place_of (take n es) name) (in_front n es name) e
-    where
-      by : (b : Bool) (o : Option ℕ) → ((j : ℕ) → o ≡ Some j → place_of es name ≡ Some j) → cond b (Some 0) (option_map suc o) ≡ Some i → cond b (Some 0) (option_map suc (place_of es name)) ≡ Some i
-      by true o there h = h
-      by false None there h = absurd cc
-      by false (Some j) there h = ap (option_map suc) (there j refl) ∙ h
-
-  -- and else stands behind it
+  -- a name that the front hasn't stands behind it
   pub behind_front : (n : ℕ) (es : List (List ℕ × V)) (name : List ℕ) → place_of (take n es) name ≡ None → place_of es name ≡ option_map (λ i. n + i) (place_of (drop n es) name)
   behind_front zero es name e = by (place_of es name)
     where
@@ -98,10 +83,18 @@ module _ {V : Type 0} where
       by false None there h = ap (option_map suc) (there refl) ∙ next (place_of (drop n es) name)
       by false (Some j) there h = absurd cc
 
-  -- the tree says what stands behind the first few
-  pub found_behind : (places : BTreeMap (Vec ℕ) ℕ) (es now : List (List ℕ × V)) (name : List ℕ) → Finds places es → es ≡ now → None ≡ place_of (take few now) name → place_in places name ≡ place_of now name
-  found_behind places es now name finds view none =
-      finds name ∙ ap (λ (l : List (List ℕ × V)). option_map (λ i. few + i) (place_of (drop few l) name)) view ∙ sym (behind_front few now name (sym none))
+  -- of distinct names each stands where it is found
+  pub stands_there : (es : List (List ℕ × V)) (i : ℕ) (name : List ℕ) (v : V) → IsDistinct es → slice_get es i ≡ Some (name, v) → place_of es name ≡ Some i
+  stands_there [] i name v d e = absurd cc
+  stands_there (x ∷ es) zero name v d e =
+      let is : x ≡ (name, v) = cc in
+      let own : bytes_eq name x.0 ≡ true = (bytes_eq-Decides name x.0).1 (sym (ap (λ (y : List ℕ × V). y.0) is)) in
+      rw own refl
+  stands_there (x ∷ es) (suc i) name v d e =
+      rw (turned x.0 name (apart_at es x.0 d.0 i name v e)) (ap (option_map suc) (stands_there es i name v d.1 e))
+
+  pub stands_under : (es : List (List ℕ × V)) (i : ℕ) (name other : List ℕ) (v : V) → IsDistinct es → slice_get es i ≡ Some (other, v) → bytes_eq other name ≡ true → place_of es name ≡ Some i
+  stands_under es i name other v d e t = ap (place_of es) (sym (same other name t)) ∙ stands_there es i other v d e
 
   absent_still : (es : List (List ℕ × V)) (name : List ℕ) (p : List ℕ × V) → place_of es name ≡ None → bytes_eq name p.0 ≡ false → place_of (es ++ p ∷ []) name ≡ None
   absent_still [] name p none apart = rw apart refl
@@ -141,122 +134,50 @@ module _ {V : Type 0} where
           let next : suc j ≡ i = cc in
           subst (λ (k : ℕ). p ≡ get_or (x ∷ es) k p → slice_set (x ∷ es) k (p.0, v) ≡ x ∷ with_value es name v) next (λ is. ap (λ (r : List (List ℕ × V)). x ∷ r) (there j refl is))
 
-  -- each name keeps its place
-  places_stay : (m : ℕ) (es : List (List ℕ × V)) (name : List ℕ) (v : V) (i : ℕ) → place_of es name ≡ Some i → (q : List ℕ) → place_of (drop m (with_value es name v)) q ≡ place_of (drop m es) q
-  places_stay m [] name v i e q = absurd cc
-  places_stay zero (x ∷ es) name v i e q = by (bytes_eq name x.0) (place_of es name) (λ j there. places_stay zero es name v j there q) e
+  -- each name keeps its place, and no entry is added
+  place_stays : (es : List (List ℕ × V)) (name : List ℕ) (v : V) (i : ℕ) → place_of es name ≡ Some i → (q : List ℕ) → place_of (with_value es name v) q ≡ place_of es q
+  place_stays [] name v i e q = absurd cc
+  place_stays (x ∷ es) name v i e q = by (bytes_eq name x.0) (place_of es name) (λ j there. place_stays es name v j there q) e
     where
       by : (b : Bool) (o : Option ℕ) → ((j : ℕ) → o ≡ Some j → place_of (with_value es name v) q ≡ place_of es q) → cond b (Some 0) (option_map suc o) ≡ Some i
           → place_of (cond b ((x.0, v) ∷ es) (x ∷ with_value es name v)) q ≡ place_of (x ∷ es) q
       by true o there h = refl
       by false None there h = absurd cc
       by false (Some j) there h = ap (λ (o : Option ℕ). cond (bytes_eq q x.0) (Some 0) (option_map suc o)) (there j refl)
-  places_stay (suc m) (x ∷ es) name v i e q = by (bytes_eq name x.0) (place_of es name) (λ j there. places_stay m es name v j there q) e
+
+  length_stays : (es : List (List ℕ × V)) (name : List ℕ) (v : V) (i : ℕ) → place_of es name ≡ Some i → length (with_value es name v) ≡ length es
+  length_stays [] name v i e = absurd cc
+  length_stays (x ∷ es) name v i e = by (bytes_eq name x.0) (place_of es name) (λ j there. length_stays es name v j there) e
     where
-      by : (b : Bool) (o : Option ℕ) → ((j : ℕ) → o ≡ Some j → place_of (drop m (with_value es name v)) q ≡ place_of (drop m es) q) → cond b (Some 0) (option_map suc o) ≡ Some i
-          → place_of (drop (suc m) (cond b ((x.0, v) ∷ es) (x ∷ with_value es name v))) q ≡ place_of (drop m es) q
+      by : (b : Bool) (o : Option ℕ) → ((j : ℕ) → o ≡ Some j → length (with_value es name v) ≡ length es) → cond b (Some 0) (option_map suc o) ≡ Some i
+          → length (cond b ((x.0, v) ∷ es) (x ∷ with_value es name v)) ≡ length (x ∷ es)
       by true o there h = refl
       by false None there h = absurd cc
-      by false (Some j) there h = there j refl
+      by false (Some j) there h = ap suc (there j refl)
 
-  pub finds_still : (places : BTreeMap (Vec ℕ) ℕ) (es : List (List ℕ × V)) (name : List ℕ) (v : V) (i : ℕ) → place_of es name ≡ Some i → Finds places es → Finds places (with_value es name v)
-  finds_still places es name v i there finds q = finds q ∙ ap (option_map (λ k. few + k)) (sym (places_stay few es name v i there q))
+  pub covers_set : (notes : List ℕ) (es : List (List ℕ × V)) (name : List ℕ) (v : V) (i : ℕ) → place_of es name ≡ Some i → Covers notes es → Covers notes (with_value es name v)
+  covers_set notes es name v i there covers many q none =
+      let more : few < length es = subst (λ (n : ℕ). few < n) (length_stays es name v i there) many in
+      place_stays es name v i there q ∙ covers more q none
+
+  pub covers_more : (notes more : List ℕ) (es : List (List ℕ × V)) → Extends notes more → Covers notes es → Covers more es
+  covers_more notes more es extends covers many q none = covers many q (absent_before notes more extends q none)
 
   -- ---- a new name that is put last
 
-  place_last : (es : List (List ℕ × V)) (name : List ℕ) (v : V) (q : List ℕ) → place_of es name ≡ None → place_of (es ++ (name, v) ∷ []) q ≡ cond (bytes_eq q name) (Some (length es)) (place_of es q)
-  place_last [] name v q e = refl
-  place_last (x ∷ es) name v q e = by (bytes_eq name x.0) refl (place_of es name) (place_last es name v q) e
-    where
-      apart : (c d : Bool) → bytes_eq q x.0 ≡ c → bytes_eq q name ≡ d → bytes_eq name x.0 ≡ false → (o : Option ℕ)
-          → cond c (Some 0) (option_map suc (cond d (Some (length es)) o)) ≡ cond d (Some (length (x ∷ es))) (cond c (Some 0) (option_map suc o))
-      apart true true c d t o = absurd (true≢false (sym c ∙ ap (λ (m : List ℕ). bytes_eq m x.0) (same q name d) ∙ t))
-      apart true false c d t o = refl
-      apart false true c d t o = let k : suc (length es) ≡ length (x ∷ es) = omega arith in ap Some k
-      apart false false c d t o = refl
-
-      by : (b : Bool) → bytes_eq name x.0 ≡ b → (o : Option ℕ) → (o ≡ None → place_of (es ++ (name, v) ∷ []) q ≡ cond (bytes_eq q name) (Some (length es)) (place_of es q))
-          → cond b (Some 0) (option_map suc o) ≡ None → place_of (x ∷ es ++ (name, v) ∷ []) q ≡ cond (bytes_eq q name) (Some (length (x ∷ es))) (place_of (x ∷ es) q)
-      by true t o there h = absurd cc
-      by false t None there h =
-          ap (λ (o : Option ℕ). cond (bytes_eq q x.0) (Some 0) (option_map suc o)) (there refl)
-          ∙ apart (bytes_eq q x.0) (bytes_eq q name) refl refl t (place_of es q)
-      by false t (Some j) there h = absurd cc
-
-  absent_behind : (n : ℕ) (es : List (List ℕ × V)) (name : List ℕ) → place_of es name ≡ None → place_of (drop n es) name ≡ None
-  absent_behind zero es name e = e
-  absent_behind (suc n) [] name e = refl
-  absent_behind (suc n) (x ∷ es) name e = by (bytes_eq name x.0) (place_of es name) (absent_behind n es name) e
-    where
-      by : (b : Bool) (o : Option ℕ) → (o ≡ None → place_of (drop n es) name ≡ None) → cond b (Some 0) (option_map suc o) ≡ None → place_of (drop n es) name ≡ None
-      by true o there h = absurd cc
-      by false None there h = there refl
-      by false (Some j) there h = absurd cc
+  -- the names up to an entry are noted, and then its own too
+  pub all_more : (notes more : List ℕ) (es : List (List ℕ × V)) (i : ℕ) (p : List ℕ × V) → i < length es → p ≡ get_or es i p → Extends notes more → IsSome (noted more p.0)
+      → ((q : List ℕ) → noted notes q ≡ None → place_of (take i es) q ≡ None) → (q : List ℕ) → noted more q ≡ None → place_of (take (i + 1) es) q ≡ None
+  all_more notes more es i p within is extends there all q none =
+      not_yet es q i p within (all q (absent_before notes more extends q none)) is (sym (noted_apart more p.0 q there none))
 
   module _ (es : List (List ℕ × V)) (name : List ℕ) (v : V) (new : place_of es name ≡ None) where
     -- it goes last
     pub put_last : es ++ (name, v) ∷ [] ≡ with_value es name v
     put_last = sym (goes_last es name v (value_there es name ∙ ap (at_place es) new))
 
-    module _ (places more : BTreeMap (Vec ℕ) ℕ) (place : ℕ) (is : place ≡ length es) (finds : Finds places es) where
-      -- the tree stays while there are few
-      among : place < few → ((q : List ℕ) → place_in more q ≡ place_in places q) → Finds more (es ++ (name, v) ∷ [])
-      among short stays q =
-          let one : length (es ++ (name, v) ∷ []) ≤ few = omega (arith, short, is, length-append es ((name, v) ∷ [])) in
-          let before : length es ≤ few = omega (arith, short, is) in
-          stays q ∙ finds q ∙ ap (λ (l : List (List ℕ × V)). option_map (λ i. few + i) (place_of l q)) (drop_all few es before ∙ sym (drop_all few (es ++ (name, v) ∷ []) one))
-
-      shifted : (b : Bool) (l : ℕ) (o : Option ℕ) → option_map (λ i. few + i) (cond b (Some l) o) ≡ cond b (Some (few + l)) (option_map (λ i. few + i) o)
-      shifted true l o = refl
-      shifted false l o = refl
-
-      -- and has the name's place behind them
-      behind : few ≤ place → ((q : List ℕ) → place_in more q ≡ cond (bytes_eq q name) (Some place) (place_in places q)) → Finds more (es ++ (name, v) ∷ [])
-      behind many after q =
-          let absent : place_of (drop few es) name ≡ None = absent_behind few es name new in
-          let within : few ≤ length es = omega (arith, many, is) in
-          let here : place ≡ few + length (drop few es) = omega (arith, many, is, length-drop few es) in
-          after q
-          ∙ ap (cond (bytes_eq q name) (Some place)) (finds q)
-          ∙ ap (λ (p : ℕ). cond (bytes_eq q name) (Some p) (option_map (λ i. few + i) (place_of (drop few es) q))) here
-          ∙ sym (shifted (bytes_eq q name) (length (drop few es)) (place_of (drop few es) q))
-          ∙ ap (option_map (λ i. few + i)) (sym (place_last (drop few es) name v q absent))
-          ∙ ap (λ (l : List (List ℕ × V)). option_map (λ i. few + i) (place_of l q)) (sym (drop-append-le few es ((name, v) ∷ []) within))
-
-      pub finds_added : (place < few → more.entries ≡ places.entries) → (few ≤ place → (q : List ℕ) → place_in more q ≡ cond (bytes_eq q name) (Some place) (place_in places q)) → Finds more (es ++ (name, v) ∷ [])
-      finds_added front back = by (nat_lt place few) refl
-        where
-          by : (b : Bool) → nat_lt place few ≡ b → Finds more (es ++ (name, v) ∷ [])
-          by true t = let short : place < few = grind (arith, nat_tests) in among short (λ q. ap (lookup (test q)) (front short))
-          by false t = let many : few ≤ place = grind (arith, nat_tests) in behind many (back many)
-
--- ---- what the tree says after an insert
-
-pub place_inserted : (es : List (Vec ℕ × ℕ)) (key : Vec ℕ) (place : ℕ) (q : List ℕ)
-    → lookup (test q) (tree.insert_entry (λ a b. slice_cmp nat_cmp a.items b.items) es key place) ≡ cond (bytes_eq q key.items) (Some place) (lookup (test q) es)
-place_inserted [] key place q = rw (is_eq-slice_cmp q key.items) refl
-place_inserted (e ∷ es) key place q = by (slice_cmp nat_cmp key.items e.0.items) refl (place_inserted es key place q)
-  where
-    ties : (r : Ordering) → slice_cmp nat_cmp key.items e.0.items ≡ r → bytes_eq key.items e.0.items ≡ is_eq r
-    ties r h = sym (is_eq-slice_cmp key.items e.0.items) ∙ ap is_eq h
-
-    one : (c d : Bool) → d ≡ c → (o : Option ℕ) → cond c (Some place) o ≡ cond d (Some place) (cond c (Some e.1) o)
-    one true d e o = rw e refl
-    one false d e o = rw e refl
-
-    apart : (c d : Bool) → bytes_eq q e.0.items ≡ c → bytes_eq q key.items ≡ d → bytes_eq key.items e.0.items ≡ false → (o : Option ℕ)
-        → cond c (Some e.1) (cond d (Some place) o) ≡ cond d (Some place) (cond c (Some e.1) o)
-    apart true true c d t o = absurd (true≢false (sym c ∙ ap (λ (m : List ℕ). bytes_eq m e.0.items) (same q key.items d) ∙ t))
-    apart true false c d t o = refl
-    apart false true c d t o = refl
-    apart false false c d t o = refl
-
-    by : (r : Ordering) → slice_cmp nat_cmp key.items e.0.items ≡ r
-        → lookup (test q) (tree.insert_entry (λ a b. slice_cmp nat_cmp a.items b.items) es key place) ≡ cond (bytes_eq q key.items) (Some place) (lookup (test q) es)
-        → lookup (test q) (match_ordering r ((key, place) ∷ e ∷ es) ((e.0, place) ∷ es) (e ∷ tree.insert_entry (λ a b. slice_cmp nat_cmp a.items b.items) es key place))
-        ≡ cond (bytes_eq q key.items) (Some place) (lookup (test q) (e ∷ es))
-    by Less h again = rw (is_eq-slice_cmp q key.items) refl
-    by Equal h again = rw (is_eq-slice_cmp q e.0.items) (one (bytes_eq q e.0.items) (bytes_eq q key.items) (alike q key.items e.0.items (ties Equal h)) (lookup (test q) es))
-    by Greater h again =
-        rw (is_eq-slice_cmp q e.0.items, again)
-        (apart (bytes_eq q e.0.items) (bytes_eq q key.items) refl refl (ties Greater h) (lookup (test q) es))
+    -- a few and the new one, once all are noted
+    pub covers_added : (more : List ℕ) → (few ≤ length es → (q : List ℕ) → noted more q ≡ None → place_of es q ≡ None) → (few ≤ length es → IsSome (noted more name)) → Covers more (es ++ (name, v) ∷ [])
+    covers_added more all there many q none =
+        let enough : few ≤ length es = omega (arith, many, length-append es ((name, v) ∷ [])) in
+        absent_still es q (name, v) (all enough q none) (noted_apart more name q (there enough) none)

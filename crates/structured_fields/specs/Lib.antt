@@ -3,4 +3,5 @@ pub mod Named
 pub mod Grammar
 pub mod Canonical
 pub mod Reading
+pub mod NameNotes
 pub mod Laws

@@ -5,7 +5,7 @@
 //! `item_of`, `list_of` and `dictionary_of` (`specs/Reading.antt`) say the same as functions, for contracts that compute with what a text holds.
 //!
 //! Two rules are this project's own: a byte sequence may stand without its padding, and one whose unused last bits aren't zero is refused. Want of memory is `OutOfMemory` or `Mem`, and changes nothing.
-//! Reading and writing take time in proportion to the text, and to the logarithm of the number of keys. Names are found one by one among the first eight, and by a tree behind them, so that no choice of keys makes reading slow.
+//! Reading and writing take time in proportion to the text. Up to eight names are compared one by one; of more, a tree of four steps for each byte of a name tells where it stands, so that no choice of names makes reading slow.
 #![tactic(auto)]
 
 mod bare;
@@ -16,6 +16,7 @@ mod item;
 mod item_reading;
 pub mod laws;
 mod letters;
+mod name_notes;
 mod named;
 mod reading;
 mod writing;

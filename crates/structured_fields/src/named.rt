@@ -1,16 +1,16 @@
 //! Values under names, in order.
-ghost use Rattle.std.specs.Prelude.{◌≡◌, ◌<◌, ◌≤◌, ℕ, List, [], Some, None, length, slice_get, if◌then◌else◌, IfSome, OnOk, OnErr};
+ghost use Rattle.std.specs.Prelude.{◌≡◌, ◌<◌, ◌≤◌, ℕ, List, [], Some, None, length, slice_get, IfSome, IsSome, OnOk, OnErr, true};
 ghost use Rattle.std.specs.Option.{option_copied};
-ghost use Rattle.std.specs.Str.{bytes_eq};
-ghost use Rattle.structured_fields.specs.Named.{value_at, with_value, place_of, place_in, IsDistinct, few};
+ghost use Rattle.structured_fields.specs.Named.{value_at, with_value, place_of, IsDistinct, few};
+ghost use Rattle.structured_fields.specs.NameNotes.{noted, Extends};
 
+use crate::name_notes::{Notes, note, noted};
 use bytes_and_lists::bytes::Bytes;
 use bytes_and_lists::memory::{Duplicate, Mem};
 use std::alloc::Global;
-use std::collections::BTreeMap;
 use std::marker::Model;
 
-// So many entries are looked through one by one. Behind them a tree finds a name, since names come from others, who could send thousands, or choose
+// So many entries are looked through one by one. Of more, notes tell where a name stands, since names come from others, who could send thousands, or choose
 // such as collide under a hash.
 const FEW: usize = 8;
 
@@ -18,8 +18,8 @@ const FEW: usize = 8;
 #[derive(Drop)]
 pub struct Named<V: Drop> {
     entries: Vec<(Bytes, V)>,
-    // The place of each name behind the first few.
-    places: BTreeMap<Vec<u8>, usize>,
+    // Where there are more than a few: which names there are, and where.
+    notes: Notes,
 }
 
 impl<V: Drop> Model for Named<V> {
@@ -30,11 +30,11 @@ impl<V: Drop> Model for Named<V> {
 
     ghost coded = { coded_list (coded× (coded_list coded_ℕ) V.code) };
 
-    ghost use Rattle.structured_fields.specs.Named.{Finds, IsDistinct};
+    ghost use Rattle.structured_fields.specs.Named.{Covers, IsDistinct};
 
     ghost view = { λ p. p.entries.items };
 
-    ghost invariant = { λ p. Finds p.places p.entries.items × IsDistinct p.entries.items };
+    ghost invariant = { λ p. Covers p.notes.items p.entries.items × IsDistinct p.entries.items };
 }
 
 // The place of a name in a list of entries.
@@ -49,21 +49,27 @@ fn place_among<V>(entries: &[(Bytes, V)], name: &[u8]) -> Option<usize>
     None
 }
 
-// Tells the tree the place of a new name, unless it is among the first few. An `Err` changes nothing.
-fn note_place(
-    alloc: Global,
-    places: &mut BTreeMap<Vec<u8>, usize>,
-    name: &[u8],
-    place: usize,
-) -> Result<(), Mem>
-    ensures front { place < few → OnOk result (places.new.entries ≡ places.old.entries) }
-    ensures behind { few ≤ place → OnOk result ((q : List ℕ) → place_in places.new q ≡ (if bytes_eq q name.now then Some place else place_in places.old q)) }
-    ensures err { OnErr result (places.new.entries ≡ places.old.entries) }
+// Notes the names of all entries.
+fn note_all<V>(notes: &mut Notes, entries: &[(Bytes, V)]) -> Result<(), Mem>
+    ensures ok { OnOk result ((name : List ℕ) → noted notes.new.items name ≡ None → place_of entries.now name ≡ None) }
+    ensures extends { Extends notes.old.items notes.new.items }
 {
-    if place < FEW {
+    for (i, entry) in entries.iter().enumerate() {
+        note(notes, entry.0.as_slice(), i)?;
+    }
+    Ok(())
+}
+
+// Notes all names and a new one, where there are a few before it.
+fn note_first<V>(notes: &mut Notes, entries: &[(Bytes, V)], name: &[u8]) -> Result<(), Mem>
+    ensures all { few ≤ length entries.now → OnOk result ((other : List ℕ) → noted notes.new.items other ≡ None → place_of entries.now other ≡ None) }
+    ensures ok { few ≤ length entries.now → OnOk result (IsSome (noted notes.new.items name.now)) }
+{
+    if entries.len() < FEW {
         return Ok(());
     }
-    places.insert(Vec::from_slice(alloc, name)?, place)?;
+    note_all(notes, entries)?;
+    note(notes, name, entries.len())?;
     Ok(())
 }
 
@@ -74,7 +80,7 @@ impl<V: Drop> Named<V> {
     {
         Named {
             entries: Vec::new(alloc),
-            places: BTreeMap::new(alloc),
+            notes: Vec::new(alloc),
         }
     }
 
@@ -93,6 +99,28 @@ impl<V: Drop> Named<V> {
         (&pair.0, &pair.1)
     }
 
+    fn has_at(&self, place: usize, name: &[u8]) -> bool
+        ensures { result ≡ true → place_of self.now name.now ≡ Some place }
+    {
+        if place >= self.len() {
+            return false;
+        }
+        let (other, _) = self.at(place);
+        other.as_slice() == name
+    }
+
+    // The place of a name of which this was noted before.
+    fn place_told(&self, told: Option<u32>, name: &[u8]) -> Option<usize>
+        requires { told ≡ None → place_of self.now name.now ≡ None }
+        ensures { result ≡ place_of self.now name.now }
+    {
+        let place = (told? as usize).saturating_sub(1);
+        if self.has_at(place, name) {
+            return Some(place);
+        }
+        place_among(self.entries.as_slice(), name)
+    }
+
     // The place of a name.
     fn place(&self, name: &[u8]) -> Option<usize>
         ensures place { result ≡ place_of self.now name.now }
@@ -101,10 +129,7 @@ impl<V: Drop> Named<V> {
         if self.len() <= FEW {
             return place_among(self.entries.as_slice(), name);
         }
-        match place_among(&self.entries[..FEW], name) {
-            Some(place) => Some(place),
-            None => self.places.get(name).copied(),
-        }
+        self.place_told(noted(self.notes.as_slice(), name), name)
     }
 
     /// The value under the name. None exactly where the name isn't there.
@@ -115,20 +140,40 @@ impl<V: Drop> Named<V> {
         Some(value)
     }
 
-    // Puts a new name and its value last. An `Err` changes nothing.
+    // Puts a new name and its value last, behind a few at most. An `Err` changes nothing.
     fn add(&mut self, name: Bytes, value: V) -> Result<(), Mem>
-        requires { place_of self.old name ≡ None }
+        requires few { length self.old ≤ few }
+        requires new { place_of self.old name ≡ None }
         ensures ok { OnOk result (self.new ≡ with_value self.old name value) }
         ensures err { OnErr result (self.new ≡ self.old) }
     {
-        // With room for the entry nothing fails once the tree has the name.
-        let place = self.len();
+        // With room for the entry nothing fails once its name is noted.
         self.entries.reserve(1)?;
-        let alloc = *self.entries.allocator();
-        note_place(alloc, &mut self.places, name.as_slice(), place)?;
+        note_first(&mut self.notes, self.entries.as_slice(), name.as_slice())?;
         match self.entries.push((name, value)) {
             Ok(()) => Ok(()),
             Err(_) => unreachable!(),
+        }
+    }
+
+    // Puts the value under the name, among more than a few. An `Err` changes nothing.
+    fn set_among(&mut self, name: Bytes, value: V) -> Result<(), Mem>
+        requires { few < length self.old }
+        ensures ok { OnOk result (self.new ≡ with_value self.old name value) }
+        ensures err { OnErr result (self.new ≡ self.old) }
+    {
+        let last = self.len();
+        self.entries.reserve(1)?;
+        let told = note(&mut self.notes, name.as_slice(), last)?;
+        match self.place_told(told, name.as_slice()) {
+            Some(place) => {
+                self.entries[place].1 = value;
+                Ok(())
+            }
+            None => match self.entries.push((name, value)) {
+                Ok(()) => Ok(()),
+                Err(_) => unreachable!(),
+            },
         }
     }
 
@@ -137,6 +182,9 @@ impl<V: Drop> Named<V> {
         ensures ok { OnOk result (self.new ≡ with_value self.old name value) }
         ensures err { OnErr result (self.new ≡ self.old) }
     {
+        if self.len() > FEW {
+            return self.set_among(name, value);
+        }
         match self.place(name.as_slice()) {
             Some(place) => {
                 self.entries[place].1 = value;
