@@ -1,0 +1,169 @@
+-- The signature with a tag, by what was found of the members of the two fields.
+use Rattle.std.proofs.Common.{◌≡◌, ℕ, Bool, true, false, cond, List, [], ◌∷◌, Option, Some, None, Result, Ok, Err, refl, sym, ap, ◌∙◌}
+use Rattle.std.specs.Prelude.{codes}
+use Rattle.std.specs.Option.{option_map}
+use Rattle.bytes_and_lists.specs.declared.message.Message.{Message}
+use Rattle.structured_fields.specs.declared.bare.Bare.{Bare}
+use Rattle.structured_fields.specs.declared.bare.Bare.TheVariants.{Integer, Decimal, Str, Token, Binary, Boolean, Date, Display}
+use Rattle.structured_fields.specs.declared.item.InnerList.{InnerList}
+use Rattle.structured_fields.specs.declared.item.Member.{Member}
+use Rattle.structured_fields.specs.declared.item.Member.TheVariants.{Item as Single, Inner}
+use Rattle.structured_fields.specs.Named.{value_at}
+use Rattle.structured_fields.specs.Passing.{holds_string, is_marked, marked_among, single_in}
+use Rattle.structured_fields.specs.Reading.{dictionary_of}
+use Rattle.message_signature.specs.declared.fault.SigFault.{SigFault}
+use Rattle.message_signature.specs.declared.fault.SigFault.TheVariants.{NoField, NotAField, NoTag, Malformed, OutOfMemory}
+use Rattle.message_signature.specs.declared.tags.SignatureFields.{SignatureFields}
+use Rattle.message_signature.specs.Components.{field_value}
+use Rattle.message_signature.specs.Faults.{◌>>=◌, need, must, Fails}
+use Rattle.message_signature.specs.Lone.{tagged_of, bytes_in}
+use Rattle.message_signature.specs.Verified.{Signature, is_text, tagged_list, with_tag, only_one, is_well_formed, signature_under, signature_fields, tagged_in, tagged, judged, verified}
+use Rattle.message_signature.specs.Marks.{mark_in}
+use Rattle.message_signature.specs.Marked.{id_and_mark}
+
+abbrev Entry : Type 0
+Entry = List ℕ × Member
+
+abbrev Tagged : Type 0
+Tagged = List ℕ × InnerList
+
+-- ---- the lists with the tag
+
+same_text : (s : List ℕ) (o : Option Bare) → is_text s o ≡ holds_string s o
+same_text s None = refl
+same_text s (Some (Str t)) = refl
+same_text s (Some (Integer n)) = refl
+same_text s (Some (Decimal n)) = refl
+same_text s (Some (Token t)) = refl
+same_text s (Some (Binary b)) = refl
+same_text s (Some (Boolean b)) = refl
+same_text s (Some (Date n)) = refl
+same_text s (Some (Display t)) = refl
+
+module _ (tag : List ℕ) where
+  abbrev marked : List Entry → List Entry
+  marked d = marked_among (codes "tag") tag d
+
+  abbrev holds : InnerList → Bool
+  holds list = holds_string tag (value_at list.params (codes "tag"))
+
+  pub none_tagged : (d : List Entry) → marked d ≡ [] → with_tag tag d ≡ []
+  none_tagged [] h = refl
+  none_tagged ((name, Single item) ∷ d) h = none_tagged d h
+  none_tagged ((name, Inner list) ∷ d) h = rw same_text tag (value_at list.params (codes "tag")) (by (holds list) h)
+    where
+      by : (b : Bool) → cond b ((name, Inner list) ∷ marked d) (marked d) ≡ [] → cond b ((name, list) ∷ with_tag tag d) (with_tag tag d) ≡ []
+      by true h = absurd cc
+      by false h = none_tagged d h
+
+  pub one_tagged : (d : List Entry) (label : List ℕ) (one : InnerList) → marked d ≡ (label, Inner one) ∷ [] → with_tag tag d ≡ (label, one) ∷ []
+  one_tagged [] label one h = absurd cc
+  one_tagged ((name, Single item) ∷ d) label one h = one_tagged d label one h
+  one_tagged ((name, Inner list) ∷ d) label one h = by (holds list) refl h
+    where
+      by : (b : Bool) → holds list ≡ b → cond b ((name, Inner list) ∷ marked d) (marked d) ≡ (label, Inner one) ∷ [] → with_tag tag ((name, Inner list) ∷ d) ≡ (label, one) ∷ []
+      by true t h =
+          let first : is_text tag (value_at list.params (codes "tag")) ≡ true = same_text tag (value_at list.params (codes "tag")) ∙ t in
+          let names : name ≡ label = cc in
+          let lists : list ≡ one = cc in
+          let others : marked d ≡ [] = cc in
+          rw (first, none_tagged d others) (ap (λ (n : List ℕ). (n, list) ∷ []) names ∙ ap (λ (l : InnerList). (label, l) ∷ []) lists)
+      by false t h =
+          let first : is_text tag (value_at list.params (codes "tag")) ≡ false = same_text tag (value_at list.params (codes "tag")) ∙ t in
+          rw first (one_tagged d label one h)
+
+-- ---- the bytes under a label
+
+pub bytes_of_single : (label : List ℕ) (d : List Entry) → bytes_in (single_in (value_at d label)) ≡ signature_under label d
+bytes_of_single label d = by (value_at d label) refl
+  where
+    by : (o : Option Member) → value_at d label ≡ o → bytes_in (single_in o) ≡ signature_under label d
+    by None e = rw e refl
+    by (Some (Single i)) e = rw e refl
+    by (Some (Inner l)) e = rw e refl
+
+pub bytes_of_all : (label : List ℕ) (r : Option (List Entry)) → need NotAField (option_map bytes_in (option_map (λ d. single_in (value_at d label)) r)) ≡ need NotAField (option_map (signature_under label) r)
+bytes_of_all label None = refl
+bytes_of_all label (Some d) = ap (λ (o : Option (List ℕ)). Ok o) (bytes_of_single label d)
+
+-- ---- the chain
+
+-- a step that fails, whatever is made of its value
+fails_behind : {A B C : Type 0} (f : SigFault) (g : A → B) (o : Option A) (k : A → Result C SigFault) (e : SigFault) → need f (option_map g o) ≡ Err e → (need f o >>= k) ≡ Err e
+fails_behind f g None k e h = cc
+fails_behind f g (Some x) k e h = absurd cc
+
+read_behind : {A B : Type 0} (f : SigFault) (g : A → B) (o : Option A) (y : B) → need f (option_map g o) ≡ Ok y → (x : A) × (o ≡ Some x) × (g x ≡ y)
+read_behind f g None y h = absurd cc
+read_behind f g (Some x) y h = (x, refl, cc)
+
+module _ (input signature tag : List ℕ) where
+  abbrev rest : List Entry → Result Signature SigFault
+  rest inputs = need NotAField (dictionary_of signature) >>= λ signatures. tagged_in tag (record { inputs = inputs; signatures = signatures })
+
+  pub input_fails : (e : SigFault) → Fails e (need NotAField (dictionary_of input)) → Fails e (tagged_of input signature tag)
+  input_fails OutOfMemory h = tt
+  input_fails e h = ap (λ (r : Result (List Entry) SigFault). r >>= rest) h
+
+  module _ (d : List Entry) (reads : dictionary_of input ≡ Some d) where
+    pub signature_fails : (label : List ℕ) (e : SigFault) → Fails e (need NotAField (option_map (signature_under label) (dictionary_of signature))) → Fails e (tagged_of input signature tag)
+    signature_fails label OutOfMemory h = tt
+    signature_fails label e h = rw reads (fails_behind NotAField (signature_under label) (dictionary_of signature) (λ signatures. tagged_in tag (record { inputs = d; signatures = signatures })) e h)
+
+    pub untagged : (label : List ℕ) (o : Option (List ℕ)) → need NotAField (option_map (signature_under label) (dictionary_of signature)) ≡ Ok o → marked_among (codes "tag") tag d ≡ [] → tagged_of input signature tag ≡ Err NoTag
+    untagged label o h none =
+        let x = read_behind NotAField (signature_under label) (dictionary_of signature) o h in
+        rw (reads, x.1, none_tagged tag d none) refl
+
+    pub tagged_once : (label : List ℕ) (list : InnerList) (o : Option (List ℕ)) → need NotAField (option_map (signature_under label) (dictionary_of signature)) ≡ Ok o
+        → marked_among (codes "tag") tag d ≡ (label, Inner list) ∷ []
+        → tagged_of input signature tag ≡ (must Malformed (is_well_formed list) >>= λ _. need Malformed o >>= λ b. Ok (record { label = label; list = list; bytes = b }))
+    tagged_once label list o h one =
+        let x = read_behind NotAField (signature_under label) (dictionary_of signature) o h in
+        rw (reads, x.1, one_tagged tag d label list one) (ap (λ (u : Option (List ℕ)). must Malformed (is_well_formed list) >>= λ _. need Malformed u >>= λ b. Ok (record { label = label; list = list; bytes = b })) x.2)
+
+-- ---- by the fields of a message
+
+module _ (m : Message) (tag : List ℕ) where
+  pub no_input : (e : SigFault) → Fails e (need NoField (field_value (codes "signature-input") m.fields)) → Fails e (tagged m tag)
+  unfolding tagged
+  no_input OutOfMemory h = tt
+  no_input e h = rw h refl
+
+  module _ (input : List ℕ) (input_is : need NoField (field_value (codes "signature-input") m.fields) ≡ Ok input) where
+    pub no_signature : (e : SigFault) → Fails e (need NoField (field_value (codes "signature") m.fields)) → Fails e (tagged m tag)
+    unfolding tagged
+    no_signature OutOfMemory h = tt
+    no_signature e h = rw (input_is, h) refl
+
+    pub by_texts : (signature : List ℕ) → need NoField (field_value (codes "signature") m.fields) ≡ Ok signature → tagged m tag ≡ tagged_of input signature tag
+    unfolding tagged
+    by_texts signature signature_is = rw (input_is, signature_is) (by (dictionary_of input) (dictionary_of signature))
+      where
+        by : (a b : Option (List Entry))
+            → ((need NotAField a >>= λ inputs. need NotAField b >>= λ signatures. Ok (record { inputs = inputs; signatures = signatures })) >>= λ fields. tagged_in tag fields)
+            ≡ (need NotAField a >>= λ inputs. need NotAField b >>= λ signatures. tagged_in tag (record { inputs = inputs; signatures = signatures }))
+        by None b = refl
+        by (Some a) None = refl
+        by (Some a) (Some b) = refl
+
+-- ---- what is verified by it
+
+module _ (m : Message) (base : List ℕ) (ring : List (List ℕ × List ℕ)) (now : ℕ) (tag : List ℕ) where
+  pub verified_by : (one : Signature) → tagged m tag ≡ Ok one → verified m base ring now tag ≡ judged m base ring now one
+  unfolding verified
+  verified_by one e = rw e refl
+
+  pub verified_fails : (e : SigFault) → Fails e (tagged m tag) → Fails e (verified m base ring now tag)
+  unfolding verified
+  verified_fails OutOfMemory h = tt
+  verified_fails e h = rw h refl
+
+  pub marked_by : (one : Signature) → tagged m tag ≡ Ok one → id_and_mark m base ring now tag ≡ (judged m base ring now one >>= λ id. Ok (id, mark_in one.list))
+  unfolding id_and_mark
+  marked_by one e = rw e refl
+
+  pub marked_fails : (e : SigFault) → Fails e (tagged m tag) → Fails e (id_and_mark m base ring now tag)
+  unfolding id_and_mark
+  marked_fails OutOfMemory h = tt
+  marked_fails e h = rw h refl

@@ -1,0 +1,315 @@
+//! Verifying the signature of a message (RFC 9421, section 3.2).
+ghost use Rattle.std.specs.Prelude.{◌≡◌, ℕ, List, IfOk, Some, Ok, codes};
+ghost use Rattle.std.specs.Option.{option_copied, option_map};
+ghost use Rattle.std.specs.Str.{bytes_eq};
+ghost use Rattle.structured_fields.specs.Named.{value_at};
+ghost use Rattle.structured_fields.specs.declared.bare.Bare.TheVariants.{Integer};
+ghost use Rattle.hmac_key.specs.Hmac.{hmac_sha256};
+ghost use Rattle.message_signature.specs.declared.fault.SigFault.TheVariants.{Unsupported, UnknownKey};
+ghost use Rattle.message_signature.specs.Base.{is_string, signature_base};
+ghost use Rattle.message_signature.specs.Faults.{◌>>=◌, Gives, need, must};
+ghost use Rattle.message_signature.specs.Marked.{id_and_mark, verified_marked};
+ghost use Rattle.message_signature.specs.Marks.{mark_in};
+ghost use Rattle.message_signature.specs.Seen.{signature_seen};
+ghost use Rattle.message_signature.specs.Verified.{absent_or, covers_enough, is_in_window, is_not_expired, key_in, has_right_digest, admitted, made_under, judged_over, judged, verified};
+
+use crate::base::{base_of, is_named, is_string};
+use crate::components::{field_value, has_body, has_field};
+use crate::fault::{BaseFault, SigFault};
+use crate::lone::lone_signature;
+use crate::marks::{SignatureMark, mark_in};
+use crate::tags::{TaggedSignature, must, signature_fields, tagged};
+use bytes_and_lists::bytes::Bytes;
+use bytes_and_lists::memory::{Duplicate, Mem};
+use bytes_and_lists::message::Message;
+use content_digest::DigestFault;
+use hmac_key::{HmacKey, Keyring, same};
+use std::alloc::Global;
+use structured_fields::{Bare, InnerList};
+
+// How many seconds `created` may be before or after now.
+const WINDOW: u64 = 300;
+
+// ---- what it covers, when it was made, and by whom
+
+fn base_under(
+    alloc: Global,
+    message: &Message,
+    base: &Bytes,
+    list: &InnerList,
+) -> Result<Bytes, SigFault>
+    ensures { Gives (λ b. b) result (need Unsupported (signature_base message.now base.now list.now)) }
+{
+    match base_of(alloc, message, base, list) {
+        Ok(text) => Ok(text),
+        Err(BaseFault::Unsupported) => Err(SigFault::Unsupported),
+        Err(BaseFault::OutOfMemory) => Err(SigFault::OutOfMemory),
+    }
+}
+
+fn covers_enough(message: &Message, list: &InnerList) -> bool
+    ensures { result ≡ covers_enough message.now list.now }
+{
+    let items = list.items.as_slice();
+    is_named(b"@method", items)
+        && is_named(b"@target-uri", items)
+        && (!has_body(message) || is_named(b"content-digest", items))
+        && (!has_field(message, b"authorization") || is_named(b"authorization", items))
+}
+
+fn is_near(now: u64, created: i64) -> bool
+    ensures { result ≡ is_in_window now (Some (Integer created)) }
+{
+    if created < 0 {
+        now.saturating_add(created.unsigned_abs()) <= WINDOW
+    } else {
+        now.abs_diff(created.unsigned_abs()) <= WINDOW
+    }
+}
+
+fn is_in_window(now: u64, created: Option<&Bare>) -> bool
+    ensures { result ≡ is_in_window now (option_copied created.entry) }
+{
+    match created {
+        Some(Bare::Integer(created)) => is_near(now, *created),
+        _ => false,
+    }
+}
+
+fn is_not_expired(now: u64, expires: Option<&Bare>) -> bool
+    ensures { result ≡ is_not_expired now (option_copied expires.entry) }
+{
+    match expires {
+        Some(Bare::Integer(expires)) => *expires >= 0 && now <= expires.unsigned_abs(),
+        _ => true,
+    }
+}
+
+fn is_right_alg(alg: Option<&Bare>) -> bool
+    ensures { result ≡ absent_or (is_string (codes "hmac-sha256")) (option_copied alg.entry) }
+{
+    match alg {
+        Some(alg) => is_string(b"hmac-sha256", alg),
+        None => true,
+    }
+}
+
+fn key_in<'a>(ring: &'a Keyring, keyid: Option<&'a Bare>) -> Option<(&'a Bytes, &'a HmacKey)>
+    ensures { option_map (λ k. (k.0.now, k.1.now)) result ≡ key_in ring.now (option_copied keyid.entry) }
+{
+    let Some(Bare::Str(id)) = keyid else {
+        return None;
+    };
+    let key = ring.key(id.as_slice())?;
+    Some((id, key))
+}
+
+// The id and the key that `keyid` names.
+fn key_of<'a>(ring: &'a Keyring, list: &'a InnerList) -> Result<(&'a Bytes, &'a HmacKey), SigFault>
+    ensures { Gives (λ k. (k.0.now, k.1.now)) result (need UnknownKey (key_in ring.now (value_at list.now.params (codes "keyid")))) }
+{
+    key_in(ring, list.params.get(b"keyid")).ok_or(SigFault::UnknownKey)
+}
+
+fn is_hmac(bytes: &Bytes, key: &HmacKey, text: &Bytes) -> bool
+    ensures { result ≡ bytes_eq bytes.now (hmac_sha256 key.now text.now) }
+{
+    same(bytes.as_slice(), &key.hmac(text.as_slice()))
+}
+
+fn has_right_digest(alloc: Global, message: &Message) -> Result<bool, Mem>
+    ensures { IfOk result (λ right. right ≡ has_right_digest message.now) }
+{
+    let Some(field) = field_value(alloc, &message.fields, b"content-digest")? else {
+        return Ok(!has_body(message));
+    };
+    match content_digest::check(alloc, field.as_slice(), message.body.as_slice()) {
+        Ok(()) => Ok(true),
+        Err(DigestFault::OutOfMemory) => Err(Mem),
+        Err(_) => Ok(false),
+    }
+}
+
+#[tactic(auto, unfolding(crate::specs::Verified::admitted))]
+fn admit(message: &Message, now: u64, list: &InnerList) -> Result<(), SigFault>
+    ensures { result ≡ admitted message.now now list.now }
+{
+    must(SigFault::Uncovered, covers_enough(message, list))?;
+    must(
+        SigFault::Created,
+        is_in_window(now, list.params.get(b"created")),
+    )?;
+    must(
+        SigFault::Expired,
+        is_not_expired(now, list.params.get(b"expires")),
+    )?;
+    must(SigFault::Alg, is_right_alg(list.params.get(b"alg")))?;
+    Ok(())
+}
+
+#[tactic(auto, unfolding(crate::specs::Verified::made_under))]
+fn made_under(
+    alloc: Global,
+    message: &Message,
+    text: &Bytes,
+    ring: &Keyring,
+    list: &InnerList,
+    bytes: &Bytes,
+) -> Result<Bytes, SigFault>
+    ensures { Gives (λ id. id) result (made_under message.now text.now ring.now list.now bytes.now) }
+{
+    let (id, key) = key_of(ring, list)?;
+    must(SigFault::Differs, is_hmac(bytes, key, text))?;
+    must(SigFault::Digest, has_right_digest(alloc, message)?)?;
+    Ok(id.copy()?)
+}
+
+/// The id of the key that made these bytes for the message, over this signature base and with the parameters of this list.
+///
+/// Errors: the first fault from Uncovered to Digest that is so, in the order of `SigFault`. OutOfMemory may come in place of any answer.
+#[tactic(auto, unfolding(crate::specs::Verified::judged_over))]
+pub fn check_tagged(
+    alloc: Global,
+    message: &Message,
+    text: &Bytes,
+    ring: &Keyring,
+    now: u64,
+    list: &InnerList,
+    bytes: &Bytes,
+) -> Result<Bytes, SigFault>
+    ensures { Gives (λ id. id) result (judged_over message.now text.now ring.now now list.now bytes.now) }
+{
+    admit(message, now, list)?;
+    made_under(alloc, message, text, ring, list, bytes)
+}
+
+// The label of a signature doesn't count.
+#[tactic(auto, unfolding(crate::specs::Verified::judged))]
+fn judged_list(
+    alloc: Global,
+    message: &Message,
+    base: &Bytes,
+    ring: &Keyring,
+    now: u64,
+    list: &InnerList,
+    bytes: &Bytes,
+) -> Result<Bytes, SigFault>
+    ensures { (label : List ℕ) → Gives (λ id. id) result (judged message.now base.now ring.now now (record { label = label; list = list.now; bytes = bytes.now })) }
+{
+    let text = base_under(alloc, message, base, list)?;
+    check_tagged(alloc, message, &text, ring, now, list, bytes)
+}
+
+fn judged(
+    alloc: Global,
+    message: &Message,
+    base: &Bytes,
+    ring: &Keyring,
+    now: u64,
+    one: &TaggedSignature,
+) -> Result<Bytes, SigFault>
+    ensures { Gives (λ id. id) result (judged message.now base.now ring.now now (signature_seen one.now)) }
+{
+    judged_list(alloc, message, base, ring, now, one.list, one.bytes)
+}
+
+// By all members of the two fields.
+#[tactic(auto, unfolding(crate::specs::Verified::verified, crate::specs::Verified::tagged))]
+fn verify_among(
+    alloc: Global,
+    message: &Message,
+    base: &Bytes,
+    ring: &Keyring,
+    now: u64,
+    tag: &Bytes,
+) -> Result<Bytes, SigFault>
+    ensures { Gives (λ id. id) result (verified message.now base.now ring.now now tag.now) }
+{
+    let fields = signature_fields(alloc, message)?;
+    let one = tagged(&fields, tag.as_slice())?;
+    judged(alloc, message, base, ring, now, &one)
+}
+
+/// The id of the key that signed a message which came to the server with this base (RFC 9421, section 3.2). The signature is the one whose parameter `tag` is this tag, and others are passed over; it is the HMAC-SHA-256 (section 3.3.3) of the signature base (section 2.5) under a key of the ring.
+/// The base is scheme, `://` and authority, without a `/` at its end. `now`, `created` and `expires` are in seconds since 1970. Parameters of other names, as `nonce`, are signed and not looked at.
+///
+/// Errors: the first fault that is so, in the order of `SigFault`. OutOfMemory may come in place of any answer.
+pub fn verify(
+    alloc: Global,
+    message: &Message,
+    base: &Bytes,
+    ring: &Keyring,
+    now: u64,
+    tag: &Bytes,
+) -> Result<Bytes, SigFault>
+    ensures { Gives (λ id. id) result (verified message.now base.now ring.now now tag.now) }
+{
+    match lone_signature(alloc, message, tag.as_slice())? {
+        Some(one) => judged_list(alloc, message, base, ring, now, &one.list, &one.bytes),
+        None => verify_among(alloc, message, base, ring, now, tag),
+    }
+}
+
+#[tactic(auto, unfolding(crate::specs::Marked::id_and_mark, crate::specs::Verified::tagged))]
+fn id_and_mark_among(
+    alloc: Global,
+    message: &Message,
+    base: &Bytes,
+    ring: &Keyring,
+    now: u64,
+    tag: &Bytes,
+) -> Result<(Bytes, Option<SignatureMark>), SigFault>
+    ensures { Gives (λ x. x) result (id_and_mark message.now base.now ring.now now tag.now) }
+{
+    let fields = signature_fields(alloc, message)?;
+    let one = tagged(&fields, tag.as_slice())?;
+    let id = judged(alloc, message, base, ring, now, &one)?;
+    Ok((id, mark_in(one.list)?))
+}
+
+fn id_and_mark_of(
+    alloc: Global,
+    message: &Message,
+    base: &Bytes,
+    ring: &Keyring,
+    now: u64,
+    list: &InnerList,
+    bytes: &Bytes,
+) -> Result<(Bytes, Option<SignatureMark>), SigFault>
+    ensures { (label : List ℕ) → Gives (λ x. x) result (judged message.now base.now ring.now now (record { label = label; list = list.now; bytes = bytes.now }) >>= λ id. Ok (id, mark_in list.now)) }
+{
+    let id = judged_list(alloc, message, base, ring, now, list, bytes)?;
+    Ok((id, mark_in(list)?))
+}
+
+fn id_and_mark(
+    alloc: Global,
+    message: &Message,
+    base: &Bytes,
+    ring: &Keyring,
+    now: u64,
+    tag: &Bytes,
+) -> Result<(Bytes, Option<SignatureMark>), SigFault>
+    ensures { Gives (λ x. x) result (id_and_mark message.now base.now ring.now now tag.now) }
+{
+    match lone_signature(alloc, message, tag.as_slice())? {
+        Some(one) => id_and_mark_of(alloc, message, base, ring, now, &one.list, &one.bytes),
+        None => id_and_mark_among(alloc, message, base, ring, now, tag),
+    }
+}
+
+/// What `verify` answers, with the mark of the signature that it verified (`mark_of`): the fields are read once.
+///
+/// Errors: those of `verify`. OutOfMemory may come in place of any answer.
+pub fn verify_marked(
+    alloc: Global,
+    message: &Message,
+    base: &Bytes,
+    ring: &Keyring,
+    now: u64,
+    tag: &Bytes,
+) -> Result<(Bytes, Option<SignatureMark>), SigFault>
+    ensures { Gives (λ x. x) result (verified_marked message.now base.now ring.now now tag.now) }
+{
+    id_and_mark(alloc, message, base, ring, now, tag)
+}
