@@ -1,5 +1,5 @@
 -- The signature with a tag, by what was found of the members of the two fields.
-use Rattle.std.proofs.Common.{◌≡◌, ℕ, Bool, true, false, cond, List, [], ◌∷◌, Option, Some, None, Result, Ok, Err, refl, sym, ap, ◌∙◌}
+use Rattle.std.proofs.Common.{◌≡◌, ℕ, Bool, true, false, cond, List, [], ◌∷◌, Option, Some, None, Result, Ok, Err, refl, sym, ap, subst, ◌∙◌}
 use Rattle.std.specs.Prelude.{codes}
 use Rattle.std.specs.Option.{option_map}
 use Rattle.bytes_and_lists.specs.declared.message.Message.{Message}
@@ -9,23 +9,20 @@ use Rattle.structured_fields.specs.declared.item.InnerList.{InnerList}
 use Rattle.structured_fields.specs.declared.item.Member.{Member}
 use Rattle.structured_fields.specs.declared.item.Member.TheVariants.{Item as Single, Inner}
 use Rattle.structured_fields.specs.Named.{value_at}
-use Rattle.structured_fields.specs.Passing.{holds_string, is_marked, marked_among, single_in}
-use Rattle.structured_fields.specs.Reading.{dictionary_of}
+use Rattle.structured_fields.specs.Passing.{alone, holds_string, marked_among, single_in}
+use Rattle.structured_fields.specs.Reading.{dictionary_of, entry_value_at}
+use Rattle.structured_fields.proofs.Fronts.{some_is}
 use Rattle.message_signature.specs.declared.fault.SigFault.{SigFault}
-use Rattle.message_signature.specs.declared.fault.SigFault.TheVariants.{NoField, NotAField, NoTag, Malformed, OutOfMemory}
-use Rattle.message_signature.specs.declared.tags.SignatureFields.{SignatureFields}
+use Rattle.message_signature.specs.declared.fault.SigFault.TheVariants.{NoField, NotAField, NoTag, OutOfMemory}
 use Rattle.message_signature.specs.Components.{field_value}
-use Rattle.message_signature.specs.Faults.{◌>>=◌, need, must, Fails}
-use Rattle.message_signature.specs.Lone.{tagged_of, bytes_in}
-use Rattle.message_signature.specs.Verified.{Signature, is_text, tagged_list, with_tag, only_one, is_well_formed, signature_under, signature_fields, tagged_in, tagged, judged, verified}
+use Rattle.message_signature.specs.Faults.{◌>>=◌, need, Fails}
+use Rattle.message_signature.specs.Lone.{tagged_of, bytes_in, formed}
+use Rattle.message_signature.specs.Verified.{Signature, is_text, with_tag, signature_under, tagged_in, tagged, judged, verified}
 use Rattle.message_signature.specs.Marks.{mark_in}
 use Rattle.message_signature.specs.Marked.{id_and_mark}
 
 abbrev Entry : Type 0
 Entry = List ℕ × Member
-
-abbrev Tagged : Type 0
-Tagged = List ℕ × InnerList
 
 -- ---- the lists with the tag
 
@@ -50,11 +47,13 @@ module _ (tag : List ℕ) where
   pub none_tagged : (d : List Entry) → marked d ≡ [] → with_tag tag d ≡ []
   none_tagged [] h = refl
   none_tagged ((name, Single item) ∷ d) h = none_tagged d h
-  none_tagged ((name, Inner list) ∷ d) h = rw same_text tag (value_at list.params (codes "tag")) (by (holds list) h)
+  none_tagged ((name, Inner list) ∷ d) h = by (holds list) refl h
     where
-      by : (b : Bool) → cond b ((name, Inner list) ∷ marked d) (marked d) ≡ [] → cond b ((name, list) ∷ with_tag tag d) (with_tag tag d) ≡ []
-      by true h = absurd cc
-      by false h = none_tagged d h
+      by : (b : Bool) → holds list ≡ b → cond b ((name, Inner list) ∷ marked d) (marked d) ≡ [] → with_tag tag ((name, Inner list) ∷ d) ≡ []
+      by true t h = absurd cc
+      by false t h =
+          let first : is_text tag (value_at list.params (codes "tag")) ≡ false = same_text tag (value_at list.params (codes "tag")) ∙ t in
+          rw first (none_tagged d h)
 
   pub one_tagged : (d : List Entry) (label : List ℕ) (one : InnerList) → marked d ≡ (label, Inner one) ∷ [] → with_tag tag d ≡ (label, one) ∷ []
   one_tagged [] label one h = absurd cc
@@ -64,13 +63,25 @@ module _ (tag : List ℕ) where
       by : (b : Bool) → holds list ≡ b → cond b ((name, Inner list) ∷ marked d) (marked d) ≡ (label, Inner one) ∷ [] → with_tag tag ((name, Inner list) ∷ d) ≡ (label, one) ∷ []
       by true t h =
           let first : is_text tag (value_at list.params (codes "tag")) ≡ true = same_text tag (value_at list.params (codes "tag")) ∙ t in
-          let names : name ≡ label = cc in
-          let lists : list ≡ one = cc in
+          let held : Entry = (name, Inner list) in
+          let only : Entry = (label, Inner one) in
+          let same : held ≡ only = cc in
           let others : marked d ≡ [] = cc in
-          rw (first, none_tagged d others) (ap (λ (n : List ℕ). (n, list) ∷ []) names ∙ ap (λ (l : InnerList). (label, l) ∷ []) lists)
+          let names : name ≡ label = ap (λ (e : Entry). e.0) same in
+          let members : Inner list ≡ Inner one = ap (λ (e : Entry). e.1) same in
+          let lists : list ≡ one = cc in
+          rw (first, none_tagged d others, names, lists) refl
       by false t h =
           let first : is_text tag (value_at list.params (codes "tag")) ≡ false = same_text tag (value_at list.params (codes "tag")) ∙ t in
           rw first (one_tagged d label one h)
+
+-- the member behind the label of the one that is marked is this list
+pub once_is : (tag value label : List ℕ) (d : List Entry) (list : InnerList) (m : Member) (rest : List ℕ) → alone (entry_value_at value) ≡ Some (Inner list) → entry_value_at value ≡ Some (m, rest)
+    → marked_among (codes "tag") tag d ≡ (label, m) ∷ [] → marked_among (codes "tag") tag d ≡ (label, Inner list) ∷ []
+once_is tag value label d list m rest is read one =
+    let twice : alone (entry_value_at value) ≡ Some m = ap alone read in
+    let same : m ≡ Inner list = some_is m (Inner list) (sym twice ∙ is) in
+    one ∙ ap (λ (x : Member). (label, x) ∷ []) same
 
 -- ---- the bytes under a label
 
@@ -82,9 +93,16 @@ bytes_of_single label d = by (value_at d label) refl
     by (Some (Single i)) e = rw e refl
     by (Some (Inner l)) e = rw e refl
 
-pub bytes_of_all : (label : List ℕ) (r : Option (List Entry)) → need NotAField (option_map bytes_in (option_map (λ d. single_in (value_at d label)) r)) ≡ need NotAField (option_map (signature_under label) r)
-bytes_of_all label None = refl
-bytes_of_all label (Some d) = ap (λ (o : Option (List ℕ)). Ok o) (bytes_of_single label d)
+-- what is read of the field, where it is a dictionary, and where it is none
+pub bytes_read : (label : List ℕ) (r : Option (List Entry)) (bare : Option Bare) → option_map (λ d. single_in (value_at d label)) r ≡ Some bare → need NotAField (option_map (signature_under label) r) ≡ Ok (bytes_in bare)
+bytes_read label None bare h = absurd cc
+bytes_read label (Some d) bare h =
+    let same : single_in (value_at d label) ≡ bare = some_is (single_in (value_at d label)) bare h in
+    ap (λ (o : Option (List ℕ)). Ok o) (sym (bytes_of_single label d)) ∙ ap (λ (o : Option Bare). Ok (bytes_in o)) same
+
+pub no_bytes : (label : List ℕ) (r : Option (List Entry)) → option_map (λ d. single_in (value_at d label)) r ≡ None → need NotAField (option_map (signature_under label) r) ≡ Err NotAField
+no_bytes label None h = refl
+no_bytes label (Some d) h = absurd cc
 
 -- ---- the chain
 
@@ -116,11 +134,14 @@ module _ (input signature tag : List ℕ) where
         rw (reads, x.1, none_tagged tag d none) refl
 
     pub tagged_once : (label : List ℕ) (list : InnerList) (o : Option (List ℕ)) → need NotAField (option_map (signature_under label) (dictionary_of signature)) ≡ Ok o
-        → marked_among (codes "tag") tag d ≡ (label, Inner list) ∷ []
-        → tagged_of input signature tag ≡ (must Malformed (is_well_formed list) >>= λ _. need Malformed o >>= λ b. Ok (record { label = label; list = list; bytes = b }))
+        → marked_among (codes "tag") tag d ≡ (label, Inner list) ∷ [] → tagged_of input signature tag ≡ formed label list o
     tagged_once label list o h one =
         let x = read_behind NotAField (signature_under label) (dictionary_of signature) o h in
-        rw (reads, x.1, one_tagged tag d label list one) (ap (λ (u : Option (List ℕ)). must Malformed (is_well_formed list) >>= λ _. need Malformed u >>= λ b. Ok (record { label = label; list = list; bytes = b })) x.2)
+        rw (reads, x.1, one_tagged tag d label list one) (ap (formed label list) x.2)
+
+    pub once_fails : (label : List ℕ) (list : InnerList) (o : Option (List ℕ)) (e : SigFault) → need NotAField (option_map (signature_under label) (dictionary_of signature)) ≡ Ok o
+        → marked_among (codes "tag") tag d ≡ (label, Inner list) ∷ [] → Fails e (formed label list o) → Fails e (tagged_of input signature tag)
+    once_fails label list o e h one f = subst (Fails e) (sym (tagged_once label list o h one)) f
 
 -- ---- by the fields of a message
 

@@ -4,11 +4,11 @@ ghost use Rattle.std.specs.Option.{option_map};
 ghost use Rattle.structured_fields.specs.declared.item.Member.{Member as MemberValue};
 ghost use Rattle.structured_fields.specs.declared.item.Member.TheVariants.{Inner as InnerValue};
 ghost use Rattle.structured_fields.specs.Reading.{dictionary_of, entry_value_at};
-ghost use Rattle.structured_fields.specs.Passing.{Tells};
-ghost use Rattle.message_signature.specs.declared.fault.SigFault.TheVariants.{NotAField, Malformed};
-ghost use Rattle.message_signature.specs.Faults.{◌>>=◌, Fails, Gives, need, must};
-ghost use Rattle.message_signature.specs.Lone.{tagged_of, bytes_in};
-ghost use Rattle.message_signature.specs.Verified.{signature_under, is_well_formed, tagged};
+ghost use Rattle.structured_fields.specs.Passing.{alone, Tells};
+ghost use Rattle.message_signature.specs.declared.fault.SigFault.TheVariants.{NotAField};
+ghost use Rattle.message_signature.specs.Faults.{Fails, Gives, need};
+ghost use Rattle.message_signature.specs.Lone.{bytes_in, formed, lone_seen, tagged_of};
+ghost use Rattle.message_signature.specs.Verified.{signature_under, tagged};
 
 use crate::fault::SigFault;
 use crate::tags::{is_well_formed, must, value_of};
@@ -19,9 +19,6 @@ use std::alloc::Global;
 use structured_fields::{
     Bare, FieldFault, InnerList, Marked, Member, marked_list, member_behind, single_under,
 };
-
-// The dictionaries of fields that have so many bytes together take less than a second pass.
-const SHORT: usize = 1_024;
 
 /// A signature of a message: the covered components with its parameters, and its bytes.
 #[derive(Drop)]
@@ -62,7 +59,7 @@ fn bytes_under(alloc: Global, signature: &[u8], label: &[u8]) -> Result<Option<B
 
 // The inner list at the front of a text behind a label.
 fn list_behind(alloc: Global, value: &[u8]) -> Result<Option<InnerList>, Mem>
-    ensures { IfOk result (λ o. IfSome o (λ list. option_map (λ m. m.0) (entry_value_at value.now) ≡ Some (InnerValue list))) }
+    ensures { IfOk result (λ o. IfSome o (λ list. alone (entry_value_at value.now) ≡ Some (InnerValue list))) }
 {
     match member_behind(alloc, value) {
         Ok(Member::Inner(list)) => Ok(Some(list)),
@@ -71,8 +68,8 @@ fn list_behind(alloc: Global, value: &[u8]) -> Result<Option<InnerList>, Mem>
     }
 }
 
-fn checked(list: InnerList, bytes: Option<Bytes>) -> Result<LoneSignature, SigFault>
-    ensures { (label : List ℕ) → Gives (λ one. record { label = label; list = one.list; bytes = one.bytes }) result (must Malformed (is_well_formed list) >>= λ _. need Malformed bytes >>= λ b. Ok (record { label = label; list = list; bytes = b })) }
+fn formed(list: InnerList, bytes: Option<Bytes>) -> Result<LoneSignature, SigFault>
+    ensures { (label : List ℕ) → Gives (lone_seen label) result (formed label list bytes) }
 {
     must(SigFault::Malformed, is_well_formed(&list))?;
     match bytes {
@@ -87,10 +84,11 @@ fn lone_in(
     signature: &[u8],
     tag: &[u8],
 ) -> Result<Option<LoneSignature>, SigFault>
-    ensures ok { IfOk result (λ o. IfSome o (λ one. (label : List ℕ) × (tagged_of input.now signature.now tag.now ≡ Ok (record { label = label; list = one.list; bytes = one.bytes })))) }
+    ensures ok { IfOk result (λ o. IfSome o (λ one. (label : List ℕ) × (tagged_of input.now signature.now tag.now ≡ Ok (lone_seen label one)))) }
     ensures err { IfErr result (λ e. Fails e (tagged_of input.now signature.now tag.now)) }
 {
-    match with_tag(alloc, input, tag)? {
+    let found = with_tag(alloc, input, tag)?;
+    match found {
         Marked::Unsettled => Ok(None),
         Marked::Nowhere => {
             bytes_under(alloc, signature, b"")?;
@@ -101,12 +99,13 @@ fn lone_in(
             let Some(list) = list_behind(alloc, at.value)? else {
                 return Ok(None);
             };
-            Ok(Some(checked(list, bytes)?))
+            let one = formed(list, bytes)?;
+            Ok(Some(one))
         }
     }
 }
 
-/// The one signature with the tag, where the two fields are long and their members settle it without a dictionary; else None.
+/// The one signature with the tag, where the members of the two fields settle it without a dictionary; else None.
 ///
 /// Errors: those of the signature with the tag. OutOfMemory may come in place of any answer.
 pub(crate) fn lone_signature(
@@ -114,14 +113,10 @@ pub(crate) fn lone_signature(
     message: &Message,
     tag: &[u8],
 ) -> Result<Option<LoneSignature>, SigFault>
-    ensures ok { IfOk result (λ o. IfSome o (λ one. (label : List ℕ) × (tagged message.now tag.now ≡ Ok (record { label = label; list = one.list; bytes = one.bytes })))) }
+    ensures ok { IfOk result (λ o. IfSome o (λ one. (label : List ℕ) × (tagged message.now tag.now ≡ Ok (lone_seen label one)))) }
     ensures err { IfErr result (λ e. Fails e (tagged message.now tag.now)) }
 {
     let input = value_of(alloc, message, b"signature-input")?;
     let signature = value_of(alloc, message, b"signature")?;
-    let (input, signature) = (input.as_slice(), signature.as_slice());
-    if input.len().saturating_add(signature.len()) <= SHORT {
-        return Ok(None);
-    }
-    lone_in(alloc, input, signature, tag)
+    lone_in(alloc, input.as_slice(), signature.as_slice(), tag)
 }
