@@ -1,24 +1,23 @@
 -- What is passed over, part by part.
-use Rattle.std.proofs.Common.{◌≡◌, ℕ, zero, suc, ◌+◌, ◌-◌, ◌<◌, ◌==◌, Bool, true, false, cond, List, [], ◌∷◌, ◌++◌, length, get_or, take, drop, Option, Some, None, refl, sym, ap, subst, ◌∙◌, arith, true≢false}
+use Rattle.std.proofs.Common.{◌≡◌, ℕ, ◌+◌, ◌-◌, ◌<◌, ◌==◌, Bool, true, false, cond, List, [], ◌∷◌, ◌++◌, length, get_or, take, drop, Option, Some, None, refl, sym, ap, subst, ◌∙◌, arith, true≢false}
 use Rattle.std.specs.Option.{option_map}
 use Rattle.std.specs.Str.{bytes_eq}
 use Rattle.std.proofs.lemmas.Bool.Decides.{nat_tests}
 use Rattle.std.proofs.lemmas.List.{take_rest}
 use Rattle.std.proofs.lemmas.Slice.Eq.{bytes_eq-Decides}
 use Rattle.structured_fields.specs.declared.bare.Bare.{Bare}
-use Rattle.structured_fields.specs.declared.bare.Bare.TheVariants.{Str, Token, Boolean}
+use Rattle.structured_fields.specs.declared.bare.Bare.TheVariants.{Str, Boolean}
 use Rattle.structured_fields.specs.declared.fault.FieldFault.{FieldFault}
 use Rattle.structured_fields.specs.declared.fault.FieldFault.TheVariants.{NotInGrammar, OutOfMemory}
 use Rattle.structured_fields.specs.declared.item.Item.{Item}
 use Rattle.structured_fields.specs.declared.item.InnerList.{InnerList}
-use Rattle.structured_fields.specs.declared.item.Member.{Member}
 use Rattle.structured_fields.specs.declared.item.Member.TheVariants.{Item as Single, Inner}
 use Rattle.structured_fields.specs.Letters.{is_space, is_token_start, is_token_byte, is_string_byte, is_plain}
 use Rattle.structured_fields.specs.Named.{value_at, with_value}
-use Rattle.structured_fields.specs.Passing.{past, begins_token, holds_string, is_marked, of_value, of_parameter, of_params, of_inner, of_member}
+use Rattle.structured_fields.specs.Passing.{past, begins_token, holds_string, of_value, of_parameter, of_params, of_inner, of_member}
 use Rattle.structured_fields.specs.Reading.{◌>>=◌, Fails, begins, front, behind, with_byte, string_rest, bare_at, key_at, value_of, parameter_at, params_from, params_at, item_at, is_item_end, items_from, items_at, inner_at, member_at, entry_value_at}
 use Rattle.structured_fields.proofs.Entries.{turned, value_set, value_after}
-use Rattle.structured_fields.proofs.Fronts.{mapped, bind_some, some_is, begun}
+use Rattle.structured_fields.proofs.Fronts.{mapped, some_is, begun}
 use Rattle.structured_fields.proofs.Loop.{start, stopped, spent, more, failed, items_start, items_stopped, items_more, items_refused, items_failed, items_spent}
 use Rattle.structured_fields.proofs.Runs.{with_front, plain_front, opened_true, opened_false, ended}
 

@@ -1,25 +1,24 @@
 -- Entries passed one after the other: which of them are marked, and what stands under a label.
-use Rattle.std.proofs.Common.{◌≡◌, ℕ, zero, suc, ◌+◌, ◌-◌, ◌<◌, Bool, true, false, cond, List, [], ◌∷◌, length, drop, Option, Some, None, refl, sym, ap, subst, ◌∙◌, arith, true≢false}
-use Rattle.std.specs.Prelude.{filter}
+use Rattle.std.proofs.Common.{◌≡◌, ℕ, ◌+◌, ◌-◌, ◌<◌, Bool, true, false, cond, List, [], ◌∷◌, length, drop, Option, Some, None, Result, Ok, Err, refl, sym, ap, subst, ◌∙◌, true≢false}
+use Rattle.std.specs.Result.{IfOk}
 use Rattle.std.specs.Option.{option_map}
 use Rattle.std.specs.Str.{bytes_eq}
 use Rattle.std.proofs.lemmas.Slice.Eq.{bytes_eq-Decides}
 use Rattle.structured_fields.specs.declared.fault.FieldFault.{FieldFault}
+use Rattle.structured_fields.specs.declared.fault.FieldFault.TheVariants.{NotInGrammar, OutOfMemory}
 use Rattle.structured_fields.specs.declared.bare.Bare.{Bare}
 use Rattle.structured_fields.specs.declared.bare.Bare.TheVariants.{Boolean}
 use Rattle.structured_fields.specs.declared.item.InnerList.{InnerList}
 use Rattle.structured_fields.specs.declared.item.Item.{Item}
 use Rattle.structured_fields.specs.declared.item.Member.{Member}
 use Rattle.structured_fields.specs.declared.item.Member.TheVariants.{Item as Single, Inner}
-use Rattle.structured_fields.specs.declared.marked.Marked.{Marked}
-use Rattle.structured_fields.specs.declared.marked.Marked.TheVariants.{Nowhere, Once, Unsettled}
 use Rattle.structured_fields.specs.Named.{value_at, with_value}
-use Rattle.structured_fields.specs.Passing.{single_of, is_marked, of_member, of_entry, marked_among, Tells, IsUnder}
-use Rattle.structured_fields.specs.Reading.{◌>>=◌, Fails, begins, bare_at, params_at, item_at, inner_at, member_at, key_at, entry_value_at, entry_at, next_at, members_from, with_entry}
+use Rattle.structured_fields.specs.Passing.{single_of, single_in, is_marked, of_member, of_entry, marked_among, IsUnder}
+use Rattle.structured_fields.specs.Reading.{◌>>=◌, Fails, Gives, begins, bare_at, params_at, item_at, inner_at, member_at, key_at, entry_value_at, entry_at, next_at, members_from, with_entry, dictionary_of}
 use Rattle.structured_fields.proofs.Entries.{turned, value_set, value_after}
 use Rattle.structured_fields.proofs.Fronts.{mapped, bind_some, some_is}
 use Rattle.structured_fields.proofs.Loop.{members_start, members_failed, members_more, members_done, members_refused, members_spent}
-use Rattle.structured_fields.proofs.Behind.{fails_mapped}
+use Rattle.structured_fields.proofs.Behind.{fails_map, fails_mapped}
 
 abbrev Entries : Type 0
 Entries = List (List ℕ × Member)
@@ -105,6 +104,17 @@ entry_is name s t label value e = rw e (by (entry_value_at value))
 pub entry_none : (name s t : List ℕ) → key_at t ≡ None → option_map (of_entry name s) (entry_at t) ≡ None
 unfolding entry_at
 entry_none name s t e = rw e refl
+
+abbrev named_so : List ℕ → Bool × List ℕ → (List ℕ × Bool) × List ℕ
+named_so label m = ((label, m.0), m.1)
+
+pub entry_read : (name s t label value : List ℕ) (marked : Bool) (rest : List ℕ) → key_at t ≡ Some (label, value) → option_map (of_member name s) (entry_value_at value) ≡ Some (marked, rest)
+    → option_map (of_entry name s) (entry_at t) ≡ Some ((label, marked), rest)
+entry_read name s t label value marked rest key e = entry_is name s t label value key ∙ ap (option_map (named_so label)) e
+
+pub entry_failed : (name s t label value : List ℕ) (e : FieldFault) → key_at t ≡ Some (label, value) → Fails e (option_map (of_member name s) (entry_value_at value)) → Fails e (option_map (of_entry name s) (entry_at t))
+entry_failed name s t label value e key h =
+    subst (Fails e) (sym (entry_is name s t label value key)) (fails_map (named_so label) e (option_map (of_member name s) (entry_value_at value)) h)
 
 -- ---- the loops: entries were read before these, and of them P is so
 
@@ -215,3 +225,25 @@ entry_true t m rest h e =
     ap single_of (ap (λ (y : Member × List ℕ). y.0) a.2)
 
 pub ruleset single_entry_steps = (entry_given, entry_true)
+
+-- ---- the bare item under a label, by the text of its member
+
+module _ (text label : List ℕ) where
+  abbrev found_in : Entries → Option Bare
+  found_in d = single_in (value_at d label)
+
+  pub single_absent : (d : Entries) → dictionary_of text ≡ Some d → IsUnder None (value_at d label) → option_map (λ d. single_in (value_at d label)) (dictionary_of text) ≡ Some None
+  single_absent d reads none = ap (option_map found_in) reads ∙ ap (λ (o : Option Member). Some (single_in o)) none
+
+  pub single_fails : (e : FieldFault) → Fails e (dictionary_of text) → Fails e (option_map (λ d. single_in (value_at d label)) (dictionary_of text))
+  single_fails e h = fails_map found_in e (dictionary_of text) h
+
+  pub single_given : (r : Result (Option Bare) FieldFault) (value : List ℕ) (d : Entries) → dictionary_of text ≡ Some d → IsUnder (Some value) (value_at d label)
+      → ((m : Member) (rest : List ℕ) → entry_value_at value ≡ Some (m, rest) → IfOk r (λ o. o ≡ single_of m))
+      → ((m : Member) (rest : List ℕ) → entry_value_at value ≡ Some (m, rest) → r ≡ Err NotInGrammar → ⊥)
+      → Gives (λ o. o) r (option_map (λ d. single_in (value_at d label)) (dictionary_of text))
+  single_given (Ok o) value d reads there ok err =
+      let is : Option Bare → Option (Option Bare) = λ x. Some x in
+      ap (option_map found_in) reads ∙ ap (λ (x : Option Member). Some (single_in x)) there.3 ∙ ap is (sym (ok there.0 there.1 there.2))
+  single_given (Err OutOfMemory) value d reads there ok err = tt
+  single_given (Err NotInGrammar) value d reads there ok err = absurd (err there.0 there.1 there.2 refl)

@@ -1,6 +1,7 @@
 //! The members of a dictionary that count for one who looks for a parameter, or for a label. The others are passed over.
-ghost use Rattle.std.specs.Prelude.{◌≡◌, ℕ, List, Some, Err, [], length, true, IfOk, IfErr};
+ghost use Rattle.std.specs.Prelude.{◌≡◌, ◌||◌, ℕ, List, Some, Err, [], length, true, IfOk, IfErr};
 ghost use Rattle.std.specs.Option.{option_copied, option_map};
+ghost use Rattle.std.specs.Str.{bytes_eq};
 ghost use Rattle.structured_fields.specs.declared.fault.FieldFault.TheVariants.{NotInGrammar as Refused};
 ghost use Rattle.structured_fields.specs.declared.item.Member.{Member as MemberValue};
 ghost use Rattle.structured_fields.specs.Reading.{Fails, Gives, key_at, member_at, entry_value_at, entry_at, members_from, with_entry, dictionary_of};
@@ -43,7 +44,6 @@ struct Passed<'a> {
     rest: &'a [u8],
 }
 
-#[tactic(auto, unfolding(crate::specs::Reading::entry_at))]
 fn entry_passed<'a>(
     alloc: Global,
     bytes: &'a [u8],
@@ -63,6 +63,13 @@ fn entry_passed<'a>(
 
 // ---- the list with a parameter
 
+// Whether a member behind the one that was found is such a list too, or has its label.
+fn unsettles(passed: Passed<'_>, one: Labelled<'_>) -> bool
+    ensures { result ≡ (passed.entry.marked || bytes_eq one.entry.label.now passed.entry.at.label.now) }
+{
+    passed.marked || one.label == passed.at.label
+}
+
 fn with_passed<'a>(found: Marked<'a>, passed: Passed<'a>) -> Marked<'a>
     ensures { (name s : List ℕ) (d : List (List ℕ × MemberValue)) (m : MemberValue) (rest : List ℕ) → entry_value_at passed.entry.at.value.now ≡ Some (m, rest)
         → is_marked name s m ≡ passed.entry.marked → Tells name s found.entry d → Tells name s result (with_value d passed.entry.at.label.now m) }
@@ -76,7 +83,7 @@ fn with_passed<'a>(found: Marked<'a>, passed: Passed<'a>) -> Marked<'a>
             }
         }
         Marked::Once(one) => {
-            if passed.marked || one.label == passed.at.label {
+            if unsettles(passed, one) {
                 Marked::Unsettled
             } else {
                 Marked::Once(one)
@@ -221,7 +228,8 @@ fn single_behind(alloc: Global, value: &[u8]) -> Result<Option<Bare>, FieldFault
 pub fn single_under(alloc: Global, text: &[u8], label: &[u8]) -> Result<Option<Bare>, FieldFault>
     ensures { Gives (λ o. o) result (option_map (λ d. single_in (value_at d label.now)) (dictionary_of text.now)) }
 {
-    match under(alloc, text, label)? {
+    let found = under(alloc, text, label)?;
+    match found {
         None => Ok(None),
         Some(value) => single_behind(alloc, value),
     }
