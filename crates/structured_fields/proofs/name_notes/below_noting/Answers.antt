@@ -1,4 +1,3 @@
-use Rattle.std.proofs.Common.{◌/◌, ◌%◌}
 use Rattle.structured_fields.proofs.NameNotes.{extends_on, four_steps}
 use Rattle.structured_fields.proofs.name_notes.below_noting.Goals as goal
 
