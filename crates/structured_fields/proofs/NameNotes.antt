@@ -1,5 +1,5 @@
 -- Notes on names: what was noted stays, and so does what is noted of a name.
-use Rattle.std.proofs.Common.{◌≡◌, ◌≢◌, ℕ, ◌+◌, ◌/◌, ◌%◌, ◌<◌, ◌≤◌, ◌==◌, Bool, true, false, cond, ◌⊎◌, ⊎_elim, List, [], ◌∷◌, length, drop, set, get_or, Option, Some, None, refl, sym, ap, subst, ◌∙◌, arith, get_or-set_other, get_or-set_same}
+use Rattle.std.proofs.Common.{◌≡◌, ◌≢◌, ℕ, ◌+◌, ◌/◌, ◌%◌, ◌<◌, ◌≤◌, ◌==◌, false, ⊎_elim, List, [], ◌∷◌, length, drop, set, get_or, Option, Some, None, refl, sym, ap, subst, ◌∙◌, arith, get_or-set_other, get_or-set_same}
 use Rattle.std.specs.Prelude.{IsSome, option_and_then}
 use Rattle.std.proofs.lemmas.Bool.{cases_eq}
 use Rattle.std.proofs.lemmas.Bool.Decides.{nat_tests}
@@ -33,7 +33,7 @@ module _ (m n : List ℕ) (at k : ℕ) (same : (i : ℕ) → get_or n i 0 ≡ ge
       here : i ≡ at → noted_at (set n at k) i ≡ Some p
       here is = let twice : noted_at m at ≡ Some p = ap (noted_at m) (sym is) ∙ e in absurd cc
 
-steps_stay : (m n : List ℕ) → Extends m n → (ds : List ℕ) (node p : ℕ) → steps m node ds ≡ Some p → steps n node ds ≡ Some p
+pub steps_stay : (m n : List ℕ) → Extends m n → (ds : List ℕ) (node p : ℕ) → steps m node ds ≡ Some p → steps n node ds ≡ Some p
 unfolding steps
 steps_stay m n stays [] node p e = e
 steps_stay m n stays (d ∷ ds) node p e =

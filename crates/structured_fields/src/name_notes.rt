@@ -114,10 +114,14 @@ fn further_noting(notes: &mut Notes, node: u32, digit: u8) -> Result<u32, Mem>
     Ok(next)
 }
 
+// The node behind a byte, with new nodes where there are none.
 fn below_noting(notes: &mut Notes, node: u32, byte: u8) -> Result<u32, Mem>
     ensures ok { IfOk result (λ n. (more : List ℕ) → Extends notes.new.items more → steps more node (digits byte) ≡ Some n) }
     ensures extends { Extends notes.old.items notes.new.items }
 {
+    if let Some(next) = below(notes.as_slice(), node, byte) {
+        return Ok(next);
+    }
     let first = further_noting(notes, node, byte / 64)?;
     let second = further_noting(notes, first, byte / 16 % 4)?;
     let third = further_noting(notes, second, byte / 4 % 4)?;

@@ -1,6 +1,11 @@
-use Rattle.std.proofs.Common.{◌/◌, ◌%◌}
-use Rattle.structured_fields.proofs.NameNotes.{extends_on, four_steps}
+use Rattle.std.proofs.Common.{sym}
+use Rattle.structured_fields.specs.NameNotes.{digits}
+use Rattle.structured_fields.proofs.NameNotes.{extends_on, steps_stay, four_steps}
 use Rattle.structured_fields.proofs.name_notes.below_noting.Goals as goal
+
+pub returns-in-Some-clause-ok : goal.returns-in-Some-clause-ok
+returns-in-Some-clause-ok c more extends =
+    steps_stay c.args.notes.now.items more extends (digits c.args.byte) c.args.node c.in-Some.next (rw c.as_slice.ensures.value at (sym c.in-Some.ensures))
 
 pub returns-clause-ok : goal.returns-clause-ok
 returns-clause-ok c more extends =

@@ -1,5 +1,5 @@
 use Rattle.std.proofs.Common.{◌≡◌, ◌∷◌, [], ◌++◌, ap, sym, subst, ◌∙◌}
-use Rattle.structured_fields.specs.Named.{IsDistinct, Covers, place_of, with_value}
+use Rattle.structured_fields.specs.Named.{IsDistinct, Covers, place_of}
 use Rattle.structured_fields.proofs.Entries.{distinct_set}
 use Rattle.structured_fields.proofs.Places.{put_last, covers_added}
 use Rattle.structured_fields.proofs.named.Named.add.Goals as goal

@@ -1,4 +1,4 @@
-use Rattle.std.proofs.Common.{ap, sym, ◌∙◌}
+use Rattle.std.proofs.Common.{ap, ◌∙◌}
 use Rattle.std.specs.Option.{option_copied}
 use Rattle.structured_fields.proofs.Places.{found_value, found_none}
 use Rattle.structured_fields.proofs.named.Named.get.Goals as goal
