@@ -47,21 +47,22 @@ module _ (tag : List ℕ) where
   pub none_tagged : (d : List Entry) → marked d ≡ [] → with_tag tag d ≡ []
   none_tagged [] h = refl
   none_tagged ((name, Single item) ∷ d) h = none_tagged d h
-  none_tagged ((name, Inner list) ∷ d) h = by (holds list) refl h
+  none_tagged ((name, Inner list) ∷ d) h = by (holds list) refl h (none_tagged d)
     where
-      by : (b : Bool) → holds list ≡ b → cond b ((name, Inner list) ∷ marked d) (marked d) ≡ [] → with_tag tag ((name, Inner list) ∷ d) ≡ []
-      by true t h = absurd cc
-      by false t h =
+      by : (b : Bool) → holds list ≡ b → cond b ((name, Inner list) ∷ marked d) (marked d) ≡ [] → (marked d ≡ [] → with_tag tag d ≡ []) → with_tag tag ((name, Inner list) ∷ d) ≡ []
+      by true t h again = absurd cc
+      by false t h again =
           let first : is_text tag (value_at list.params (codes "tag")) ≡ false = same_text tag (value_at list.params (codes "tag")) ∙ t in
-          rw first (none_tagged d h)
+          rw first (again h)
 
   pub one_tagged : (d : List Entry) (label : List ℕ) (one : InnerList) → marked d ≡ (label, Inner one) ∷ [] → with_tag tag d ≡ (label, one) ∷ []
   one_tagged [] label one h = absurd cc
   one_tagged ((name, Single item) ∷ d) label one h = one_tagged d label one h
-  one_tagged ((name, Inner list) ∷ d) label one h = by (holds list) refl h
+  one_tagged ((name, Inner list) ∷ d) label one h = by (holds list) refl h (none_tagged d) (one_tagged d label one)
     where
-      by : (b : Bool) → holds list ≡ b → cond b ((name, Inner list) ∷ marked d) (marked d) ≡ (label, Inner one) ∷ [] → with_tag tag ((name, Inner list) ∷ d) ≡ (label, one) ∷ []
-      by true t h =
+      by : (b : Bool) → holds list ≡ b → cond b ((name, Inner list) ∷ marked d) (marked d) ≡ (label, Inner one) ∷ [] → (marked d ≡ [] → with_tag tag d ≡ [])
+          → (marked d ≡ (label, Inner one) ∷ [] → with_tag tag d ≡ (label, one) ∷ []) → with_tag tag ((name, Inner list) ∷ d) ≡ (label, one) ∷ []
+      by true t h none again =
           let first : is_text tag (value_at list.params (codes "tag")) ≡ true = same_text tag (value_at list.params (codes "tag")) ∙ t in
           let held : Entry = (name, Inner list) in
           let only : Entry = (label, Inner one) in
@@ -70,10 +71,10 @@ module _ (tag : List ℕ) where
           let names : name ≡ label = ap (λ (e : Entry). e.0) same in
           let members : Inner list ≡ Inner one = ap (λ (e : Entry). e.1) same in
           let lists : list ≡ one = cc in
-          rw (first, none_tagged d others, names, lists) refl
-      by false t h =
+          rw (first, none others, names, lists) refl
+      by false t h none again =
           let first : is_text tag (value_at list.params (codes "tag")) ≡ false = same_text tag (value_at list.params (codes "tag")) ∙ t in
-          rw first (one_tagged d label one h)
+          rw first (again h)
 
 -- the member behind the label of the one that is marked is this list
 pub once_is : (tag value label : List ℕ) (d : List Entry) (list : InnerList) (m : Member) (rest : List ℕ) → alone (entry_value_at value) ≡ Some (Inner list) → entry_value_at value ≡ Some (m, rest)

@@ -204,7 +204,7 @@ unfolding item_at
 item_passes t r e =
     let a = mapped (λ (x : Bare × List ℕ). x.1) (bare_at t) r e in rw a.1 (by a.0.0 (params_at a.0.1) ∙ ap (λ (u : List ℕ). past (params_at u)) a.2)
   where
-    by : (b : Bare) (o : Option (List (List ℕ × Bare) × List ℕ)) → past (o >>= λ p. Some (record { bare = b; params = p.0 }, p.1)) ≡ past o
+    by : (b : Bare) (o : Option (List (List ℕ × Bare) × List ℕ)) → past {A = Item} (o >>= λ p. Some (record { bare = b; params = p.0 }, p.1)) ≡ past o
     by b None = refl
     by b (Some p) = refl
 

@@ -39,42 +39,43 @@ module _ (name s : List ℕ) where
 
   pub stays_none : (d : Entries) (label : List ℕ) (m : Member) → among d ≡ [] → is_marked name s m ≡ false → among (with_value d label m) ≡ []
   stays_none [] label m none plain = rw plain refl
-  stays_none (e ∷ es) label m none plain = by (bytes_eq label e.0)
+  stays_none (e ∷ es) label m none plain = by (bytes_eq label e.0) (stays_none es label m (none_behind e es none).1 plain)
     where
       parts : (is_marked name s e.1 ≡ false) × (among es ≡ [])
       parts = none_behind e es none
 
-      by : (b : Bool) → among (cond b ((e.0, m) ∷ es) (e ∷ with_value es label m)) ≡ []
-      by true = rw plain parts.1
-      by false = rw parts.0 (stays_none es label m parts.1 plain)
+      by : (b : Bool) → among (with_value es label m) ≡ [] → among (cond b ((e.0, m) ∷ es) (e ∷ with_value es label m)) ≡ []
+      by true again = rw plain parts.1
+      by false again = rw parts.0 again
 
   pub first_one : (d : Entries) (label : List ℕ) (m : Member) → among d ≡ [] → is_marked name s m ≡ true → among (with_value d label m) ≡ (label, m) ∷ []
   first_one [] label m none marked = rw marked refl
-  first_one (e ∷ es) label m none marked = by (bytes_eq label e.0) refl
+  first_one (e ∷ es) label m none marked = by (bytes_eq label e.0) refl (first_one es label m (none_behind e es none).1 marked)
     where
       parts : (is_marked name s e.1 ≡ false) × (among es ≡ [])
       parts = none_behind e es none
 
-      by : (b : Bool) → bytes_eq label e.0 ≡ b → among (cond b ((e.0, m) ∷ es) (e ∷ with_value es label m)) ≡ (label, m) ∷ []
-      by true t = let same : label ≡ e.0 = (bytes_eq-Decides label e.0).0 t in rw (marked, parts.1) (ap (λ (l : List ℕ). (l, m) ∷ []) (sym same))
-      by false t = rw parts.0 (first_one es label m parts.1 marked)
+      by : (b : Bool) → bytes_eq label e.0 ≡ b → among (with_value es label m) ≡ (label, m) ∷ [] → among (cond b ((e.0, m) ∷ es) (e ∷ with_value es label m)) ≡ (label, m) ∷ []
+      by true t again = let same : label ≡ e.0 = (bytes_eq-Decides label e.0).0 t in rw (marked, parts.1) (ap (λ (l : List ℕ). (l, m) ∷ []) (sym same))
+      by false t again = rw parts.0 again
 
   pub stays_one : (d : Entries) (label : List ℕ) (m : Member) (k : List ℕ) (x : Member) → among d ≡ (k, x) ∷ [] → bytes_eq k label ≡ false → is_marked name s m ≡ false
       → among (with_value d label m) ≡ (k, x) ∷ []
   stays_one [] label m k x one apart plain = absurd cc
-  stays_one (e ∷ es) label m k x one apart plain = by (is_marked name s e.1) (bytes_eq label e.0) refl refl one
+  stays_one (e ∷ es) label m k x one apart plain = by (is_marked name s e.1) (bytes_eq label e.0) refl refl one (λ h. stays_one es label m k x h apart plain)
     where
-      by : (c b : Bool) → is_marked name s e.1 ≡ c → bytes_eq label e.0 ≡ b → cond c (e ∷ among es) (among es) ≡ (k, x) ∷ [] → among (cond b ((e.0, m) ∷ es) (e ∷ with_value es label m)) ≡ (k, x) ∷ []
-      by true true u t h =
+      by : (c b : Bool) → is_marked name s e.1 ≡ c → bytes_eq label e.0 ≡ b → cond c (e ∷ among es) (among es) ≡ (k, x) ∷ []
+          → (among es ≡ (k, x) ∷ [] → among (with_value es label m) ≡ (k, x) ∷ []) → among (cond b ((e.0, m) ∷ es) (e ∷ with_value es label m)) ≡ (k, x) ∷ []
+      by true true u t h again =
           let is : e ≡ (k, x) = cc in
           let same : label ≡ k = (bytes_eq-Decides label e.0).0 t ∙ ap (λ (y : List ℕ × Member). y.0) is in
           absurd (true≢false (sym ((bytes_eq-Decides k label).1 (sym same)) ∙ apart))
-      by true false u t h =
+      by true false u t h again =
           let is : e ≡ (k, x) = cc in
           let others : among es ≡ [] = cc in
           rw (u, stays_none es label m others plain) (ap (λ (y : List ℕ × Member). y ∷ []) is)
-      by false true u t h = rw plain h
-      by false false u t h = rw u (stays_one es label m k x h apart plain)
+      by false true u t h again = rw plain h
+      by false false u t h again = rw u (again h)
 
 -- ---- the text of an entry
 
