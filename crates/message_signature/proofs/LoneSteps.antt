@@ -18,8 +18,7 @@ use Rattle.message_signature.specs.Components.{field_value}
 use Rattle.message_signature.specs.Faults.{◌>>=◌, need, Fails}
 use Rattle.message_signature.specs.Lone.{tagged_of, bytes_in, formed}
 use Rattle.message_signature.specs.Verified.{Signature, is_text, with_tag, signature_under, tagged_in, tagged, judged, verified}
-use Rattle.message_signature.specs.Marks.{mark_in}
-use Rattle.message_signature.specs.Marked.{id_and_mark}
+use Rattle.message_signature.specs.Marked.{id_and_mark, judged_with_mark}
 
 abbrev Entry : Type 0
 Entry = List ℕ × Member
@@ -181,7 +180,7 @@ module _ (m : Message) (base : List ℕ) (ring : List (List ℕ × List ℕ)) (n
   verified_fails OutOfMemory h = tt
   verified_fails e h = rw h refl
 
-  pub marked_by : (one : Signature) → tagged m tag ≡ Ok one → id_and_mark m base ring now tag ≡ (judged m base ring now one >>= λ id. Ok (id, mark_in one.list))
+  pub marked_by : (one : Signature) → tagged m tag ≡ Ok one → id_and_mark m base ring now tag ≡ judged_with_mark m base ring now one
   unfolding id_and_mark
   marked_by one e = rw e refl
 

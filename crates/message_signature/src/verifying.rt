@@ -1,5 +1,5 @@
 //! Verifying the signature of a message (RFC 9421, section 3.2).
-ghost use Rattle.std.specs.Prelude.{◌≡◌, ℕ, List, IfOk, Some, Ok, codes};
+ghost use Rattle.std.specs.Prelude.{◌≡◌, ℕ, List, IfOk, Some, codes};
 ghost use Rattle.std.specs.Option.{option_copied, option_map};
 ghost use Rattle.std.specs.Str.{bytes_eq};
 ghost use Rattle.structured_fields.specs.Named.{value_at};
@@ -7,9 +7,8 @@ ghost use Rattle.structured_fields.specs.declared.bare.Bare.TheVariants.{Integer
 ghost use Rattle.hmac_key.specs.Hmac.{hmac_sha256};
 ghost use Rattle.message_signature.specs.declared.fault.SigFault.TheVariants.{Unsupported, UnknownKey};
 ghost use Rattle.message_signature.specs.Base.{is_string, signature_base};
-ghost use Rattle.message_signature.specs.Faults.{◌>>=◌, Gives, need, must};
-ghost use Rattle.message_signature.specs.Marked.{id_and_mark, verified_marked};
-ghost use Rattle.message_signature.specs.Marks.{mark_in};
+ghost use Rattle.message_signature.specs.Faults.{Gives, need, must};
+ghost use Rattle.message_signature.specs.Marked.{id_and_mark, judged_with_mark, verified_marked};
 ghost use Rattle.message_signature.specs.Seen.{signature_seen};
 ghost use Rattle.message_signature.specs.Verified.{absent_or, covers_enough, is_in_window, is_not_expired, key_in, has_right_digest, admitted, made_under, judged_over, judged, verified};
 
@@ -277,7 +276,7 @@ fn id_and_mark_of(
     list: &InnerList,
     bytes: &Bytes,
 ) -> Result<(Bytes, Option<SignatureMark>), SigFault>
-    ensures { (label : List ℕ) → Gives (λ x. x) result (judged message.now base.now ring.now now (record { label = label; list = list.now; bytes = bytes.now }) >>= λ id. Ok (id, mark_in list.now)) }
+    ensures { (label : List ℕ) → Gives (λ x. x) result (judged_with_mark message.now base.now ring.now now (record { label = label; list = list.now; bytes = bytes.now })) }
 {
     let id = judged_list(alloc, message, base, ring, now, list, bytes)?;
     Ok((id, mark_in(list)?))

@@ -1,4 +1,4 @@
-use Rattle.std.specs.Prelude.{codes, []}
+use Rattle.std.specs.Prelude.{[]}
 use Rattle.std.proofs.lemmas.Result.{err_from_is_err_and}
 use Rattle.message_signature.proofs.LoneSteps.{input_fails, signature_fails, untagged, once_is, tagged_once, once_fails}
 use Rattle.message_signature.proofs.lone.lone_in.Goals as goal
