@@ -16,6 +16,7 @@ invariant_of-self c =
       subst (λ (ps : List TokenPlace). AreTokenPlaces ps) (sym c.remove-gone.ensures.items) held.1,
       subst (AreListed c.self.inside.serials.listed) (sym c.remove-gone.ensures.items)
           (listed_removed c.self.inside.serials.listed c.self.inside.places.items c.place_of-at.result c.args.serial c.index.result.now c.self.invariant.0 c.self.invariant.1 (omega (arith, c.if-at-len.true, c.len.ensures)) c.index.ensures c.if-index-serial.true),
+      counted,
     )
 
 pub returns-then-index-serial-clause-rows : goal.returns-then-index-serial-clause-rows

@@ -7,8 +7,8 @@ use Rattle.token_manager.specs.Tokens.{StoredTokens, AreTokenPlaces, AreListed, 
 use Rattle.token_manager.proofs.TokenLemmas.{HoldRows, kept_places, place_pairs, all_of_grant, listed_left}
 use Rattle.token_manager.proofs.token_table.TokenTable.retire_all.Goals as goal
 
-pub take_out_all-requires : goal.take_out_all-requires
-take_out_all-requires c = place_pairs c.self.inside.places.items c.self.invariant.0
+pub take_out_all-requires-clause-order : goal.take_out_all-requires-clause-order
+take_out_all-requires-clause-order c = place_pairs c.self.inside.places.items c.self.invariant.0
 
 left : (c : goal.After-take_out_all) → c.take_out_all.new.places.items ≡ filter (λ (place : TokenPlace). not (c.args.grant == place.grant)) c.self.inside.places.items
 left c = c.take_out_all.ensures.items ∙ all_of_grant c.self.inside.places.items c.self.inside.serials.listed c.of.result.now c.args.grant c.self.invariant.1 c.of.ensures
@@ -23,4 +23,5 @@ pub invariant_of-self : goal.invariant_of-self
 invariant_of-self c = (
   subst AreTokenPlaces (sym (left c)) (held c).1,
   subst (AreListed c.self.inside.serials.listed) (sym (left c)) (listed_left (λ (place : TokenPlace). not (c.args.grant == place.grant)) c.self.inside.serials.listed c.self.inside.places.items c.self.invariant.1),
+  c.take_out_all.ensures.counted,
 )

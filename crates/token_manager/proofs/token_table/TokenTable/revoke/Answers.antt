@@ -11,6 +11,7 @@ invariant_of-self c = (
   marked_places c.as_slice.result.now c.self.inside.places.items c.place_of-at.result c.args.serial c.index_mut.result.now c.mark.new.place c.as_slice.ensures.value c.self.invariant.0 c.place_of-at.ensures
       (omega (arith, c.if-at-len.true, c.len.ensures)) c.index_mut.ensures.value c.mark.ensures,
   listed_marked c.self.inside.serials.listed c.self.inside.places.items c.place_of-at.result c.args.serial c.index_mut.result.now c.mark.new.place c.self.invariant.1 (omega (arith, c.if-at-len.true, c.len.ensures)) c.index_mut.ensures.value c.mark.ensures,
+  (counted c).1,
 )
 
 pub returns-then-at-len-clause-rows : goal.returns-then-at-len-clause-rows

@@ -1,10 +1,11 @@
 use Rattle.std.proofs.Common.{rules, map, ap, sym, subst, ◌∙◌, ◌≡◌}
 use Rattle.std.specs.Prelude.{filter}
+use Rattle.std.specs.List.{count_by}
 use Rattle.std.proofs.lemmas.Fn.{filter_same}
 use Rattle.gnap_tables.specs.declared.rows.TokenRow.{TokenRow}
 use Rattle.gnap_tables.specs.Tables.{sweep_tokens, has_grant}
 use Rattle.token_manager.specs.declared.token_table.TokenPlace.{TokenPlace}
-use Rattle.token_manager.specs.Tokens.{StoredTokens, AreTokenPlaces, AreListed, token_in}
+use Rattle.token_manager.specs.Tokens.{StoredTokens, AreTokenPlaces, AreListed, token_in, is_lasting}
 use Rattle.token_manager.proofs.TokenLemmas.{HoldRows, kept_places, listed_left}
 use Rattle.token_manager.proofs.token_table.TokenTable.sweep.Goals as goal
 
@@ -21,4 +22,5 @@ pub invariant_of-self : goal.invariant_of-self
 invariant_of-self c = (
   subst AreTokenPlaces (sym (left c)) (held c).1,
   subst (AreListed c.self.inside.serials.listed) (sym (left c)) (listed_left (λ (place : TokenPlace). has_grant place.grant c.args.grants.now.rows) c.self.inside.serials.listed c.self.inside.places.items c.self.invariant.1),
+  c.lasting_count.ensures ∙ ap (count_by (is_lasting c.args.moment)) c.as_slice.ensures.value,
 )
