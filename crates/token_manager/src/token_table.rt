@@ -157,9 +157,10 @@ fn take_out(
     if at < places.len() && places[at].serial == serial && places[at].grant == grant {
         let one = one_lasting(&places[at], moment);
         let _gone = places.remove(at);
-        return lasting - one;
+        lasting - one
+    } else {
+        lasting
     }
-    lasting
 }
 
 // Takes out the tokens with these serials, where they are the grant's, and counts the lasting rows as before.

@@ -23,9 +23,3 @@ returns-else-at-len-clause-items c =
       | else-at-len-via-then-at-len+else-index-serial w ↦ w.if-index-serial.false (ap (λ (place : TokenPlace). place.serial) (same_place c.args.places.now.items c.place_of-at.result w.index.result.now old inside w.index.ensures is) ∙ mine)
       | else-at-len-via-else-at-len w ↦ omega (arith, w.if-at-len.false, c.len.ensures, inside)
     ])
-
-counted : (c : goal.After-remove-gone) → (c.one_lasting-one.result ≤ c.args.lasting) × (c.args.lasting - c.one_lasting-one.result ≡ count_by (is_lasting c.args.moment) c.remove-gone.new.places.items)
-counted c =
-    let inside : c.place_of-at.result < length c.args.places.now.items = omega (arith, c.if-at-len.true, c.len.ensures) in
-    let held = lasting_removed c.args.places.now.items c.place_of-at.result c.args.moment c.args.lasting c.one_lasting-one.result c.index-then-index-grant.result.now inside c.index-then-index-grant.ensures c.requires.counted c.one_lasting-one.ensures in
-    (held.0, held.1 ∙ ap (count_by (is_lasting c.args.moment)) (sym c.remove-gone.ensures.items))

@@ -8,11 +8,12 @@ use Rattle.token_manager.specs.declared.token_table.TokenPlace.{TokenPlace}
 use Rattle.token_manager.specs.Tokens.{StoredTokens, AreTokenPlaces, AreListed, token_in, is_lasting}
 use Rattle.token_manager.proofs.TokenLemmas.{HoldRows, kept_places, listed_left}
 use Rattle.token_manager.proofs.token_table.TokenTable.sweep.Goals as goal
+use Rattle.token_manager.proofs.token_table.TokenTable.sweep.Goals.{After-retain}
 
-left : (c : goal.After-retain) → c.retain.new.self.items ≡ filter (λ (place : TokenPlace). has_grant place.grant c.args.grants.now.rows) c.self.inside.places.items
+left : (c : After-retain) → c.retain.new.self.items ≡ filter (λ (place : TokenPlace). has_grant place.grant c.args.grants.now.rows) c.self.inside.places.items
 left c = filter_same _ _ _ (λ x b f' k. search rules) _ _ c.retain.ensures.filtered
 
-held : (c : goal.After-retain) → HoldRows (filter (λ (place : TokenPlace). has_grant place.grant c.args.grants.now.rows) c.self.inside.places.items) (sweep_tokens c.args.grants.now.rows (map token_in c.self.inside.places.items))
+held : (c : After-retain) → HoldRows (filter (λ (place : TokenPlace). has_grant place.grant c.args.grants.now.rows) c.self.inside.places.items) (sweep_tokens c.args.grants.now.rows (map token_in c.self.inside.places.items))
 held c = kept_places (λ (place : TokenPlace). has_grant place.grant c.args.grants.now.rows) (λ (row : TokenRow). has_grant row.grant c.args.grants.now.rows) c.self.inside.places.items c.self.invariant.0 (λ p is. ap (λ n. has_grant n c.args.grants.now.rows) is.grant)
 
 pub returns-clause-rows : goal.returns-clause-rows
