@@ -18,11 +18,12 @@ held : (c : After-take_out_all-self-inside) → HoldRows (filter (λ (place : To
 held c = kept_places (λ (place : TokenPlace). not (c.args.grant == place.grant)) (λ (row : TokenRow). not (c.args.grant == row.grant)) c.self.inside.places.items c.self.invariant.0 (λ p is. ap (λ n. not (c.args.grant == n)) is.grant)
 
 pub returns-clause-rows : goal.returns-clause-rows
-returns-clause-rows c = ap (map token_in) (left c) ∙ (held c).0 ∙ ap (drop_tokens_of c.args.grant) (ap (λ (s : StoredTokens). s.rows) c.self.view_is)
+returns-clause-rows c =
+    let kept = (goal.at.returns-clause-rows c).After-take_out_all-self-inside in ap (map token_in) (left kept) ∙ (held kept).0 ∙ ap (drop_tokens_of c.args.grant) (ap (λ (s : StoredTokens). s.rows) c.self.view_is)
 
 pub invariant_of-self : goal.invariant_of-self
-invariant_of-self c = (
-  subst AreTokenPlaces (sym (left c)) (held c).1,
-  subst (AreListed c.self.inside.serials.listed) (sym (left c)) (listed_left (λ (place : TokenPlace). not (c.args.grant == place.grant)) c.self.inside.serials.listed c.self.inside.places.items c.self.invariant.1),
+invariant_of-self c = let kept = (goal.at.invariant_of-self c).After-take_out_all-self-inside in (
+  subst AreTokenPlaces (sym (left kept)) (held kept).1,
+  subst (AreListed c.self.inside.serials.listed) (sym (left kept)) (listed_left (λ (place : TokenPlace). not (c.args.grant == place.grant)) c.self.inside.serials.listed c.self.inside.places.items c.self.invariant.1),
   c.take_out_all-self-inside.ensures.counted,
 )
