@@ -12,3 +12,6 @@ pub mod replies;
 
 pub use authorization_server::AuthorizationServer;
 pub use replies::{http_reply, print_direct};
+pub use serving::connection::serve_connection;
+pub use serving::threads::serve_workers;
+pub use serving::worker::Worker;

@@ -3,7 +3,7 @@ use crate::requests::{read_request, write_busy, write_fault};
 use bytes_and_lists::message::Message;
 use gnap_io::device::{Failed, Sink, Source};
 use http_edge::{EdgeFault, Held};
-use serving::ends::NoMessage;
+use serving::ends::{ConnectionEnd, NoMessage};
 use serving::message_reader::MessageReader;
 use serving::server_front::ServerFront;
 use std::alloc::Global;
@@ -14,6 +14,9 @@ pub struct HttpReader;
 
 /// Serves connections by a server whose messages are requests.
 pub type HttpFront<V> = ServerFront<HttpReader, V>;
+
+/// How a connection of requests ended.
+pub type Ended = ConnectionEnd<EdgeFault>;
 
 impl MessageReader for HttpReader {
     ghost use Rattle.http_serving.specs.EdgeWire.{edge_wire, stays};

@@ -8,6 +8,6 @@ mod http_reader;
 mod ready_reply;
 mod requests;
 
-pub use http_reader::{HttpFront, HttpReader};
+pub use http_reader::{Ended, HttpFront, HttpReader};
 pub use ready_reply::ReadyReply;
 pub use requests::write_busy;
