@@ -6,6 +6,7 @@ use fault_places::FaultPlace;
 use gnap_io::device::{Sink, write_all};
 use gnap_objects::{ObjectFault, SetupFault};
 use std::fmt;
+use std::fmt::Write;
 
 /// Writes these pieces, as far as they can be written.
 pub(crate) fn tell<E: Sink>(err: &mut E, pieces: &[&[u8]]) {
@@ -23,6 +24,7 @@ pub(crate) fn tell_number<E: Sink>(err: &mut E, number: usize) {
 }
 
 // A sink as what words are written to.
+#[derive(Drop)]
 struct Said<'a, E> {
     err: &'a mut E,
 }
