@@ -6,3 +6,4 @@ pub mod Whole
 pub mod Lengths
 pub mod Fields
 pub mod Depths
+pub mod PlainObjects

@@ -4,4 +4,5 @@ pub mod Members
 pub mod Objects
 pub mod Texts
 pub mod TextSets
+pub mod PlainObjects
 pub mod Sizes

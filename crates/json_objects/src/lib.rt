@@ -7,6 +7,7 @@
 
 pub mod body;
 pub mod members;
+mod plain_objects;
 pub mod sizes;
 pub mod text_set;
 pub mod values;
