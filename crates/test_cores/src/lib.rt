@@ -4,4 +4,6 @@
 #[cfg(test)]
 mod gates;
 #[cfg(test)]
+mod loading_at_once;
+#[cfg(test)]
 mod remembered_nonces;
