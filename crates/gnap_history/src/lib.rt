@@ -26,7 +26,9 @@ mod user_codes;
 
 pub use gnap_model::calls::{Call, FinishOut, Reply, TokenOut, Tokens};
 pub use grant_machine::{Gnap, laws};
+pub use grant_rules::values::{code_text, value_text};
 pub use histories::lone::Lone;
 pub use histories::machine::{Core, Desk, Machine};
 pub use list_core::{ListCore, ListDesk, list_desk};
 pub use note_core::NoteCore;
+pub use signed_calls::signed::{Mark, Signed};
