@@ -2,6 +2,7 @@ pub mod Examples
 pub mod Fields
 pub mod Lines
 pub mod WithTag
+pub mod LoneSteps
 pub mod Appended
 pub mod SignedFields
 pub mod SignedBase

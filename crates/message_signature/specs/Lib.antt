@@ -2,6 +2,7 @@ pub mod Faults
 pub mod Components
 pub mod Base
 pub mod Verified
+pub mod Lone
 pub mod Seen
 pub mod Marks
 pub mod Marked
