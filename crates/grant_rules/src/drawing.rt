@@ -6,7 +6,7 @@ ghost use Rattle.grant_rules.specs.Drawn.{token_drawn, round_drawn, finish_told}
 
 use crate::limits::{INTERACTION_TIME, ROUND_TIME, TOKEN_TIME};
 pub use crate::supply::Supply;
-use crate::values::value_text;
+use drawn_texts::value_text;
 use bytes_and_lists::bytes::Bytes;
 use bytes_and_lists::memory::{Duplicate, Mem};
 use gnap_model::calls::{FinishOut, Reply};

@@ -19,7 +19,7 @@ use gnap_model::objects::{ErrorCode, Setup};
 use gnap_model::rights::Rights;
 use grant_rules::keys::server_names;
 use grant_rules::suiting::serves_each;
-use grant_rules::values::value_text;
+use drawn_texts::value_text;
 use histories::machine::Core;
 use std::alloc::Global;
 
