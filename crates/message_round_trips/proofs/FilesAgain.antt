@@ -1,5 +1,5 @@
 -- A signed file is read as the message that was signed.
-use Rattle.std.proofs.Common.{◌≡◌, ◌∙◌, ℕ, ◌+◌, ◌<◌, ◌≤◌, ◌^◌, Bool, true, false, cond, not, ◌&&◌, ◌||◌, List, [], ◌∷◌, ◌++◌, get_or, length, map, Option, Some, None, Result, Ok, Err, refl, sym, ap, subst, arith, append_assoc}
+use Rattle.std.proofs.Common.{◌≡◌, ◌∙◌, ℕ, ◌+◌, ◌<◌, ◌≤◌, ◌^◌, Bool, true, false, cond, not, ◌&&◌, ◌||◌, List, [], ◌∷◌, ◌++◌, get_or, length, map, Option, Result, Ok, refl, sym, ap, subst, arith, append_assoc}
 use Rattle.std.specs.Prelude.{IsTrue, IsUtf8, All, IfSome, bytes_eq, codes, nat_lt}
 use Rattle.std.specs.List.{flat_map, list_all, list_any, AllByRecursion}
 use Rattle.std.specs.Char.{to_ascii_lowercase, is_ascii_alphanumeric, is_ascii_uppercase}
@@ -15,23 +15,21 @@ use Rattle.http1.specs.Text.{eq_ignore_case}
 use Rattle.http1.specs.Fields.{Header, is_named}
 use Rattle.bytes_and_lists.specs.declared.message.Field.{Field}
 use Rattle.bytes_and_lists.specs.declared.message.Message.{Message}
-use Rattle.structured_fields.specs.declared.bare.Bare.{Bare}
 use Rattle.structured_fields.specs.Letters.{is_string_byte}
 use Rattle.content_digest.specs.Digest.{digest_text}
 use Rattle.hmac_key.specs.Hmac.{hmac_sha256}
 use Rattle.message_signature.specs.Marks.{is_nonce}
 use Rattle.message_signature.specs.Verified.{has_body, has_field}
-use Rattle.message_signature.specs.Signed.{field, with_fields, with_digest, params_of, signature_input, signature_lines, signed_under}
+use Rattle.message_signature.specs.Signed.{field, with_fields, with_digest, signature_input, signature_lines}
 use Rattle.http_edge.specs.declared.fault.EdgeFault.TheVariants.{TooLarge, Coded}
 use Rattle.http_edge.specs.declared.framing.Framing.{Framing}
 use Rattle.http_edge.specs.declared.framing.Framing.TheVariants.{Refused, Body}
 use Rattle.http_edge.specs.Framing.{is_coded, lengths_of, lengths_framing, framing_of, asks_to_close}
 use Rattle.http_edge.specs.Streams.{headers_of, field_of, IsMessage}
-use Rattle.gnap_model.specs.declared.objects.KeyRow.{KeyRow}
 use Rattle.gnap_model.specs.declared.objects.Setup.{Setup}
-use Rattle.signed_files.specs.MessageFiles.{IsMessageFile, message, bad_head, too_large, coded, unfinished, empty, followed, AnswersFile, to_message, no_message}
+use Rattle.signed_files.specs.MessageFiles.{IsMessageFile, message, bad_head, too_large, coded, unfinished, empty, followed, to_message, no_message}
 use Rattle.signed_files.specs.SignedText.{field_line, message_text, SignsMessage, no_key, signed_before, signs, SignsFile}
-use Rattle.message_round_trips.specs.SignedFiles.{headers_in, as_printed, HasReadSize, IsReadAsSigned, SignedFilesReadBack}
+use Rattle.message_round_trips.specs.SignedFiles.{headers_in, as_printed, HasReadSize, IsSignedFile, SignedFilesReadBack}
 use Rattle.message_round_trips.proofs.Headers.{header_line, IsWritable, text_with, message_with, read_back}
 use Rattle.message_round_trips.proofs.SignatureTexts.{written, digest_fits, signature_fits, input_fits, same_digest, same_signature, same_input, signature_text, input_text, gnap_params}
 use Rattle.message_round_trips.proofs.Signing.{signed_is}
@@ -81,7 +79,11 @@ writable f valid =
     let size : length (map to_ascii_lowercase f.name) ≡ length f.name = length-map f.name to_ascii_lowercase in
     let some : 0 < length (map to_ascii_lowercase f.name) = omega (arith, size, valid.name.0) in
     record {
-      name = (some, All-map (λ (c : ℕ). IsTrue (is_token_byte c)) to_ascii_lowercase f.name (λ k d below. lowered_token (get_or f.name k d) (valid.name.1 k d below)));
+      name = (
+        some,
+        All-map (λ (c : ℕ). IsTrue (is_token_byte c)) to_ascii_lowercase f.name
+            (λ k d below. lowered_token (get_or f.name k d) (valid.name.1 k d below)),
+      );
       value = AllPass-trim_ows is_value_byte f.raw valid.raw;
       trimmed = trim_twice f.raw;
     }
@@ -139,7 +141,8 @@ text_is m =
     let behind : List ℕ = flat_map field_line m.fields ++ (codes "\r\n" ++ m.body) in
     append_assoc m.method (codes " " ++ (m.target ++ codes " HTTP/1.1\r\n")) behind
     ∙ ap (λ t. m.method ++ (codes " " ++ t)) (append_assoc m.target (codes " HTTP/1.1\r\n") behind)
-    ∙ ap (λ t. m.method ++ (codes " " ++ (m.target ++ (codes " HTTP/1.1\r\n" ++ (t ++ (codes "\r\n" ++ m.body)))))) (sym (flat_map-map header_line header_of m.fields))
+    ∙ ap (λ t. m.method ++ (codes " " ++ (m.target ++ (codes " HTTP/1.1\r\n" ++ (t ++ (codes "\r\n" ++ m.body))))))
+    (sym (flat_map-map header_line header_of m.fields))
 
 module _ (file : List ℕ) (m : Message) (read : IsMessage file m []) (more : List Field) (beside : AreBeside more) where
   abbrev longer : Message
@@ -163,7 +166,8 @@ module _ (file : List ℕ) (m : Message) (read : IsMessage file m []) (more : Li
   message_is =
       let fields : map field_of (headers_in longer) ≡ m.fields ++ more =
       ap (map field_of) headers_are ∙ map-append field_of (map lowered hs) (map header_of more)
-      ∙ ap (λ (l : List Field). l ++ map field_of (map header_of more)) (fields_again hs ∙ sym fields_are) ∙ ap (λ (l : List Field). m.fields ++ l) beside.same in
+      ∙ ap (λ (l : List Field). l ++ map field_of (map header_of more)) (fields_again hs ∙ sym fields_are)
+      ∙ ap (λ (l : List Field). m.fields ++ l) beside.same in
       ap (λ (fs : List Field). record { method = m.method; target = m.target; fields = fs; body = m.body; last = asks_to_close (headers_in longer) }) fields
 
   longer_read : HasReadSize (message_text longer) longer → IsMessage (message_text longer) (as_printed longer) []
@@ -180,7 +184,8 @@ module _ (file : List ℕ) (m : Message) (read : IsMessage file m []) (more : Li
       (subst IsToken (sym body_is) valid.method)
       (subst (λ t. (0 < length t) × AllPass is_uri_byte t) (sym target_is) valid.target)
       (subst IsUtf8 (sym target_is) valid.target_text)
-      (subst (AllByRecursion IsWritable) (sym headers_are) (all_append (map lowered hs) (map header_of more) (all_writable read.head.fields valid.fields) beside.good))
+      (subst (AllByRecursion IsWritable) (sym headers_are)
+      (all_append (map lowered hs) (map header_of more) (all_writable read.head.fields valid.fields) beside.good))
       (ap framing_of headers_are ∙ framed)
       (subst (λ t. length t ≤ 16384 + length m.body) same size.head) in
       subst (λ t. IsMessage t (as_printed longer) []) (sym same)
@@ -195,11 +200,13 @@ module _ (id : List ℕ) (created : ℕ) (nonce : Option (List ℕ)) (secret tex
 
   input_line : IsWritable (codes "signature-input", input_text w (gnap_params id created nonce))
   unfolding is_token_byte
-  input_line = written (codes "signature-input") (input_text w (gnap_params id created nonce)) (omega arith) refl (input_fits w id created nonce key moment once) (same_input w id created nonce)
+  input_line = written (codes "signature-input") (input_text w (gnap_params id created nonce)) (omega arith) refl
+      (input_fits w id created nonce key moment once) (same_input w id created nonce)
 
   signature_line : IsWritable (codes "signature", signature_text (hmac_sha256 secret text))
   unfolding is_token_byte
-  signature_line = written (codes "signature") (signature_text (hmac_sha256 secret text)) (omega arith) refl (signature_fits secret text) (same_signature (hmac_sha256 secret text))
+  signature_line = written (codes "signature") (signature_text (hmac_sha256 secret text)) (omega arith) refl
+      (signature_fits secret text) (same_signature (hmac_sha256 secret text))
 
   digest_line : (body : List ℕ) → IsWritable (codes "content-digest", digest_text body)
   unfolding is_token_byte
@@ -239,7 +246,7 @@ file_is text _ m (followed n byte more f) e = absurd cc
 module _ (setup : Setup) (id : List ℕ) (created : ℕ) (nonce : Option (List ℕ)) (file answer : List ℕ)
     (key : list_all is_string_byte id ≡ true) (moment : created < 10 ^ 15) (once : IfSome nonce (λ n. is_nonce n ≡ true)) where
   of_message : (m : Message) → IsMessageFile file (Ok m) → (r : Result (List ℕ) (List ℕ)) → SignsMessage setup id created nonce m r → r ≡ Ok answer
-      → IsReadAsSigned setup id created nonce file answer
+      → IsSignedFile setup id created nonce file answer
   of_message m is _ (no_key none) e = absurd cc
   of_message m is _ (signed_before row found has) e = absurd cc
   of_message m is _ (signs row n found none made) e =
@@ -260,7 +267,7 @@ module _ (setup : Setup) (id : List ℕ) (created : ℕ) (nonce : Option (List �
             (has_body m && not (has_field (codes "content-digest") m))) (subst (λ t. HasReadSize t n) (sym printed) size)));
       }
 
-  of_file : (r : Result (List ℕ) (List ℕ)) → SignsFile setup id created nonce file r → r ≡ Ok answer → IsReadAsSigned setup id created nonce file answer
+  of_file : (r : Result (List ℕ) (List ℕ)) → SignsFile setup id created nonce file r → r ≡ Ok answer → IsSignedFile setup id created nonce file answer
   of_file _ (to_message m r is made) e = of_message m is r made e
   of_file _ (no_message name is) e = absurd cc
 

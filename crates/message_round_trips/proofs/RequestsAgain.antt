@@ -1,7 +1,7 @@
 -- A signed request is read as the message that was signed.
-use Rattle.std.proofs.Common.{◌≡◌, ◌∙◌, ℕ, ◌+◌, ◌-◌, ◌<◌, ◌≤◌, ◌^◌, Bool, true, false, cond, not, ◌&&◌, ◌||◌, List, [], ◌∷◌, ◌++◌, length, map, reverse, Option, Some, None, refl, sym, ap, subst, arith, append_assoc, append-nil}
-use Rattle.std.specs.Prelude.{◌==◌, nat_lt, nat_le, IfSome, IsAscii, codes, decimal, option_map}
-use Rattle.std.specs.List.{flat_map, list_all, list_any, AllByRecursion}
+use Rattle.std.proofs.Common.{◌≡◌, ◌∙◌, ℕ, ◌+◌, ◌<◌, ◌≤◌, ◌^◌, Bool, true, false, cond, not, ◌&&◌, List, [], ◌∷◌, ◌++◌, length, map, reverse, Option, Some, None, refl, sym, ap, subst, arith, append_assoc, append-nil}
+use Rattle.std.specs.Prelude.{nat_lt, nat_le, IfSome, IsAscii, codes, decimal, option_map}
+use Rattle.std.specs.List.{flat_map, list_all, AllByRecursion}
 use Rattle.std.specs.Char.{is_ascii_digit, is_ascii_alphanumeric}
 use Rattle.std.specs.Str.Parse.{digits_value}
 use Rattle.std.proofs.lemmas.Bool.{and_parts, and_from}
@@ -21,17 +21,14 @@ use Rattle.bytes_and_lists.specs.declared.message.Field.{Field}
 use Rattle.bytes_and_lists.specs.declared.message.Message.{Message}
 use Rattle.structured_fields.specs.declared.bare.Bare.{Bare}
 use Rattle.structured_fields.specs.Letters.{is_string_byte}
-use Rattle.structured_fields.specs.Canonical.{dictionary_text}
 use Rattle.structured_fields.proofs.Fronts.{mapped}
 use Rattle.content_digest.specs.Digest.{digest_text}
 use Rattle.hmac_key.specs.Hmac.{hmac_sha256}
 use Rattle.message_signature.specs.Components.{authority_of, field_value}
 use Rattle.message_signature.specs.Marks.{is_nonce}
-use Rattle.message_signature.specs.Signed.{field, with_fields, with_digest, params_of, signature_input, signature_lines, signed_under}
+use Rattle.message_signature.specs.Signed.{with_fields, with_digest, params_of, signature_input, signature_lines, signed_under}
 use Rattle.http_edge.specs.declared.fault.EdgeFault.TheVariants.{BadHead, TooLarge}
-use Rattle.http_edge.specs.declared.framing.Framing.{Framing}
 use Rattle.http_edge.specs.declared.framing.Framing.TheVariants.{Refused, Body}
-use Rattle.http_edge.specs.Limits.{head_limit, body_limit}
 use Rattle.http_edge.specs.Framing.{is_digits, length_framing, framing_of, asks_to_close}
 use Rattle.http_edge.specs.Streams.{field_of, IsMessage}
 use Rattle.signed_requests.specs.declared.unsigned.UnsignedRequest.{UnsignedRequest}
@@ -184,7 +181,8 @@ close_line : IsWritable (codes "Connection", codes "close")
 unfolding is_token_byte trim_ows
 close_line = written (codes "Connection") (codes "close") (omega arith) refl refl refl
 
-token_line : (scheme : Scheme) (token : List ℕ) → 0 < length token → list_all is_visible token ≡ true → IsWritable (codes "Authorization", scheme_text scheme ++ token)
+token_line : (scheme : Scheme) (token : List ℕ) → 0 < length token → list_all is_visible token ≡ true
+    → IsWritable (codes "Authorization", scheme_text scheme ++ token)
 unfolding is_token_byte
 token_line Gnap token more e = written (codes "Authorization") (codes "GNAP " ++ token) (omega arith) refl
     (joined_fit (codes "GNAP ") token refl (all_from is_visible is_string_byte visible_text token e)) (same_ends 71 (codes "NAP ") token refl more e)
@@ -203,12 +201,14 @@ input_line : (w : Message) (id : List ℕ) (created : ℕ) (nonce : Option (List
     → IfSome nonce (λ n. is_nonce n ≡ true) → IsWritable (codes "Signature-Input", input_text w (gnap_params id created nonce))
 unfolding is_token_byte
 input_line w id created nonce key moment once =
-    written (codes "Signature-Input") (input_text w (gnap_params id created nonce)) (omega arith) refl (input_fits w id created nonce key moment once) (same_input w id created nonce)
+    written (codes "Signature-Input") (input_text w (gnap_params id created nonce)) (omega arith) refl
+    (input_fits w id created nonce key moment once) (same_input w id created nonce)
 
 signature_line : (secret text : List ℕ) → IsWritable (codes "Signature", signature_text (hmac_sha256 secret text))
 unfolding is_token_byte
 signature_line secret text =
-    written (codes "Signature") (signature_text (hmac_sha256 secret text)) (omega arith) refl (signature_fits secret text) (same_signature (hmac_sha256 secret text))
+    written (codes "Signature") (signature_text (hmac_sha256 secret text)) (omega arith) refl
+    (signature_fits secret text) (same_signature (hmac_sha256 secret text))
 
 length_line : (n : ℕ) → n ≤ 65536 → IsWritable (codes "Content-Length", decimal n)
 unfolding is_token_byte
@@ -235,9 +235,11 @@ module _ (base method target id : List ℕ) (created : ℕ) (nonce : Option (Lis
 
   abbrev made : Option (Scheme × List ℕ) → List ℕ → Message
   made presented body =
-      let w = digested presented body in with_fields (signature_lines (signature_input w (params_of id created nonce (codes "gnap"))) (hmac_sha256 secret text)) w
+      let w = digested presented body in
+      with_fields (signature_lines (signature_input w (params_of id created nonce (codes "gnap"))) (hmac_sha256 secret text)) w
 
-  is_sent : (presented : Option (Scheme × List ℕ)) (body : List ℕ) → HasVisibleToken presented → length body ≤ 65536 → IsSent method target body (made presented body)
+  is_sent : (presented : Option (Scheme × List ℕ)) (body : List ℕ) → HasVisibleToken presented → length body ≤ 65536
+      → IsSent method target body (made presented body)
   unfolding field_value spelt eq_ignore_case elements trim_ows
   is_sent None [] token few = record {
     method_is = refl;
@@ -339,15 +341,18 @@ module _ (method target body : List ℕ) (n : Message) (sent : IsSent method tar
       ∙ ap (λ (l : Bool). record { method = n.method; target = n.target; fields = n.fields ++ length_fields n.body; body = n.body; last = l }) sent.closes
       ∙ ap (λ (b : List ℕ). with_fields (length_fields b) n) sent.body_is
 
-  reads_sent : IsToken method → IsVisibleTarget target → length (request_bytes n) ≤ 16384 + length n.body → IsMessage (request_bytes n) (with_fields (length_fields body) n) []
+  reads_sent : IsToken method → IsVisibleTarget target → length (request_bytes n) ≤ 16384 + length n.body
+      → IsMessage (request_bytes n) (with_fields (length_fields body) n) []
   reads_sent token seen short =
       let same : request_bytes n ≡ text_with n.method n.target hs n.body = sent_text n in
       let fine : IsVisibleTarget n.target = subst IsVisibleTarget (sym sent.target_is) seen in
       let uri = AllPass-from_list_all is_uri_byte n.target (all_from is_visible is_uri_byte visible_uri n.target fine.visible) in
       let read : IsMessage (text_with n.method n.target hs n.body) (message_with n.method n.target hs n.body) [] =
-      read_back n.method n.target hs n.body (subst IsToken (sym sent.method_is) token) (fine.some, uri) (IsUtf8-from_ascii n.target (ascii n.target fine.visible))
+      read_back n.method n.target hs n.body (subst IsToken (sym sent.method_is) token) (fine.some, uri)
+      (IsUtf8-from_ascii n.target (ascii n.target fine.visible))
       sent.good sent.framed (subst (λ t. length t ≤ 16384 + length n.body) same short) in
-      subst (λ t. IsMessage t (with_fields (length_fields body) n) []) (sym same) (subst (λ (k : Message). IsMessage (text_with n.method n.target hs n.body) k []) message_is read)
+      subst (λ t. IsMessage t (with_fields (length_fields body) n) []) (sym same)
+      (subst (λ (k : Message). IsMessage (text_with n.method n.target hs n.body) k []) message_is read)
 
 module _ (base id secret : List ℕ) (now : ℕ) (nonce : Option (List ℕ)) (request : UnsignedRequest) (bytes : List ℕ) (can : CanBeRead base id now request)
     (once : IfSome nonce (λ n. is_nonce n ≡ true)) where
@@ -362,7 +367,8 @@ module _ (base id secret : List ℕ) (now : ℕ) (nonce : Option (List ℕ)) (re
       let made = signed_is m made_of.0 base params secret made_of.1 in
       let n : Message = made_of.0 in
       let sent : IsSent request.method request.target request.body n = subst (IsSent request.method request.target request.body) made.is
-      (is_sent base request.method request.target id now nonce secret made.text can.authority can.key can.moment once request.presented request.body can.token can.body) in
+      (is_sent base request.method request.target id now nonce secret made.text can.authority can.key can.moment once
+      request.presented request.body can.token can.body) in
       let size : length (request_bytes n) ≡ length bytes = ap length made_of.2 in
       let body_size : length n.body ≡ length request.body = ap length sent.body_is in
       record {

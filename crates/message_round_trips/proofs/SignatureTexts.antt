@@ -18,12 +18,10 @@ use Rattle.httparse.specs.Grammar.{AllPass, is_token_byte, is_value_byte, is_ows
 use Rattle.httparse.proofs.TrimLemmas.{trim_ows_space}
 use Rattle.structured_fields.specs.declared.bare.Bare.{Bare}
 use Rattle.structured_fields.specs.declared.bare.Bare.TheVariants.{Integer, Str, Binary}
-use Rattle.structured_fields.specs.declared.item.Item.{Item}
-use Rattle.structured_fields.specs.declared.item.Member.{Member}
 use Rattle.structured_fields.specs.declared.item.Member.TheVariants.{Item as Single, Inner}
 use Rattle.structured_fields.specs.Letters.{is_string_byte, is_quoted}
 use Rattle.structured_fields.specs.Grammar.{in_string}
-use Rattle.structured_fields.specs.Canonical.{value_text, item_text, separated_text, params_text, inner_text, dictionary_text}
+use Rattle.structured_fields.specs.Canonical.{value_text, item_text, separated_text, params_text, dictionary_text}
 use Rattle.bytes_and_lists.specs.declared.message.Message.{Message}
 use Rattle.content_digest.specs.Digest.{digest_text}
 use Rattle.content_digest.proofs.LineFits.{sha_bytes}
@@ -161,7 +159,8 @@ signature_fits secret text =
 
 pub same_signature : (bytes : List ℕ) → trim_ows (signature_text bytes) ≡ signature_text bytes
 same_signature bytes =
-    same_text (signature_text bytes) 58 (ends_nil (ends_more (codes "sig1=") (ends_nil (record { front = 58 ∷ encode_of standard bytes; is = refl })))) refl refl
+    same_text (signature_text bytes) 58
+    (ends_nil (ends_more (codes "sig1=") (ends_nil (record { front = 58 ∷ encode_of standard bytes; is = refl })))) refl refl
 
 -- ---- the signature's input
 
@@ -222,7 +221,8 @@ params_fit id created (Some n) key moment once =
 
 params_end : (id : List ℕ) (created : ℕ) (nonce : Option (List ℕ)) → EndsIn 34 (params_text (gnap_params id created nonce))
 unfolding number_param text_param last_param
-params_end id created None = ends_more (number_param created) (ends_more (text_param (codes "keyid") id) (record { front = codes ";tag=" ++ 34 ∷ codes "gnap"; is = refl }))
+params_end id created None =
+    ends_more (number_param created) (ends_more (text_param (codes "keyid") id) (record { front = codes ";tag=" ++ 34 ∷ codes "gnap"; is = refl }))
 params_end id created (Some n) =
     ends_more (number_param created) (ends_more (text_param (codes "keyid") id) (ends_more (text_param (codes "nonce") n)
     (record { front = codes ";tag=" ++ 34 ∷ codes "gnap"; is = refl })))

@@ -28,7 +28,7 @@ pub record HasReadSize (text : List ℕ) (m : Message) : Type 0 where
   pub fields : length m.fields ≤ field_limit
 
 -- A file was one message. What was answered is the text of this message with its signature, and where it isn't too large it is read as just that one.
-pub record IsReadAsSigned (setup : Setup) (id : List ℕ) (created : ℕ) (nonce : Option (List ℕ)) (file answer : List ℕ) : Type 0 where
+pub record IsSignedFile (setup : Setup) (id : List ℕ) (created : ℕ) (nonce : Option (List ℕ)) (file answer : List ℕ) : Type 0 where
   pub message : Message
   pub is_message : IsMessageFile file (Ok message)
   pub key : KeyRow
@@ -42,4 +42,4 @@ pub record IsReadAsSigned (setup : Setup) (id : List ℕ) (created : ℕ) (nonce
 abbrev pub SignedFilesReadBack : Type 0
 SignedFilesReadBack = (setup : Setup) (id : List ℕ) (created : ℕ) (nonce : Option (List ℕ)) (file answer : List ℕ)
     → list_all is_string_byte id ≡ true → created < 10 ^ 15 → IfSome nonce (λ n. is_nonce n ≡ true)
-    → SignsFile setup id created nonce file (Ok answer) → IsReadAsSigned setup id created nonce file answer
+    → SignsFile setup id created nonce file (Ok answer) → IsSignedFile setup id created nonce file answer

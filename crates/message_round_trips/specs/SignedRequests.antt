@@ -43,10 +43,11 @@ pub record IsReadAsSigned (base id secret : List ℕ) (now : ℕ) (nonce : Optio
 
 -- a signed request is read as what was signed
 abbrev pub SignedRequestsReadBack : Type 0
-SignedRequestsReadBack = (base id secret : List ℕ) (now : ℕ) (request : UnsignedRequest) (bytes : List ℕ) → CanBeRead base id now request
-    → signed_request base id secret now request ≡ Some bytes → IsReadAsSigned base id secret now None request bytes
+SignedRequestsReadBack = (base id secret : List ℕ) (now : ℕ) (request : UnsignedRequest) (bytes : List ℕ)
+    → CanBeRead base id now request → signed_request base id secret now request ≡ Some bytes → IsReadAsSigned base id secret now None request bytes
 
 -- so is one with a nonce in its signature
 abbrev pub MarkedRequestsReadBack : Type 0
-MarkedRequestsReadBack = (base id secret : List ℕ) (now : ℕ) (nonce : List ℕ) (request : UnsignedRequest) (bytes : List ℕ) → CanBeRead base id now request → is_nonce nonce ≡ true
-    → marked_request base id secret now nonce request ≡ Some bytes → IsReadAsSigned base id secret now (Some nonce) request bytes
+MarkedRequestsReadBack = (base id secret : List ℕ) (now : ℕ) (nonce : List ℕ) (request : UnsignedRequest) (bytes : List ℕ)
+    → CanBeRead base id now request → is_nonce nonce ≡ true → marked_request base id secret now nonce request ≡ Some bytes
+    → IsReadAsSigned base id secret now (Some nonce) request bytes

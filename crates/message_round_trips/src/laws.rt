@@ -2,7 +2,8 @@
 ghost use Rattle.message_round_trips.specs.SignedRequests.{SignedRequestsReadBack, MarkedRequestsReadBack};
 ghost use Rattle.message_round_trips.specs.SignedFiles.{SignedFilesReadBack};
 
-/// The bytes of `signed_requests::signed_request` and `marked_request` are read by a server as the message that was signed, with its `Content-Length` (RFC 9112).
+/// The bytes of `signed_requests::signed_request` and `marked_request` are read by a server as the message that was signed, with its `Content-Length`
+/// (RFC 9112).
 pub fn signed_requests_read_back()
     ensures plain { SignedRequestsReadBack }
     ensures marked { MarkedRequestsReadBack }
