@@ -2,5 +2,3 @@ pub mod NewKeys
 pub mod WhoSigned
 pub mod Authorizations
 pub mod Askable
-pub mod BothKeys
-pub mod DirectErrors
