@@ -13,7 +13,6 @@ use Rattle.message_signature.specs.Marks.{longest_nonce, latest_created, mark_of
 use Rattle.message_signature.specs.Marked.{with_mark, verified_marked}
 use Rattle.message_signature.specs.Verified.{verified}
 use Rattle.message_signature.proofs.VerifiedParts.{verified_key}
-use Rattle.message_signature.proofs.MarkSizes.{HasSizes, mark_fits}
 use Rattle.gnap_model.specs.Common.{Text}
 use Rattle.gnap_model.specs.declared.objects.KeyRow.{KeyRow}
 use Rattle.gnap_model.specs.declared.objects.Setup.{Setup}
@@ -22,6 +21,7 @@ use Rattle.gnap_objects.specs.Setups.{IsSetup}
 use Rattle.grant_machine.specs.Gnap.{MarkFits}
 use Rattle.as_requests.specs.Rings.{secrets_of}
 use Rattle.as_requests.specs.Signers.{call_mark, signer_with, SignerFits}
+use Rattle.as_requests.proofs.MarkSizes.{HasSizes, mark_fits}
 
 id_text : (ks : List KeyRow) (id secret : Text) → AllByRecursion KeyFits ks → value_at (map (λ k. (k.id, k.secret)) ks) id ≡ Some secret → IsUtf8 id
 id_text [] id secret fit e = absurd cc

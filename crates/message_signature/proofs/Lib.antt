@@ -8,4 +8,3 @@ pub mod SignedBase
 pub mod SigningSteps
 pub mod CheckSteps
 pub mod VerifiedParts
-pub mod MarkSizes
