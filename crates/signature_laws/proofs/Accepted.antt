@@ -13,10 +13,10 @@ use Rattle.message_signature.specs.declared.tags.SignatureFields.{SignatureField
 use Rattle.message_signature.specs.Components.{field_value}
 use Rattle.message_signature.specs.Base.{is_string, signature_base}
 use Rattle.message_signature.specs.Verified.{with_tag, only_one, signature_under, absent_or, is_well_formed, covers_enough, is_in_window, is_not_expired, key_in, has_right_digest, Signature, signature_fields, tagged_in, tagged, admitted, made_under, judged_over, judged, verified}
-use Rattle.signature_laws.specs.Accepted.{IsDictionaryField, IsTheTagged, IsAccepted, VerifiedIsAccepted, AcceptedIsVerified, AcceptedIsMarked}
 use Rattle.message_signature.specs.Marks.{mark_of}
 use Rattle.message_signature.proofs.CheckSteps.{step_ok, need_ok, must_ok}
 use Rattle.message_signature.proofs.VerifiedParts.{IsKey, key_says}
+use Rattle.signature_laws.specs.Accepted.{IsDictionaryField, IsTheTagged, IsAccepted, VerifiedIsAccepted, AcceptedIsVerified, AcceptedIsMarked}
 use Rattle.signature_laws.proofs.AcceptedTag.{tagged_says, tagged_made}
 use Rattle.signature_laws.proofs.AcceptedTests.{algorithm_decides, algorithm_is_string, integer_passes, string_passes, window_says, window_passes, expiry_says, expiry_passes, key_found}
 use Rattle.signature_laws.proofs.AcceptedParts.{base_is_of_strings, expires_is_integer, HasBytes, bytes_say, bytes_found, cover_says, covered_passes, digest_says, digest_passes}

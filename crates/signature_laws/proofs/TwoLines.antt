@@ -20,9 +20,9 @@ use Rattle.message_signature.specs.Components.{values_of, joined, field_value}
 use Rattle.message_signature.specs.Signed.{under_label, label}
 use Rattle.message_signature.proofs.Appended.{trimmed_same}
 use Rattle.message_signature.proofs.SignedFields.{hmac_range}
-use Rattle.signature_laws.proofs.FieldsAgain.{ends_more, ends_nil, inner_ends}
 use Rattle.key_rotation.specs.SecondSignature.{second_tag}
 use Rattle.key_rotation.specs.SignedRotation.{second_label, rotation_input, covered_again}
+use Rattle.signature_laws.proofs.FieldsAgain.{ends_more, ends_nil, inner_ends}
 
 -- ---- two lines
 
