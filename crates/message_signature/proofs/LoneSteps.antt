@@ -16,7 +16,7 @@ use Rattle.message_signature.specs.declared.fault.SigFault.{SigFault}
 use Rattle.message_signature.specs.declared.fault.SigFault.TheVariants.{NoField, NotAField, NoTag, OutOfMemory}
 use Rattle.message_signature.specs.Components.{field_value}
 use Rattle.message_signature.specs.Faults.{◌>>=◌, need, Fails}
-use Rattle.message_signature.specs.Lone.{tagged_of, bytes_in, formed}
+use Rattle.message_signature.specs.Lone.{read_tagged, bytes_in, formed}
 use Rattle.message_signature.specs.Verified.{Signature, is_text, with_tag, signature_under, tagged_in, tagged, judged, verified}
 use Rattle.message_signature.specs.Marked.{id_and_mark, judged_with_mark}
 
@@ -119,28 +119,28 @@ module _ (input signature tag : List ℕ) where
   abbrev rest : List Entry → Result Signature SigFault
   rest inputs = need NotAField (dictionary_of signature) >>= λ signatures. tagged_in tag (record { inputs = inputs; signatures = signatures })
 
-  pub input_fails : (e : SigFault) → Fails e (need NotAField (dictionary_of input)) → Fails e (tagged_of input signature tag)
+  pub input_fails : (e : SigFault) → Fails e (need NotAField (dictionary_of input)) → Fails e (read_tagged input signature tag)
   input_fails OutOfMemory h = tt
   input_fails e h = ap (λ (r : Result (List Entry) SigFault). r >>= rest) h
 
   module _ (d : List Entry) (reads : dictionary_of input ≡ Some d) where
-    pub signature_fails : (label : List ℕ) (e : SigFault) → Fails e (need NotAField (option_map (signature_under label) (dictionary_of signature))) → Fails e (tagged_of input signature tag)
+    pub signature_fails : (label : List ℕ) (e : SigFault) → Fails e (need NotAField (option_map (signature_under label) (dictionary_of signature))) → Fails e (read_tagged input signature tag)
     signature_fails label OutOfMemory h = tt
     signature_fails label e h = rw reads (fails_behind NotAField (signature_under label) (dictionary_of signature) (λ signatures. tagged_in tag (record { inputs = d; signatures = signatures })) e h)
 
-    pub untagged : (label : List ℕ) (o : Option (List ℕ)) → need NotAField (option_map (signature_under label) (dictionary_of signature)) ≡ Ok o → marked_among (codes "tag") tag d ≡ [] → tagged_of input signature tag ≡ Err NoTag
+    pub untagged : (label : List ℕ) (o : Option (List ℕ)) → need NotAField (option_map (signature_under label) (dictionary_of signature)) ≡ Ok o → marked_among (codes "tag") tag d ≡ [] → read_tagged input signature tag ≡ Err NoTag
     untagged label o h none =
         let x = read_behind NotAField (signature_under label) (dictionary_of signature) o h in
         rw (reads, x.1, none_tagged tag d none) refl
 
     pub tagged_once : (label : List ℕ) (list : InnerList) (o : Option (List ℕ)) → need NotAField (option_map (signature_under label) (dictionary_of signature)) ≡ Ok o
-        → marked_among (codes "tag") tag d ≡ (label, Inner list) ∷ [] → tagged_of input signature tag ≡ formed label list o
+        → marked_among (codes "tag") tag d ≡ (label, Inner list) ∷ [] → read_tagged input signature tag ≡ formed label list o
     tagged_once label list o h one =
         let x = read_behind NotAField (signature_under label) (dictionary_of signature) o h in
         rw (reads, x.1, one_tagged tag d label list one) (ap (formed label list) x.2)
 
     pub once_fails : (label : List ℕ) (list : InnerList) (o : Option (List ℕ)) (e : SigFault) → need NotAField (option_map (signature_under label) (dictionary_of signature)) ≡ Ok o
-        → marked_among (codes "tag") tag d ≡ (label, Inner list) ∷ [] → Fails e (formed label list o) → Fails e (tagged_of input signature tag)
+        → marked_among (codes "tag") tag d ≡ (label, Inner list) ∷ [] → Fails e (formed label list o) → Fails e (read_tagged input signature tag)
     once_fails label list o e h one f = subst (Fails e) (sym (tagged_once label list o h one)) f
 
 -- ---- by the fields of a message
@@ -157,7 +157,7 @@ module _ (m : Message) (tag : List ℕ) where
     no_signature OutOfMemory h = tt
     no_signature e h = rw (input_is, h) refl
 
-    pub by_texts : (signature : List ℕ) → need NoField (field_value (codes "signature") m.fields) ≡ Ok signature → tagged m tag ≡ tagged_of input signature tag
+    pub by_texts : (signature : List ℕ) → need NoField (field_value (codes "signature") m.fields) ≡ Ok signature → tagged m tag ≡ read_tagged input signature tag
     unfolding tagged
     by_texts signature signature_is = rw (input_is, signature_is) (by (dictionary_of input) (dictionary_of signature))
       where

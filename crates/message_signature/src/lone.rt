@@ -7,7 +7,7 @@ ghost use Rattle.structured_fields.specs.Reading.{dictionary_of, entry_value_at}
 ghost use Rattle.structured_fields.specs.Passing.{alone, Tells};
 ghost use Rattle.message_signature.specs.declared.fault.SigFault.TheVariants.{NotAField};
 ghost use Rattle.message_signature.specs.Faults.{Fails, Gives, need};
-ghost use Rattle.message_signature.specs.Lone.{bytes_in, formed, lone_seen, tagged_of};
+ghost use Rattle.message_signature.specs.Lone.{bytes_in, formed, lone_seen, read_tagged};
 ghost use Rattle.message_signature.specs.Verified.{signature_under, tagged};
 
 use crate::fault::SigFault;
@@ -27,7 +27,7 @@ pub(crate) struct LoneSignature {
     pub bytes: Bytes,
 }
 
-fn with_tag<'a>(alloc: Global, input: &'a [u8], tag: &[u8]) -> Result<Marked<'a>, SigFault>
+fn find_tagged<'a>(alloc: Global, input: &'a [u8], tag: &[u8]) -> Result<Marked<'a>, SigFault>
     ensures ok { IfOk result (λ found. (d : List (List ℕ × MemberValue)) × (dictionary_of input.now ≡ Some d) × Tells (codes "tag") tag.now found d) }
     ensures err { IfErr result (λ e. Fails e (need NotAField (dictionary_of input.now))) }
 {
@@ -84,10 +84,10 @@ fn lone_in(
     signature: &[u8],
     tag: &[u8],
 ) -> Result<Option<LoneSignature>, SigFault>
-    ensures ok { IfOk result (λ o. IfSome o (λ one. (label : List ℕ) × (tagged_of input.now signature.now tag.now ≡ Ok (lone_seen label one)))) }
-    ensures err { IfErr result (λ e. Fails e (tagged_of input.now signature.now tag.now)) }
+    ensures ok { IfOk result (λ o. IfSome o (λ one. (label : List ℕ) × (read_tagged input.now signature.now tag.now ≡ Ok (lone_seen label one)))) }
+    ensures err { IfErr result (λ e. Fails e (read_tagged input.now signature.now tag.now)) }
 {
-    let found = with_tag(alloc, input, tag)?;
+    let found = find_tagged(alloc, input, tag)?;
     match found {
         Marked::Unsettled => Ok(None),
         Marked::Nowhere => {
@@ -107,7 +107,7 @@ fn lone_in(
 
 /// The one signature with the tag, where the members of the two fields settle it without a dictionary; else None.
 ///
-/// Errors: those of the signature with the tag. OutOfMemory may come in place of any answer.
+/// Errors: those of `signature_fields` and `tagged`. OutOfMemory may come in place of any answer.
 pub(crate) fn lone_signature(
     alloc: Global,
     message: &Message,
