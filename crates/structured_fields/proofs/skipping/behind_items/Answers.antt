@@ -2,7 +2,7 @@ use Rattle.std.proofs.Common.{arith, sym, ◌∙◌, ◌-◌, length}
 use Rattle.std.proofs.lemmas.Result.{err_from_is_err_and}
 use Rattle.structured_fields.specs.Reading.{items_at}
 use Rattle.structured_fields.proofs.Behind.{items_begin, items_closed, items_next, items_stuck, items_fail, items_over}
-use Rattle.structured_fields.proofs.passing.behind_items.Goals as goal
+use Rattle.structured_fields.proofs.skipping.behind_items.Goals as goal
 
 pub loop-init : goal.loop-init
 loop-init c = items_begin c.args.bytes.now

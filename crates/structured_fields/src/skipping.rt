@@ -1,9 +1,9 @@
-//! Passing over what stands at the front of a text: it is read, and nothing of it is held.
+//! Skipping what stands at the front of a text: it is read, and nothing of it is held.
 ghost use Rattle.std.specs.Prelude.{◌≡◌, Some, false};
 ghost use Rattle.std.specs.Option.{option_copied, option_map};
 ghost use Rattle.structured_fields.specs.Reading.{Gives, behind, key_at, string_rest, bare_at, value_of, parameter_at, params_at, item_at, items_at, inner_at, member_at, entry_value_at};
 ghost use Rattle.structured_fields.specs.Letters.{is_token_byte};
-ghost use Rattle.structured_fields.specs.Passing.{past, begins_token, holds_string, of_value, of_parameter, of_params, of_inner, of_member};
+ghost use Rattle.structured_fields.specs.Skipping.{rest_of, begins_token, holds_string, value_matched, parameter_matched, params_matched, inner_matched, member_matched};
 
 use crate::bare::Bare;
 use crate::bare_reading::bare_of;
@@ -20,7 +20,7 @@ use std::alloc::Global;
 // Behind the quote that ends a string. None where none does, or a byte is refused before.
 #[tactic(auto, using(crate::proofs::Behind::string_passes))]
 fn behind_string(bytes: &[u8]) -> Option<&[u8]>
-    ensures { option_copied result ≡ past (string_rest false bytes.now) }
+    ensures { option_copied result ≡ rest_of (string_rest false bytes.now) }
 {
     let (_, rest) = bytes.split_at(plain_run(bytes));
     let mut escaped = false;
@@ -61,7 +61,7 @@ fn begins_token(bytes: &[u8]) -> bool
 // Strings and tokens take no memory.
 #[tactic(auto, using(crate::proofs::Behind::bare_passes))]
 fn behind_bare(alloc: Global, bytes: &[u8]) -> Result<&[u8], FieldFault>
-    ensures { Gives (λ r. r.now) result (past (bare_at bytes.now)) }
+    ensures { Gives (λ r. r.now) result (rest_of (bare_at bytes.now)) }
 {
     if let Some(after) = strip(b'"', bytes) {
         return match behind_string(after) {
@@ -95,7 +95,7 @@ pub(crate) fn key_in(bytes: &[u8]) -> Option<(&[u8], &[u8])>
 
 #[tactic(auto, unfolding(crate::specs::Reading::value_of))]
 fn behind_value(alloc: Global, bytes: &[u8]) -> Result<&[u8], FieldFault>
-    ensures { Gives (λ r. r.now) result (past (value_of bytes.now)) }
+    ensures { Gives (λ r. r.now) result (rest_of (value_of bytes.now)) }
 {
     match strip(b'=', bytes) {
         Some(after) => behind_bare(alloc, after),
@@ -114,14 +114,14 @@ fn is_string(s: &[u8], v: &Bare) -> bool
 
 // Behind the value of a parameter; and whether it is this String, where it is asked for, or else what was so before.
 #[tactic(auto, using(crate::proofs::Behind::value_passes))]
-fn value_marked<'a>(
+fn value_matched<'a>(
     alloc: Global,
     bytes: &'a [u8],
     asked: bool,
     s: &[u8],
     before: bool,
 ) -> Result<(bool, &'a [u8]), FieldFault>
-    ensures { Gives (λ x. (x.0, x.1.now)) result (option_map (of_value asked s.now before) (value_of bytes.now)) }
+    ensures { Gives (λ x. (x.0, x.1.now)) result (option_map (value_matched asked s.now before) (value_of bytes.now)) }
 {
     if !asked {
         return Ok((before, behind_value(alloc, bytes)?));
@@ -132,48 +132,48 @@ fn value_marked<'a>(
 
 // The same of the parameter behind a `;`.
 #[tactic(auto, using(crate::proofs::Behind::parameter_passes))]
-fn parameter_marked<'a>(
+fn parameter_matched<'a>(
     alloc: Global,
     bytes: &'a [u8],
     name: &[u8],
     s: &[u8],
     before: bool,
 ) -> Result<(bool, &'a [u8]), FieldFault>
-    ensures { Gives (λ x. (x.0, x.1.now)) result (option_map (of_parameter name.now s.now before) (parameter_at bytes.now)) }
+    ensures { Gives (λ x. (x.0, x.1.now)) result (option_map (parameter_matched name.now s.now before) (parameter_at bytes.now)) }
 {
     let Some((key, rest)) = key_in(without_spaces(bytes)) else {
         return Err(FieldFault::NotInGrammar);
     };
-    value_marked(alloc, rest, key == name, s, before)
+    value_matched(alloc, rest, key == name, s, before)
 }
 
 // Whether the parameters at the front have the name, with this String, and what stands behind them.
-pub(crate) fn params_marked<'a>(
+pub(crate) fn params_matched<'a>(
     alloc: Global,
     bytes: &'a [u8],
     name: &[u8],
     s: &[u8],
 ) -> Result<(bool, &'a [u8]), FieldFault>
-    ensures { Gives (λ x. (x.0, x.1.now)) result (option_map (of_params name.now s.now) (params_at bytes.now)) }
+    ensures { Gives (λ x. (x.0, x.1.now)) result (option_map (params_matched name.now s.now) (params_at bytes.now)) }
 {
-    let mut marked = false;
+    let mut matched = false;
     let mut left = bytes;
     for _ in 0..bytes.len() {
         let Some(after) = strip(b';', left) else {
-            return Ok((marked, left));
+            return Ok((matched, left));
         };
-        let (now_marked, rest) = parameter_marked(alloc, after, name, s, marked)?;
-        marked = now_marked;
+        let (now_matched, rest) = parameter_matched(alloc, after, name, s, matched)?;
+        matched = now_matched;
         left = rest;
     }
-    Ok((marked, left))
+    Ok((matched, left))
 }
 
 #[tactic(auto, using(crate::proofs::Behind::params_steps))]
 fn behind_params(alloc: Global, bytes: &[u8]) -> Result<&[u8], FieldFault>
-    ensures { Gives (λ r. r.now) result (past (params_at bytes.now)) }
+    ensures { Gives (λ r. r.now) result (rest_of (params_at bytes.now)) }
 {
-    let (_, rest) = params_marked(alloc, bytes, b"", b"")?;
+    let (_, rest) = params_matched(alloc, bytes, b"", b"")?;
     Ok(rest)
 }
 
@@ -181,7 +181,7 @@ fn behind_params(alloc: Global, bytes: &[u8]) -> Result<&[u8], FieldFault>
 
 #[tactic(auto, using(crate::proofs::Behind::item_steps))]
 fn behind_item(alloc: Global, bytes: &[u8]) -> Result<&[u8], FieldFault>
-    ensures { Gives (λ r. r.now) result (past (item_at bytes.now)) }
+    ensures { Gives (λ r. r.now) result (rest_of (item_at bytes.now)) }
 {
     let rest = behind_bare(alloc, bytes)?;
     behind_params(alloc, rest)
@@ -189,7 +189,7 @@ fn behind_item(alloc: Global, bytes: &[u8]) -> Result<&[u8], FieldFault>
 
 // Behind the `)`.
 fn behind_items(alloc: Global, bytes: &[u8]) -> Result<&[u8], FieldFault>
-    ensures { Gives (λ r. r.now) result (past (items_at bytes.now)) }
+    ensures { Gives (λ r. r.now) result (rest_of (items_at bytes.now)) }
 {
     let mut left = bytes;
     for _ in 0..bytes.len() {
@@ -208,45 +208,45 @@ fn behind_items(alloc: Global, bytes: &[u8]) -> Result<&[u8], FieldFault>
 
 // Whether the inner list behind a `(` has the parameter, and what stands behind it.
 #[tactic(auto, using(crate::proofs::Behind::inner_steps))]
-fn inner_marked<'a>(
+fn inner_matched<'a>(
     alloc: Global,
     bytes: &'a [u8],
     name: &[u8],
     s: &[u8],
 ) -> Result<(bool, &'a [u8]), FieldFault>
-    ensures { Gives (λ x. (x.0, x.1.now)) result (option_map (of_inner name.now s.now) (inner_at bytes.now)) }
+    ensures { Gives (λ x. (x.0, x.1.now)) result (option_map (inner_matched name.now s.now) (inner_at bytes.now)) }
 {
     let rest = behind_items(alloc, bytes)?;
-    params_marked(alloc, rest, name, s)
+    params_matched(alloc, rest, name, s)
 }
 
 #[tactic(auto, using(crate::proofs::Behind::member_steps))]
-fn member_marked<'a>(
+fn member_matched<'a>(
     alloc: Global,
     bytes: &'a [u8],
     name: &[u8],
     s: &[u8],
 ) -> Result<(bool, &'a [u8]), FieldFault>
-    ensures { Gives (λ x. (x.0, x.1.now)) result (option_map (of_member name.now s.now) (member_at bytes.now)) }
+    ensures { Gives (λ x. (x.0, x.1.now)) result (option_map (member_matched name.now s.now) (member_at bytes.now)) }
 {
     match strip(b'(', bytes) {
-        Some(after) => inner_marked(alloc, after, name, s),
+        Some(after) => inner_matched(alloc, after, name, s),
         None => Ok((false, behind_item(alloc, bytes)?)),
     }
 }
 
 /// Whether the member behind a key is an inner list with this parameter, which is this String; and what stands behind it.
 #[tactic(auto, using(crate::proofs::Behind::entry_steps))]
-pub(crate) fn entry_value_marked<'a>(
+pub(crate) fn entry_value_matched<'a>(
     alloc: Global,
     bytes: &'a [u8],
     name: &[u8],
     s: &[u8],
 ) -> Result<(bool, &'a [u8]), FieldFault>
-    ensures { Gives (λ x. (x.0, x.1.now)) result (option_map (of_member name.now s.now) (entry_value_at bytes.now)) }
+    ensures { Gives (λ x. (x.0, x.1.now)) result (option_map (member_matched name.now s.now) (entry_value_at bytes.now)) }
 {
     match strip(b'=', bytes) {
-        Some(after) => member_marked(alloc, after, name, s),
+        Some(after) => member_matched(alloc, after, name, s),
         None => Ok((false, behind_params(alloc, bytes)?)),
     }
 }
