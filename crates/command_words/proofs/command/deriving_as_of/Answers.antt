@@ -1,9 +1,9 @@
 use Rattle.std.proofs.Common.{◌∙◌, ◌∷◌, [], ap, sym, Some}
 use Rattle.std.proofs.lemmas.Result.{err_from_is_err_and}
-use Rattle.gnap_tool.specs.declared.command.Command.TheVariants.{Serve}
-use Rattle.gnap_tool.specs.declared.command.Service.TheVariants.{Derivations}
-use Rattle.gnap_tool.proofs.CommandWords.{deriving_wrong, deriving_right}
-use Rattle.gnap_tool.proofs.command.deriving_as_of.Goals as goal
+use Rattle.command_words.specs.declared.command.Command.TheVariants.{Serve}
+use Rattle.command_words.specs.declared.command.Service.TheVariants.{Derivations}
+use Rattle.command_words.proofs.WordCounts.{deriving_wrong, deriving_right}
+use Rattle.command_words.proofs.command.deriving_as_of.Goals as goal
 
 pub returns-in_err-served-clause-read : goal.returns-in_err-served-clause-read
 returns-in_err-served-clause-read c =

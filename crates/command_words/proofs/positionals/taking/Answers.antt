@@ -1,7 +1,7 @@
 use Rattle.std.proofs.Common.{ap, sym, ◌∙◌, add-one}
 use Rattle.clap.specs.Simple.{with_rule}
 use Rattle.command_words.specs.Positionals.{name_of, required, taking}
-use Rattle.command_words.proofs.taking.Goals as goal
+use Rattle.command_words.proofs.positionals.taking.Goals as goal
 
 pub loop-place-preserved : goal.loop-place-preserved
 loop-place-preserved c =

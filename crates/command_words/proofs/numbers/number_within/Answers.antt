@@ -1,6 +1,6 @@
 use Rattle.std.proofs.Common.{◌∙◌, sym}
-use Rattle.gnap_tool.proofs.Words.{past_range}
-use Rattle.gnap_tool.proofs.numbers.number_within.Goals as goal
+use Rattle.command_words.proofs.Numerals.{past_range}
+use Rattle.command_words.proofs.numbers.number_within.Goals as goal
 
 pub returns-in_default-clause-value : goal.returns-in_default-clause-value
 returns-in_default-clause-value c =

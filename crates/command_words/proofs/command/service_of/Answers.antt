@@ -1,7 +1,7 @@
 use Rattle.std.proofs.Common.{[]}
 use Rattle.std.proofs.lemmas.Result.{err_from_is_err_and}
-use Rattle.gnap_tool.proofs.CommandWords.{service_wrong, service_right}
-use Rattle.gnap_tool.proofs.command.service_of.Goals as goal
+use Rattle.command_words.proofs.WordCounts.{service_wrong, service_right}
+use Rattle.command_words.proofs.command.service_of.Goals as goal
 
 pub returns-in_err-served-clause-read : goal.returns-in_err-served-clause-read
 returns-in_err-served-clause-read c =

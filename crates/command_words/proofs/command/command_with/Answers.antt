@@ -1,9 +1,9 @@
 use Rattle.std.proofs.Common.{rules, ◌≡◌, List, ℕ, map, length, string_bytes, sym, subst, Some, None}
 use Rattle.std.proofs.lemmas.List.{length-map}
 use Rattle.command_words.specs.Positionals.{exactly}
-use Rattle.gnap_tool.specs.Commands.{AreRead, counts_of, count_among, command_named}
-use Rattle.gnap_tool.proofs.CommandWords.{miscounted, unnamed, read_again}
-use Rattle.gnap_tool.proofs.command.command_with.Goals as goal
+use Rattle.command_words.specs.Commands.{AreRead, counts_of, count_among, command_named}
+use Rattle.command_words.proofs.WordCounts.{miscounted, unnamed, read_again}
+use Rattle.command_words.proofs.command.command_with.Goals as goal
 
 pub returns-in_default-clause-read : goal.returns-in_default-clause-read
 returns-in_default-clause-read c =

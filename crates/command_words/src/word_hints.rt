@@ -1,6 +1,6 @@
 //! What a person is told, on standard error, of words that are no command.
 use crate::command::counts_of;
-use crate::hints::{tell, tell_number, tell_shown};
+use crate::telling::{tell, tell_number, tell_shown};
 use crate::usage::USAGE;
 use crate::wrong_words::WordForm;
 use gnap_io::device::Sink;

@@ -1,24 +1,22 @@
--- What the words of a command line mean, and what each command opens.
+-- Which command the words of a command line are.
 use Rattle.std.specs.Prelude.{◌≡◌, ◌≤◌, ℕ, List, [], ◌∷◌, Bool, true, false, not, ◌==◌, ◌&&◌, IfSome, codes, Option, Some, None, is_some, option_map, option_and_then, slice_get, Result, MatchResult, if◌then◌else◌}
 use Rattle.std.specs.List.{list_all}
 use Rattle.std.specs.Option.{option_or}
 use Rattle.std.specs.Str.{bytes_eq}
 use Rattle.bytes_and_lists.specs.Moments.{last_moment}
 use Rattle.message_signature.specs.Marks.{is_nonce}
-use Rattle.gnap_io.specs.declared.world.Opening.{Opening}
-use Rattle.gnap_io.specs.declared.world.Opening.TheVariants.{File, Gears, Link}
-use Rattle.gnap_tool.specs.declared.command.Command.{Command}
-use Rattle.gnap_tool.specs.declared.command.Command.TheVariants.{Replay, Field, Sign, Verify, Serve, Rs, Client, Hash, Load}
-use Rattle.gnap_tool.specs.declared.command.Service.{Service}
-use Rattle.gnap_tool.specs.declared.command.Service.TheVariants.{Grants, Derivations, Sets}
-use Rattle.gnap_tool.specs.declared.command.ServedSetup.{ServedSetup}
+use Rattle.command_words.specs.declared.command.Command.{Command}
+use Rattle.command_words.specs.declared.command.Command.TheVariants.{Replay, Field, Sign, Verify, Serve, Rs, Client, Hash, Load}
+use Rattle.command_words.specs.declared.command.Service.{Service}
+use Rattle.command_words.specs.declared.command.Service.TheVariants.{Grants, Derivations, Sets}
+use Rattle.command_words.specs.declared.command.ServedSetup.{ServedSetup}
 use Rattle.printed_answers.specs.declared.fields.Kind.{Kind}
 use Rattle.printed_answers.specs.declared.fields.Kind.TheVariants.{Item, List as AList, Dictionary}
-use Rattle.gnap_tool.specs.declared.wrong_words.WordForm.{WordForm}
-use Rattle.gnap_tool.specs.declared.wrong_words.WordForm.TheVariants as forms
-use Rattle.gnap_tool.specs.declared.wrong_words.WrongWords.{WrongWords}
-use Rattle.gnap_tool.specs.declared.wrong_words.WrongWords.TheVariants as wrong
-use Rattle.gnap_tool.specs.Numbers.{number_within}
+use Rattle.command_words.specs.declared.wrong_words.WordForm.{WordForm}
+use Rattle.command_words.specs.declared.wrong_words.WordForm.TheVariants as forms
+use Rattle.command_words.specs.declared.wrong_words.WrongWords.{WrongWords}
+use Rattle.command_words.specs.declared.wrong_words.WrongWords.TheVariants as wrong
+use Rattle.command_words.specs.Numbers.{number_within}
 
 -- a word that may be an argument: it isn't empty, and doesn't begin with `-`
 abbrev pub is_argument : List ℕ → Bool
@@ -218,61 +216,3 @@ IsWithinRanges (Rs config listen server quota cache) = IfSome cache (λ n. (1 �
 IsWithinRanges (Client config address script) = Unit {0}
 IsWithinRanges (Hash texts) = Unit {0}
 IsWithinRanges (Load grants start workers) = (1 ≤ workers) × (workers ≤ 64)
-
--- ---- whom they wait for
-
--- whether a command has workers: then threads are started, and a worker may wait for its turn at what they share
-abbrev pub has_workers : Command → Bool
-has_workers (Replay file) = false
-has_workers (Field kind file) = false
-has_workers (Sign config key created file _) = false
-has_workers (Verify config now file) = false
-has_workers (Serve service served) = true
-has_workers (Rs config listen server quota cache) = false
-has_workers (Client config address script) = false
-has_workers (Hash texts) = false
-has_workers (Load grants start workers) = true
-
--- ---- what they open
-
--- what is opened behind the setup that is served
-abbrev pub service_openings : Service → ServedSetup → List Opening
-service_openings Grants served = Gears served.listen served.workers served.quota ∷ []
-service_openings (Derivations pairs) served = File pairs ∷ Gears served.listen served.workers served.quota ∷ []
-service_openings Sets served = Gears served.listen served.workers served.quota ∷ []
-
--- what a command opens, in order
-abbrev pub openings_of : Command → List Opening
-openings_of (Replay file) = File file ∷ []
-openings_of (Field kind file) = File file ∷ []
-openings_of (Sign config key created file _) = File config ∷ File file ∷ []
-openings_of (Verify config now file) = File config ∷ File file ∷ []
-openings_of (Serve service served) = File served.config ∷ service_openings service served
-openings_of (Rs config listen server quota cache) = File config ∷ Link server ∷ Gears listen 1 quota ∷ []
-openings_of (Client config address script) = File config ∷ Link address ∷ File script ∷ []
-openings_of (Hash texts) = []
-openings_of (Load grants start workers) = []
-
--- how many connections each gear of a command is to serve
-abbrev pub quota_of : Command → Option ℕ
-quota_of (Replay file) = None
-quota_of (Field kind file) = None
-quota_of (Sign config key created file _) = None
-quota_of (Verify config now file) = None
-quota_of (Serve service served) = Some served.quota
-quota_of (Rs config listen server quota cache) = Some quota
-quota_of (Client config address script) = None
-quota_of (Hash texts) = None
-quota_of (Load grants start workers) = None
-
--- which of the files that a command opens is the input that may be too long, counted from 0; none where it has no such input
-abbrev pub input_place : Command → Option ℕ
-input_place (Replay file) = Some 0
-input_place (Field kind file) = Some 0
-input_place (Sign config key created file _) = None
-input_place (Verify config now file) = None
-input_place (Serve service served) = None
-input_place (Rs config listen server quota cache) = None
-input_place (Client config address script) = Some 1
-input_place (Hash texts) = None
-input_place (Load grants start workers) = None

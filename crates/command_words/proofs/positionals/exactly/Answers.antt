@@ -2,7 +2,7 @@ use Rattle.std.proofs.Common.{rules, ◌≡◌, List, map, string_bytes, sym, su
 use Rattle.clap.specs.Walk.{Text, texts}
 use Rattle.command_words.specs.Positionals.{after_dashes}
 use Rattle.command_words.proofs.Refusals.{taken}
-use Rattle.command_words.proofs.exactly.Goals as goal
+use Rattle.command_words.proofs.positionals.exactly.Goals as goal
 
 pub returns-in-Some : goal.returns-in-Some
 returns-in-Some c =

@@ -8,7 +8,7 @@ use Rattle.clap.specs.Values.{kind_of}
 use Rattle.command_words.specs.Positionals.{taking}
 use Rattle.command_words.proofs.AfterDashes.{simple_and_free}
 use Rattle.command_words.proofs.Refusals.{refused, took}
-use Rattle.command_words.proofs.matches_of.Goals as goal
+use Rattle.command_words.proofs.positionals.matches_of.Goals as goal
 
 pub returns : goal.returns
 returns c = λ words is.

@@ -6,7 +6,7 @@ use Rattle.std.specs.Char.{is_ascii_digit, digit_value}
 use Rattle.std.specs.Str.Parse.{IsNumeral, AllDigits, digits_value, without_leading_plus}
 use Rattle.std.proofs.lemmas.Bool.{and_parts, leb-true, false_from_ne_true}
 use Rattle.std.proofs.lemmas.Bool.Decides.{nat_tests}
-use Rattle.gnap_tool.specs.Numbers.{has_no_needless_zero, is_number, number_within}
+use Rattle.command_words.specs.Numbers.{has_no_needless_zero, is_number, number_within}
 
 digit_below : (c : ℕ) → is_ascii_digit c ≡ true → digit_value c < 10
 digit_below c is = grind (arith, nat_tests)

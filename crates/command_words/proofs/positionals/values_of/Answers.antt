@@ -3,7 +3,7 @@ use Rattle.std.proofs.lemmas.List.{map-append}
 use Rattle.clap.specs.Matches.{first_value, found_of}
 use Rattle.command_words.specs.Positionals.{name_of}
 use Rattle.command_words.proofs.Refusals.{one_more}
-use Rattle.command_words.proofs.values_of.Goals as goal
+use Rattle.command_words.proofs.positionals.values_of.Goals as goal
 
 pub loop-place-preserved : goal.loop-place-preserved
 loop-place-preserved c = λ words number has.

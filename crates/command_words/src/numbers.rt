@@ -2,7 +2,7 @@
 ghost use Rattle.std.specs.Prelude.{◌≡◌, ◌≤◌, IfSome};
 ghost use Rattle.std.specs.Char.{is_ascii_digit};
 ghost use Rattle.std.specs.List.{list_all};
-ghost use Rattle.gnap_tool.specs.Numbers.{has_no_needless_zero, is_number, number_within};
+ghost use Rattle.command_words.specs.Numbers.{has_no_needless_zero, is_number, number_within};
 
 fn has_no_needless_zero(digits: &[u8]) -> bool
     ensures { result ≡ has_no_needless_zero digits.now }

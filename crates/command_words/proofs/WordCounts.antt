@@ -4,14 +4,14 @@ use Rattle.std.specs.Prelude.{◌==◌, codes, option_map, if◌then◌else◌}
 use Rattle.std.specs.Option.{option_or}
 use Rattle.std.specs.Str.{bytes_eq}
 use Rattle.command_words.specs.Positionals.{exactly}
-use Rattle.gnap_tool.specs.declared.command.Command.{Command}
-use Rattle.gnap_tool.specs.declared.command.Command.TheVariants.{Serve}
-use Rattle.gnap_tool.specs.declared.command.Service.{Service}
-use Rattle.gnap_tool.specs.declared.command.Service.TheVariants.{Grants, Derivations, Sets}
-use Rattle.gnap_tool.specs.declared.command.ServedSetup.{ServedSetup}
-use Rattle.gnap_tool.specs.declared.wrong_words.WrongWords.{WrongWords}
-use Rattle.gnap_tool.specs.declared.wrong_words.WrongWords.TheVariants.{NoCommand, Count, Word, OutOfMemory}
-use Rattle.gnap_tool.specs.Commands.{AreRead, AreWrong, replay_of, field_of, with_three, with_four, with_five, sign_words, marked_sign_words, sign_of, verify_words, is_argument, served_setup, service_words, deriving_words, as_of, rs_words, cached_rs_words, rs_of, client_words, hash_of, load_words, counts_of, count_among, command_named}
+use Rattle.command_words.specs.declared.command.Command.{Command}
+use Rattle.command_words.specs.declared.command.Command.TheVariants.{Serve}
+use Rattle.command_words.specs.declared.command.Service.{Service}
+use Rattle.command_words.specs.declared.command.Service.TheVariants.{Grants, Derivations, Sets}
+use Rattle.command_words.specs.declared.command.ServedSetup.{ServedSetup}
+use Rattle.command_words.specs.declared.wrong_words.WrongWords.{WrongWords}
+use Rattle.command_words.specs.declared.wrong_words.WrongWords.TheVariants.{NoCommand, Count, Word, OutOfMemory}
+use Rattle.command_words.specs.Commands.{AreRead, AreWrong, replay_of, field_of, with_three, with_four, with_five, sign_words, marked_sign_words, sign_of, verify_words, is_argument, served_setup, service_words, deriving_words, as_of, rs_words, cached_rs_words, rs_of, client_words, hash_of, load_words, counts_of, count_among, command_named}
 
 no_replay : (words : List (List ℕ)) → exactly 1 words ≡ None → replay_of words ≡ None
 no_replay [] is = refl

@@ -1,16 +1,16 @@
 //! The commands, and which of them words are.
 ghost use Rattle.std.specs.Prelude.{◌≡◌, ◌≤◌, ◌⊎◌, ℕ, List, Option, Some, None, false, true, drop, [], ◌∷◌, IfOk, IfErr, IfSome, IfNone, map, string_bytes};
-ghost use Rattle.gnap_tool.specs.Commands.{AreRead, IsWithinRanges, is_argument, is_nonce_word, kind_of, replay_of, field_of, with_three, with_four, with_five, sign_words, marked_sign_words, sign_of, verify_words, AreFewWorkers, served_setup, service_words, deriving_words, as_of, rs_words, cached_rs_words, rs_of, client_words, long_method, hash_of, load_words, counts_of, count_among, command_named, command_of};
+ghost use Rattle.command_words.specs.Commands.{AreRead, IsWithinRanges, is_argument, is_nonce_word, kind_of, replay_of, field_of, with_three, with_four, with_five, sign_words, marked_sign_words, sign_of, verify_words, AreFewWorkers, served_setup, service_words, deriving_words, as_of, rs_words, cached_rs_words, rs_of, client_words, long_method, hash_of, load_words, counts_of, count_among, command_named, command_of};
 ghost use Rattle.message_signature.specs.Marks.{is_nonce};
-ghost use Rattle.gnap_tool.specs.Numbers.{number_within};
-ghost use Rattle.gnap_tool.specs.declared.wrong_words.WrongWords.TheVariants.{Word, OutOfMemory};
-ghost use Rattle.gnap_tool.specs.declared.wrong_words.WordForm.TheVariants as forms;
+ghost use Rattle.command_words.specs.Numbers.{number_within};
+ghost use Rattle.command_words.specs.declared.wrong_words.WrongWords.TheVariants.{Word, OutOfMemory};
+ghost use Rattle.command_words.specs.declared.wrong_words.WordForm.TheVariants as forms;
 
 use crate::numbers::number_within;
+use crate::positionals::exactly;
 use crate::wrong_words::{WordForm, WrongWords};
 use bytes_and_lists::bytes::Bytes;
 use bytes_and_lists::memory::Mem;
-use command_words::exactly;
 use message_signature::is_nonce;
 use printed_answers::{HashedTexts, Kind};
 use std::alloc::Global;
@@ -239,7 +239,7 @@ fn marked_sign_of(alloc: Global, words: &[String]) -> Result<Command, WrongWords
 }
 
 // Four words, or five with a nonce.
-#[tactic(auto, using(crate::proofs::CommandWords::of_five, crate::proofs::CommandWords::of_four))]
+#[tactic(auto, using(crate::proofs::WordCounts::of_five, crate::proofs::WordCounts::of_four))]
 fn sign_of(alloc: Global, words: &[String]) -> Result<Command, WrongWords>
     ensures read { AreRead result (map string_bytes words.now) (sign_of (map string_bytes words.now)) }
     ensures ranges { IfOk result IsWithinRanges }
@@ -283,7 +283,7 @@ fn served_setup(
     })
 }
 
-#[tactic(auto, using(crate::proofs::CommandWords::service_wrong, crate::proofs::CommandWords::service_right))]
+#[tactic(auto, using(crate::proofs::WordCounts::service_wrong, crate::proofs::WordCounts::service_right))]
 fn service_of(alloc: Global, service: Service, words: &[String]) -> Result<Command, WrongWords>
     ensures read { AreRead result (map string_bytes words.now) (with_four (service_words service) (map string_bytes words.now)) }
     ensures ranges { IfOk result IsWithinRanges }
@@ -296,7 +296,7 @@ fn service_of(alloc: Global, service: Service, words: &[String]) -> Result<Comma
 }
 
 // The same with a file of pairs.
-#[tactic(auto, using(crate::proofs::CommandWords::deriving_wrong, crate::proofs::CommandWords::deriving_right))]
+#[tactic(auto, using(crate::proofs::WordCounts::deriving_wrong, crate::proofs::WordCounts::deriving_right))]
 fn deriving_as_of(alloc: Global, words: &[String]) -> Result<Command, WrongWords>
     ensures read { AreRead result (map string_bytes words.now) (with_five deriving_words (map string_bytes words.now)) }
     ensures ranges { IfOk result IsWithinRanges }
@@ -310,7 +310,7 @@ fn deriving_as_of(alloc: Global, words: &[String]) -> Result<Command, WrongWords
 }
 
 // Four words, or five with pairs.
-#[tactic(auto, using(crate::proofs::CommandWords::as_of_five, crate::proofs::CommandWords::as_of_four))]
+#[tactic(auto, using(crate::proofs::WordCounts::as_of_five, crate::proofs::WordCounts::as_of_four))]
 fn as_of(alloc: Global, words: &[String]) -> Result<Command, WrongWords>
     ensures read { AreRead result (map string_bytes words.now) (as_of (map string_bytes words.now)) }
     ensures ranges { IfOk result IsWithinRanges }
@@ -353,7 +353,7 @@ fn cached_rs_of(alloc: Global, words: &[String]) -> Result<Command, WrongWords>
 }
 
 // Four words, or five with a cache.
-#[tactic(auto, using(crate::proofs::CommandWords::rs_of_five, crate::proofs::CommandWords::rs_of_four))]
+#[tactic(auto, using(crate::proofs::WordCounts::rs_of_five, crate::proofs::WordCounts::rs_of_four))]
 fn rs_of(alloc: Global, words: &[String]) -> Result<Command, WrongWords>
     ensures read { AreRead result (map string_bytes words.now) (rs_of (map string_bytes words.now)) }
     ensures ranges { IfOk result IsWithinRanges }
