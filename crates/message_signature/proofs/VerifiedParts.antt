@@ -11,12 +11,12 @@ use Rattle.structured_fields.specs.Reading.{dictionary_of}
 use Rattle.structured_fields.proofs.Fronts.{some_is}
 use Rattle.hmac_key.specs.Hmac.{hmac_sha256}
 use Rattle.message_signature.specs.declared.fault.SigFault.{SigFault}
-use Rattle.message_signature.specs.declared.fault.SigFault.TheVariants.{NoField, NotAField, Malformed, Unsupported, UnknownKey, Differs}
+use Rattle.message_signature.specs.declared.fault.SigFault.TheVariants.{NoField, NotAField, Malformed, Unsupported, UnknownKey, Differs, Digest}
 use Rattle.message_signature.specs.declared.tags.SignatureFields.{SignatureFields}
 use Rattle.message_signature.specs.Components.{field_value}
 use Rattle.message_signature.specs.Base.{signature_base}
 use Rattle.message_signature.specs.Faults.{◌>>=◌}
-use Rattle.message_signature.specs.Verified.{with_tag, only_one, signature_under, is_well_formed, key_in, Signature, signature_fields, tagged_in, tagged, admitted, made_under, judged_over, judged, verified, lone_list}
+use Rattle.message_signature.specs.Verified.{with_tag, only_one, signature_under, is_well_formed, key_in, has_right_digest, Signature, signature_fields, tagged_in, tagged, admitted, made_under, judged_over, judged, verified, lone_list}
 use Rattle.message_signature.specs.Marks.{mark_in, mark_in_found, mark_of}
 use Rattle.message_signature.specs.Marked.{with_mark, verified_marked, id_and_mark}
 use Rattle.message_signature.proofs.CheckSteps.{step_ok, need_ok, must_ok}
@@ -56,6 +56,7 @@ verified_key m base ring now tag id e =
     let both = step_ok (admitted m now list) (λ _. made_under m text.value ring list one.value.bytes) id text.rest in
     let key = need_ok UnknownKey (key_in ring (value_at list.params (codes "keyid"))) _ id both.rest in
     let right = must_ok Differs (bytes_eq one.value.bytes (hmac_sha256 key.value.1 text.value)) _ id key.rest in
+    let digest = must_ok Digest (has_right_digest m) _ id right.1 in
     let same : key.value.0 ≡ id = cc in
     (key.value.1, subst (λ (i : List ℕ). value_at ring i ≡ Some key.value.1) same (key_says ring (value_at list.params (codes "keyid")) key.value key.is).key)
 
