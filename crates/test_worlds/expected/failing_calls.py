@@ -35,14 +35,16 @@ def accepts():
 
 @dataclass(frozen=True)
 class Failure:
-    """The call that fails. A connection or an exchange is told by its place, counted from 1."""
+    """The call that fails: a read or a write of a server's connection, or an exchange over a link. Connections, their calls and exchanges are counted from 1."""
     what: str
     where: str
     place: int
     number: int = 1
 
     def __str__(self):
-        return f"{self.what} {self.number} of connection {self.place} of the {self.where}" if self.what != "exchange" else f"exchange {self.place} of the {self.where}"
+        if self.what == "exchange":
+            return f"exchange {self.place} of the {self.where}"
+        return f"{self.what} {self.number} of connection {self.place} of the {self.where}"
 
 
 class Peer:
@@ -101,6 +103,8 @@ class Path:
 
 
 class Story:
+    """What all of them do and are answered."""
+
     def __init__(self, failure=None):
         self.client = Client(read_config(CONFIG_TEXT.encode()))
         self.server = Peer("server", Service(read_setup(compact(SETUP).encode())), failure)

@@ -165,17 +165,16 @@ fn front(alloc: Global, case: &Case) -> Result<HttpFront<AuthorizationServer>, F
     }
 }
 
-/// Serves the connections of the four gears of the case in one order, under the setup that its first file is. The status of `as`, and what was written to
-/// each connection of each gear.
-pub(crate) fn served_in_order<R: Threads + Wait + Sync>(
+// Serves what four gears give that count in one place how many connections were served.
+fn serve_counted<R: Threads + Wait + Sync>(
     rt: &R,
     alloc: Global,
     case: &Case,
+    count: &AtomicU64,
 ) -> Result<(u8, Vec<Vec<String>>), Fault> {
-    let count = AtomicU64::new(0);
     let front = front(alloc, case)?;
     let core = TableCore::new(alloc, front.server.edge.setup().copy()?);
-    let (gears, ended) = serve_gears(rt, alloc, core, &front, four_gears(alloc, case, &count)?);
+    let (gears, ended) = serve_gears(rt, alloc, core, &front, four_gears(alloc, case, count)?);
     ended?;
     let mut status = 0;
     let mut served = Vec::new(alloc);
@@ -186,4 +185,15 @@ pub(crate) fn served_in_order<R: Threads + Wait + Sync>(
         served.push(written(alloc, &gear.gear)?)?;
     }
     Ok((status, served))
+}
+
+/// Serves the connections of the four gears of the case in one order, under the setup that its first file is. The status of `as`, and what was written to
+/// each connection of each gear.
+pub(crate) fn served_in_order<R: Threads + Wait + Sync>(
+    rt: &R,
+    alloc: Global,
+    case: &Case,
+) -> Result<(u8, Vec<Vec<String>>), Fault> {
+    let count = AtomicU64::new(0);
+    serve_counted(rt, alloc, case, &count)
 }
