@@ -37,10 +37,11 @@ digested m = by (has_body m) (has_field digest_name m) refl refl
     by true true p q = record { body = refl; beside = λ name other. refl; there = λ h. q; fits = λ h. h }
     by false b p q = record { body = refl; beside = λ name other. refl; there = λ h. absurd (true≢false (sym h ∙ p)); fits = λ h. h }
     by true false p q =
+        let added = digest_value m q in
         record {
           body = refl;
           beside = λ name other. value_beside name m.fields (digest_lines m) (rw other refl);
-          there = λ h. ap is_some (digest_value m q);
+          there = λ h. ap is_some added;
           fits = λ h field e. let same : digest_text m.body ≡ field = cc in subst (λ (t : List ℕ). Fits t m.body) same (line_fits m.body);
         }
 
