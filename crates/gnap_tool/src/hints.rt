@@ -1,27 +1,13 @@
-//! What a person is told, on standard error. Whether it is written changes nothing else.
-use crate::command::{Command, Service};
+//! What a person is told, on standard error, of a command that wasn't carried out. Whether it is written changes nothing else.
 use bytes_and_lists::bytes::Bytes;
 use command_inputs::{ConfigKind, Ended, WrongSetup};
+use command_words::telling::{tell, tell_number, tell_shown};
+use command_words::{Command, Service};
 use fault_places::FaultPlace;
 use gnap_io::device::{Sink, write_all};
 use gnap_objects::{ObjectFault, SetupFault};
 use std::fmt;
 use std::fmt::Write;
-
-/// Writes these pieces, as far as they can be written.
-pub(crate) fn tell<E: Sink>(err: &mut E, pieces: &[&[u8]]) {
-    for piece in pieces {
-        if write_all(err, piece).is_err() {
-            return;
-        }
-    }
-}
-
-/// Writes a number in decimal digits.
-pub(crate) fn tell_number<E: Sink>(err: &mut E, number: usize) {
-    let mut digits = itoa::Buffer::new();
-    tell(err, &[digits.format(number).as_bytes()]);
-}
 
 // A sink as what words are written to.
 #[derive(Drop)]
@@ -42,25 +28,6 @@ impl<E: Sink> fmt::Write for Said<'_, E> {
 fn tell_fault<E: Sink, F: fmt::Display>(err: &mut E, fault: &F) {
     let mut said = Said { err };
     let _written = write!(said, "{fault}");
-}
-
-// How many bytes of a word or a name are shown.
-const SHOWN: usize = 64;
-
-/// Writes the beginning of a text that somebody else wrote, with `?` for bytes that a terminal may act on.
-pub(crate) fn tell_shown<E: Sink>(err: &mut E, text: &[u8]) {
-    let mut shown = [b'?'; SHOWN];
-    for place in 0..SHOWN {
-        match text.get(place) {
-            Some(byte) if !byte.is_ascii_control() => shown[place] = *byte,
-            _ => {}
-        }
-    }
-    if text.len() <= SHOWN {
-        tell(err, &[&shown[..text.len()]]);
-    } else {
-        tell(err, &[&shown[..], b".."]);
-    }
 }
 
 // The form of the member of this name, of pairs or of one of them.
@@ -153,9 +120,7 @@ fn tell_no_setup<E: Sink>(err: &mut E, command: &Command, kind: ConfigKind) {
     let Some((front, file)) = config_of(command, kind) else {
         return;
     };
-    tell(err, &[b"gnap: "]);
-    tell(err, &[front.as_bytes()]);
-    tell(err, &[file.as_slice()]);
+    tell(err, &[b"gnap: ", front.as_bytes(), file.as_slice()]);
     match kind {
         ConfigKind::Setup => tell(err, &[b" is no setup: "]),
         ConfigKind::Configuration => tell(err, &[b" is no configuration: "]),
@@ -270,7 +235,7 @@ fn tell_refusal<E: Sink>(err: &mut E, command: &Command) {
 }
 
 /// Tells what happened, where a command wasn't carried out.
-pub fn explain<E: Sink>(err: &mut E, command: &Command, ended: &Ended) {
+pub(crate) fn explain<E: Sink>(err: &mut E, command: &Command, ended: &Ended) {
     let (front, back): (&[u8], &[u8]) = match ended {
         Ended::Done => return,
         Ended::NoSetup(why) => return tell_setup(err, command, why),

@@ -1,4 +1,3 @@
-pub mod Examples
 pub mod Fields
 pub mod Lines
 pub mod WithTag
@@ -6,11 +5,6 @@ pub mod LoneSteps
 pub mod Appended
 pub mod SignedFields
 pub mod SignedBase
-pub mod Passes
 pub mod SigningSteps
-pub mod AcceptedSteps
-pub mod AcceptedTests
-pub mod AcceptedTag
-pub mod AcceptedParts
-pub mod Accepted
-pub mod MarkSizes
+pub mod CheckSteps
+pub mod VerifiedParts

@@ -9,14 +9,14 @@ use Rattle.structured_fields.specs.declared.item.InnerList.{InnerList}
 use Rattle.structured_fields.specs.declared.item.Member.{Member}
 use Rattle.structured_fields.specs.declared.item.Member.TheVariants.{Item as Single, Inner}
 use Rattle.structured_fields.specs.Named.{value_at}
-use Rattle.structured_fields.specs.Passing.{alone, holds_string, marked_among, single_in}
+use Rattle.structured_fields.specs.Skipping.{front_of, holds_string, matches_among, single_in}
 use Rattle.structured_fields.specs.Reading.{dictionary_of, entry_value_at}
 use Rattle.structured_fields.proofs.Fronts.{some_is}
 use Rattle.message_signature.specs.declared.fault.SigFault.{SigFault}
 use Rattle.message_signature.specs.declared.fault.SigFault.TheVariants.{NoField, NotAField, NoTag, OutOfMemory}
 use Rattle.message_signature.specs.Components.{field_value}
 use Rattle.message_signature.specs.Faults.{◌>>=◌, need, Fails}
-use Rattle.message_signature.specs.Lone.{tagged_of, bytes_in, formed}
+use Rattle.message_signature.specs.Lone.{read_tagged, bytes_in, formed}
 use Rattle.message_signature.specs.Verified.{Signature, is_text, with_tag, signature_under, tagged_in, tagged, judged, verified}
 use Rattle.message_signature.specs.Marked.{id_and_mark, judged_with_mark}
 
@@ -37,36 +37,36 @@ same_text s (Some (Date n)) = refl
 same_text s (Some (Display t)) = refl
 
 module _ (tag : List ℕ) where
-  abbrev marked : List Entry → List Entry
-  marked d = marked_among (codes "tag") tag d
+  abbrev matching : List Entry → List Entry
+  matching d = matches_among (codes "tag") tag d
 
   abbrev holds : InnerList → Bool
   holds list = holds_string tag (value_at list.params (codes "tag"))
 
-  pub none_tagged : (d : List Entry) → marked d ≡ [] → with_tag tag d ≡ []
+  pub none_tagged : (d : List Entry) → matching d ≡ [] → with_tag tag d ≡ []
   none_tagged [] h = refl
   none_tagged ((name, Single item) ∷ d) h = none_tagged d h
   none_tagged ((name, Inner list) ∷ d) h = by (holds list) refl h (none_tagged d)
     where
-      by : (b : Bool) → holds list ≡ b → cond b ((name, Inner list) ∷ marked d) (marked d) ≡ [] → (marked d ≡ [] → with_tag tag d ≡ []) → with_tag tag ((name, Inner list) ∷ d) ≡ []
+      by : (b : Bool) → holds list ≡ b → cond b ((name, Inner list) ∷ matching d) (matching d) ≡ [] → (matching d ≡ [] → with_tag tag d ≡ []) → with_tag tag ((name, Inner list) ∷ d) ≡ []
       by true t h again = absurd cc
       by false t h again =
           let first : is_text tag (value_at list.params (codes "tag")) ≡ false = same_text tag (value_at list.params (codes "tag")) ∙ t in
           rw first (again h)
 
-  pub one_tagged : (d : List Entry) (label : List ℕ) (one : InnerList) → marked d ≡ (label, Inner one) ∷ [] → with_tag tag d ≡ (label, one) ∷ []
+  pub one_tagged : (d : List Entry) (label : List ℕ) (one : InnerList) → matching d ≡ (label, Inner one) ∷ [] → with_tag tag d ≡ (label, one) ∷ []
   one_tagged [] label one h = absurd cc
   one_tagged ((name, Single item) ∷ d) label one h = one_tagged d label one h
   one_tagged ((name, Inner list) ∷ d) label one h = by (holds list) refl h (none_tagged d) (one_tagged d label one)
     where
-      by : (b : Bool) → holds list ≡ b → cond b ((name, Inner list) ∷ marked d) (marked d) ≡ (label, Inner one) ∷ [] → (marked d ≡ [] → with_tag tag d ≡ [])
-          → (marked d ≡ (label, Inner one) ∷ [] → with_tag tag d ≡ (label, one) ∷ []) → with_tag tag ((name, Inner list) ∷ d) ≡ (label, one) ∷ []
+      by : (b : Bool) → holds list ≡ b → cond b ((name, Inner list) ∷ matching d) (matching d) ≡ (label, Inner one) ∷ [] → (matching d ≡ [] → with_tag tag d ≡ [])
+          → (matching d ≡ (label, Inner one) ∷ [] → with_tag tag d ≡ (label, one) ∷ []) → with_tag tag ((name, Inner list) ∷ d) ≡ (label, one) ∷ []
       by true t h none again =
           let first : is_text tag (value_at list.params (codes "tag")) ≡ true = same_text tag (value_at list.params (codes "tag")) ∙ t in
           let held : Entry = (name, Inner list) in
           let only : Entry = (label, Inner one) in
           let same : held ≡ only = cc in
-          let others : marked d ≡ [] = cc in
+          let others : matching d ≡ [] = cc in
           let names : name ≡ label = ap (λ (e : Entry). e.0) same in
           let members : Inner list ≡ Inner one = ap (λ (e : Entry). e.1) same in
           let lists : list ≡ one = cc in
@@ -76,10 +76,10 @@ module _ (tag : List ℕ) where
           rw first (again h)
 
 -- the member behind the label of the one that is marked is this list
-pub once_is : (tag value label : List ℕ) (d : List Entry) (list : InnerList) (m : Member) (rest : List ℕ) → alone (entry_value_at value) ≡ Some (Inner list) → entry_value_at value ≡ Some (m, rest)
-    → marked_among (codes "tag") tag d ≡ (label, m) ∷ [] → marked_among (codes "tag") tag d ≡ (label, Inner list) ∷ []
+pub once_is : (tag value label : List ℕ) (d : List Entry) (list : InnerList) (m : Member) (rest : List ℕ) → front_of (entry_value_at value) ≡ Some (Inner list) → entry_value_at value ≡ Some (m, rest)
+    → matches_among (codes "tag") tag d ≡ (label, m) ∷ [] → matches_among (codes "tag") tag d ≡ (label, Inner list) ∷ []
 once_is tag value label d list m rest is read one =
-    let twice : alone (entry_value_at value) ≡ Some m = ap alone read in
+    let twice : front_of (entry_value_at value) ≡ Some m = ap front_of read in
     let same : m ≡ Inner list = some_is m (Inner list) (sym twice ∙ is) in
     one ∙ ap (λ (x : Member). (label, x) ∷ []) same
 
@@ -119,28 +119,28 @@ module _ (input signature tag : List ℕ) where
   abbrev rest : List Entry → Result Signature SigFault
   rest inputs = need NotAField (dictionary_of signature) >>= λ signatures. tagged_in tag (record { inputs = inputs; signatures = signatures })
 
-  pub input_fails : (e : SigFault) → Fails e (need NotAField (dictionary_of input)) → Fails e (tagged_of input signature tag)
+  pub input_fails : (e : SigFault) → Fails e (need NotAField (dictionary_of input)) → Fails e (read_tagged input signature tag)
   input_fails OutOfMemory h = tt
   input_fails e h = ap (λ (r : Result (List Entry) SigFault). r >>= rest) h
 
   module _ (d : List Entry) (reads : dictionary_of input ≡ Some d) where
-    pub signature_fails : (label : List ℕ) (e : SigFault) → Fails e (need NotAField (option_map (signature_under label) (dictionary_of signature))) → Fails e (tagged_of input signature tag)
+    pub signature_fails : (label : List ℕ) (e : SigFault) → Fails e (need NotAField (option_map (signature_under label) (dictionary_of signature))) → Fails e (read_tagged input signature tag)
     signature_fails label OutOfMemory h = tt
     signature_fails label e h = rw reads (fails_behind NotAField (signature_under label) (dictionary_of signature) (λ signatures. tagged_in tag (record { inputs = d; signatures = signatures })) e h)
 
-    pub untagged : (label : List ℕ) (o : Option (List ℕ)) → need NotAField (option_map (signature_under label) (dictionary_of signature)) ≡ Ok o → marked_among (codes "tag") tag d ≡ [] → tagged_of input signature tag ≡ Err NoTag
+    pub untagged : (label : List ℕ) (o : Option (List ℕ)) → need NotAField (option_map (signature_under label) (dictionary_of signature)) ≡ Ok o → matches_among (codes "tag") tag d ≡ [] → read_tagged input signature tag ≡ Err NoTag
     untagged label o h none =
         let x = read_behind NotAField (signature_under label) (dictionary_of signature) o h in
         rw (reads, x.1, none_tagged tag d none) refl
 
     pub tagged_once : (label : List ℕ) (list : InnerList) (o : Option (List ℕ)) → need NotAField (option_map (signature_under label) (dictionary_of signature)) ≡ Ok o
-        → marked_among (codes "tag") tag d ≡ (label, Inner list) ∷ [] → tagged_of input signature tag ≡ formed label list o
+        → matches_among (codes "tag") tag d ≡ (label, Inner list) ∷ [] → read_tagged input signature tag ≡ formed label list o
     tagged_once label list o h one =
         let x = read_behind NotAField (signature_under label) (dictionary_of signature) o h in
         rw (reads, x.1, one_tagged tag d label list one) (ap (formed label list) x.2)
 
     pub once_fails : (label : List ℕ) (list : InnerList) (o : Option (List ℕ)) (e : SigFault) → need NotAField (option_map (signature_under label) (dictionary_of signature)) ≡ Ok o
-        → marked_among (codes "tag") tag d ≡ (label, Inner list) ∷ [] → Fails e (formed label list o) → Fails e (tagged_of input signature tag)
+        → matches_among (codes "tag") tag d ≡ (label, Inner list) ∷ [] → Fails e (formed label list o) → Fails e (read_tagged input signature tag)
     once_fails label list o e h one f = subst (Fails e) (sym (tagged_once label list o h one)) f
 
 -- ---- by the fields of a message
@@ -157,7 +157,7 @@ module _ (m : Message) (tag : List ℕ) where
     no_signature OutOfMemory h = tt
     no_signature e h = rw (input_is, h) refl
 
-    pub by_texts : (signature : List ℕ) → need NoField (field_value (codes "signature") m.fields) ≡ Ok signature → tagged m tag ≡ tagged_of input signature tag
+    pub by_texts : (signature : List ℕ) → need NoField (field_value (codes "signature") m.fields) ≡ Ok signature → tagged m tag ≡ read_tagged input signature tag
     unfolding tagged
     by_texts signature signature_is = rw (input_is, signature_is) (by (dictionary_of input) (dictionary_of signature))
       where

@@ -6,6 +6,4 @@ pub mod Lone
 pub mod Seen
 pub mod Marks
 pub mod Marked
-pub mod Accepted
 pub mod Signed
-pub mod Laws

@@ -11,8 +11,8 @@ use Rattle.message_signature.specs.Faults.{◌>>=◌, need, must}
 use Rattle.message_signature.specs.Verified.{Signature, is_well_formed, tagged_in}
 
 -- the signature with the tag, where the two fields have these texts
-abbrev pub tagged_of : List ℕ → List ℕ → List ℕ → Result Signature SigFault
-tagged_of input signature tag = do
+abbrev pub read_tagged : List ℕ → List ℕ → List ℕ → Result Signature SigFault
+read_tagged input signature tag = do
   inputs ← need NotAField (dictionary_of input)
   signatures ← need NotAField (dictionary_of signature)
   tagged_in tag (record { inputs = inputs; signatures = signatures })
@@ -22,7 +22,7 @@ abbrev pub bytes_in : Option Bare → Option (List ℕ)
 bytes_in None = None
 bytes_in (Some v) = binary_of v
 
--- the signature under a label, of the one list with the tag and of the bytes that have the label
+-- the signature of this list and these bytes, where it has its form
 abbrev pub formed : List ℕ → InnerList → Option (List ℕ) → Result Signature SigFault
 formed label list o = do
   _ ← must Malformed (is_well_formed list)

@@ -1,13 +1,13 @@
-//! The signature with a tag that one list alone has, read by itself: the other members of the two fields are passed over.
+//! The signature with a tag that one list alone has, read by itself: the other members of the two fields are skipped.
 ghost use Rattle.std.specs.Prelude.{◌≡◌, ℕ, List, Some, Ok, codes, IfOk, IfErr, IfSome};
 ghost use Rattle.std.specs.Option.{option_map};
 ghost use Rattle.structured_fields.specs.declared.item.Member.{Member as MemberValue};
 ghost use Rattle.structured_fields.specs.declared.item.Member.TheVariants.{Inner as InnerValue};
 ghost use Rattle.structured_fields.specs.Reading.{dictionary_of, entry_value_at};
-ghost use Rattle.structured_fields.specs.Passing.{alone, Tells};
+ghost use Rattle.structured_fields.specs.Skipping.{front_of, Tells};
 ghost use Rattle.message_signature.specs.declared.fault.SigFault.TheVariants.{NotAField};
 ghost use Rattle.message_signature.specs.Faults.{Fails, Gives, need};
-ghost use Rattle.message_signature.specs.Lone.{bytes_in, formed, lone_seen, tagged_of};
+ghost use Rattle.message_signature.specs.Lone.{bytes_in, formed, lone_seen, read_tagged};
 ghost use Rattle.message_signature.specs.Verified.{signature_under, tagged};
 
 use crate::fault::SigFault;
@@ -17,7 +17,7 @@ use bytes_and_lists::memory::Mem;
 use bytes_and_lists::message::Message;
 use std::alloc::Global;
 use structured_fields::{
-    Bare, FieldFault, InnerList, Marked, Member, marked_list, member_behind, single_under,
+    Bare, FieldFault, InnerList, Matched, Member, matching_list, member_behind, single_under,
 };
 
 /// A signature of a message: the covered components with its parameters, and its bytes.
@@ -27,11 +27,11 @@ pub(crate) struct LoneSignature {
     pub bytes: Bytes,
 }
 
-fn with_tag<'a>(alloc: Global, input: &'a [u8], tag: &[u8]) -> Result<Marked<'a>, SigFault>
+fn find_tagged<'a>(alloc: Global, input: &'a [u8], tag: &[u8]) -> Result<Matched<'a>, SigFault>
     ensures ok { IfOk result (λ found. (d : List (List ℕ × MemberValue)) × (dictionary_of input.now ≡ Some d) × Tells (codes "tag") tag.now found d) }
     ensures err { IfErr result (λ e. Fails e (need NotAField (dictionary_of input.now))) }
 {
-    match marked_list(alloc, input, b"tag", tag) {
+    match matching_list(alloc, input, b"tag", tag) {
         Ok(found) => Ok(found),
         Err(FieldFault::NotInGrammar) => Err(SigFault::NotAField),
         Err(FieldFault::OutOfMemory) => Err(SigFault::OutOfMemory),
@@ -59,7 +59,7 @@ fn bytes_under(alloc: Global, signature: &[u8], label: &[u8]) -> Result<Option<B
 
 // The inner list at the front of a text behind a label.
 fn list_behind(alloc: Global, value: &[u8]) -> Result<Option<InnerList>, Mem>
-    ensures { IfOk result (λ o. IfSome o (λ list. alone (entry_value_at value.now) ≡ Some (InnerValue list))) }
+    ensures { IfOk result (λ o. IfSome o (λ list. front_of (entry_value_at value.now) ≡ Some (InnerValue list))) }
 {
     match member_behind(alloc, value) {
         Ok(Member::Inner(list)) => Ok(Some(list)),
@@ -84,18 +84,18 @@ fn lone_in(
     signature: &[u8],
     tag: &[u8],
 ) -> Result<Option<LoneSignature>, SigFault>
-    ensures ok { IfOk result (λ o. IfSome o (λ one. (label : List ℕ) × (tagged_of input.now signature.now tag.now ≡ Ok (lone_seen label one)))) }
-    ensures err { IfErr result (λ e. Fails e (tagged_of input.now signature.now tag.now)) }
+    ensures ok { IfOk result (λ o. IfSome o (λ one. (label : List ℕ) × (read_tagged input.now signature.now tag.now ≡ Ok (lone_seen label one)))) }
+    ensures err { IfErr result (λ e. Fails e (read_tagged input.now signature.now tag.now)) }
 {
-    let found = with_tag(alloc, input, tag)?;
+    let found = find_tagged(alloc, input, tag)?;
     match found {
-        Marked::Unsettled => Ok(None),
-        Marked::Nowhere => {
+        Matched::Unsettled => Ok(None),
+        Matched::Nowhere => {
             bytes_under(alloc, signature, b"")?;
             Err(SigFault::NoTag)
         }
-        Marked::Once(at) => {
-            let bytes = bytes_under(alloc, signature, at.label)?;
+        Matched::Once(at) => {
+            let bytes = bytes_under(alloc, signature, at.key)?;
             let Some(list) = list_behind(alloc, at.value)? else {
                 return Ok(None);
             };
@@ -107,7 +107,7 @@ fn lone_in(
 
 /// The one signature with the tag, where the members of the two fields settle it without a dictionary; else None.
 ///
-/// Errors: those of the signature with the tag. OutOfMemory may come in place of any answer.
+/// Errors: those of `signature_fields` and `tagged`. OutOfMemory may come in place of any answer.
 pub(crate) fn lone_signature(
     alloc: Global,
     message: &Message,

@@ -17,5 +17,5 @@ pub mod Whole
 pub mod Ranges
 pub mod Read
 pub mod Behind
-pub mod PassedEntries
+pub mod SkippedEntries
 pub mod Written

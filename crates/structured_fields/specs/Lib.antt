@@ -4,5 +4,5 @@ pub mod Grammar
 pub mod Canonical
 pub mod Reading
 pub mod NameNotes
-pub mod Passing
+pub mod Skipping
 pub mod Laws

@@ -16,18 +16,18 @@ mod item;
 mod item_reading;
 pub mod laws;
 mod letters;
-mod marked;
+mod lookup;
 mod name_notes;
 mod named;
-mod passing;
 mod reading;
+mod skipping;
 mod writing;
 
 pub use bare::Bare;
 pub use fault::FieldFault;
 pub use item::{Dictionary, InnerList, Item, Items, List, Member, Params};
 pub use letters::trimmed;
-pub use marked::{Labelled, Marked, marked_list, member_behind, single_under};
+pub use lookup::{Keyed, Matched, matching_list, member_behind, single_under};
 pub use named::Named;
 pub use reading::{read_dictionary, read_item, read_list};
 pub use writing::{

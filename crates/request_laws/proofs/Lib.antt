@@ -1,0 +1,2 @@
+mod BothKeys
+mod DirectErrors
