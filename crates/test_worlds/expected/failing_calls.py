@@ -71,8 +71,8 @@ class Peer:
         return [1 if next_request(request)[0].last else 2 for request in self.brought]
 
     def faults(self, places):
-        """What a gear has of the failure, whose connections are those at these places, counted from 0."""
-        if self.failure is None or self.failure.where != self.name or self.failure.place - 1 not in places:
+        """What a gear has of the failure, whose connections are those at these places, counted from 0. An exchange fails at the link."""
+        if self.failure is None or self.failure.what == "exchange" or self.failure.where != self.name or self.failure.place - 1 not in places:
             return {}
         return {f"bad_{self.failure.what}s": [[self.failure.number] if place == self.failure.place - 1 else [] for place in places]}
 
