@@ -44,7 +44,7 @@ use Rattle.request_laws.specs.DirectErrors.{IsFor, IsCalledBy, ReadsAs, HasOther
 -- ---- what one who may make the call is refused for
 
 -- the cause of a refusal, of the body alone
-abbrev BodyCause : CallKind → Text → Body → ErrorCode → Type 0
+abbrev pub BodyCause : CallKind → Text → Body → ErrorCode → Type 0
 BodyCause kind key body InvalidClient = (kind ≢ Introspect) × NamesAnother kind key body
 BodyCause kind key body InvalidResourceServer = (kind ≡ Introspect) × NamesAnother kind key body
 BodyCause kind key body InvalidFlag = RepeatsFlag kind key body
@@ -89,7 +89,7 @@ fault_refused : {A : Type 0} (call : Result A ObjectFault → CallOrRefusal) →
 fault_refused call refused taken r (Err fault) code is e = ((fault, is), sym (refused fault) ∙ e)
 fault_refused call refused taken r (Ok x) code is e = absurd (taken x code e)
 
-body_refused : (kind : CallKind) (key value : Text) (body : Body) (code : ErrorCode) → caller_call kind key value body ≡ Refused code
+pub body_refused : (kind : CallKind) (key value : Text) (body : Body) (code : ErrorCode) → caller_call kind key value body ≡ Refused code
     → BodyCause kind key body code
 body_refused Begin key value NoBody code e = told Begin key NoBody InvalidRequest code e tt
 body_refused Begin key value (ObjectBody d) code e = read_cases (grant_body_of false d)

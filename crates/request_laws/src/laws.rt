@@ -1,6 +1,7 @@
 //! Laws of requests. The functions do nothing; their contracts are the laws.
 ghost use Rattle.request_laws.specs.Laws.{IsSignedByBoth};
 ghost use Rattle.request_laws.specs.DirectErrors.{DirectErrorsHaveCauses};
+ghost use Rattle.request_laws.specs.LineErrors.{LineErrorsHaveCauses};
 
 use signature_laws::rotation::rotation_laws;
 
@@ -18,4 +19,12 @@ pub fn signed_by_both()
 /// code is answered at once (RFC 9635, section 3.6; RFC 9767, section 3.5).
 pub fn direct_errors_have_causes()
     ensures { DirectErrorsHaveCauses }
+{}
+
+/// What is said to a line of a replay at once, without the state, has its cause: nothing to an empty line, 413 to one that is too long, 404 to one for a call
+/// that there isn't, and else an error. `InvalidClient`, and for an introspection `InvalidResourceServer`, comes where the line's key has another role or the
+/// body names another than that key; `InvalidRequest` where the line or its body isn't of its form; `InvalidFlag` where a flag stands twice. No other code is
+/// said at once.
+pub fn line_errors_have_causes()
+    ensures { LineErrorsHaveCauses }
 {}
