@@ -19,8 +19,27 @@ use Rattle.gnap_objects.specs.declared.call_reading.CallOrRefusal.{CallOrRefusal
 use Rattle.gnap_objects.specs.declared.call_reading.CallOrRefusal.TheVariants.{Accepted, Refused}
 use Rattle.gnap_objects.specs.CallReading.{Body, is_caller, stranger, caller_call, call_of}
 use Rattle.call_replay.specs.declared.call_lines.LineStep.TheVariants.{Say}
-use Rattle.call_replay.specs.CallLines.{moment_of, text_under, value_of, draw_of, has_body_form, nonce_in, created_in, mark_for, refused, line_body, kind_named, asked,
-    call_step, form_step, object_step, read_step, text_step, line_limit, line_step}
+use Rattle.call_replay.specs.CallLines.{
+  moment_of,
+  text_under,
+  value_of,
+  draw_of,
+  has_body_form,
+  nonce_in,
+  created_in,
+  mark_for,
+  refused,
+  line_body,
+  kind_named,
+  asked,
+  call_step,
+  form_step,
+  object_step,
+  read_step,
+  text_step,
+  line_limit,
+  line_step,
+}
 use Rattle.call_replay.specs.ReplyLines.{error_line}
 use Rattle.request_laws.specs.LineErrors.{IsCallLine, IsNoCallLine, IsLineFor, IsRefusedWith, HasLineCause, IsSaidFor, LineErrorsHaveCauses}
 use Rattle.request_laws.proofs.DirectErrors.{BodyCause, body_refused}
