@@ -120,7 +120,9 @@ fn tell_no_setup<E: Sink>(err: &mut E, command: &Command, kind: ConfigKind) {
     let Some((front, file)) = config_of(command, kind) else {
         return;
     };
-    tell(err, &[b"gnap: ", front.as_bytes(), file.as_slice()]);
+    tell(err, &[b"gnap: "]);
+    tell(err, &[front.as_bytes()]);
+    tell(err, &[file.as_slice()]);
     match kind {
         ConfigKind::Setup => tell(err, &[b" is no setup: "]),
         ConfigKind::Configuration => tell(err, &[b" is no configuration: "]),

@@ -99,7 +99,8 @@ module _ (setup : Setup) (number : ℕ) (line text : List ℕ) where
         → ((name key : Text) (body : Body) (is : IsCallLine line name key body) → IsSome (member is.object)) → IsNoCallLine line
     lacks member none has name key body is =
         let some : IsSome (member d) = subst (λ (x : Data). IsSome (member x)) (same_object name key body is) (has name key body is) in
-        subst IsSome none some
+        let bad : false ≡ true = subst IsSome none some in
+        cc
 
     no_body_form : has_body_form d ≡ false → IsNoCallLine line
     no_body_form other name key body is =
@@ -107,7 +108,7 @@ module _ (setup : Setup) (number : ℕ) (line text : List ℕ) where
         cc
 
     some_of : {A : Type 0} (o : Option A) (x : A) → o ≡ Some x → IsSome o
-    some_of o x is = subst IsSome (sym is) tt
+    some_of o x is = subst IsSome (sym is) refl
 
     called : (at : ℕ) (draw : List ℕ) (mark : Mark) (name key value : Text) → IsCallLine line name key (line_body (get (codes "body") d))
         → (kind : Option CallKind) → kind_named name ≡ kind
@@ -124,27 +125,27 @@ module _ (setup : Setup) (number : ℕ) (line text : List ℕ) where
             said code e
             (inl (kind, key, line_body (get (codes "body") d), (name, is, kind_is), call_refused setup kind key value (line_body (get (codes "body") d)) code made))
 
-    formed : (moment : Option ℕ) (name key value draw : Option (List ℕ)) (body_form : Bool) (nonce : Option (Option (List ℕ))) (created : Option (Option ℕ))
+    formed : (moment : Option ℕ) (name key value draw : Option (List ℕ)) (body_form : Bool) (mark : Option (Option (List ℕ))) (created : Option (Option ℕ))
         → moment_of d ≡ moment → text_under (codes "call") d ≡ name → text_under (codes "key") d ≡ key → value_of d ≡ value → draw_of d ≡ draw
-        → has_body_form d ≡ body_form → nonce_in d ≡ nonce → created_in d ≡ created
-        → form_step setup number d moment name key value draw body_form nonce created ≡ Say text → IsSaidFor setup line text
-    formed None name key value draw body_form nonce created at_is name_is key_is value_is draw_is form_is nonce_is created_is e =
+        → has_body_form d ≡ body_form → nonce_in d ≡ mark → created_in d ≡ created
+        → form_step setup number d moment name key value draw body_form mark created ≡ Say text → IsSaidFor setup line text
+    formed None name key value draw body_form mark created at_is name_is key_is value_is draw_is form_is nonce_is created_is e =
         no_line e (lacks moment_of at_is (λ name key body is. is.moment))
-    formed (Some at) None key value draw body_form nonce created at_is name_is key_is value_is draw_is form_is nonce_is created_is e =
+    formed (Some at) None key value draw body_form mark created at_is name_is key_is value_is draw_is form_is nonce_is created_is e =
         no_line e (lacks (text_under (codes "call")) name_is (λ name key body is. some_of (text_under (codes "call") is.object) name is.name_is))
-    formed (Some at) (Some name) None value draw body_form nonce created at_is name_is key_is value_is draw_is form_is nonce_is created_is e =
+    formed (Some at) (Some name) None value draw body_form mark created at_is name_is key_is value_is draw_is form_is nonce_is created_is e =
         no_line e (lacks (text_under (codes "key")) key_is (λ name key body is. some_of (text_under (codes "key") is.object) key is.key_is))
-    formed (Some at) (Some name) (Some key) None draw body_form nonce created at_is name_is key_is value_is draw_is form_is nonce_is created_is e =
+    formed (Some at) (Some name) (Some key) None draw body_form mark created at_is name_is key_is value_is draw_is form_is nonce_is created_is e =
         no_line e (lacks value_of value_is (λ name key body is. is.value))
-    formed (Some at) (Some name) (Some key) (Some value) None body_form nonce created at_is name_is key_is value_is draw_is form_is nonce_is created_is e =
+    formed (Some at) (Some name) (Some key) (Some value) None body_form mark created at_is name_is key_is value_is draw_is form_is nonce_is created_is e =
         no_line e (lacks draw_of draw_is (λ name key body is. is.draw))
-    formed (Some at) (Some name) (Some key) (Some value) (Some draw) false nonce created at_is name_is key_is value_is draw_is form_is nonce_is created_is e =
+    formed (Some at) (Some name) (Some key) (Some value) (Some draw) false mark created at_is name_is key_is value_is draw_is form_is nonce_is created_is e =
         no_line e (no_body_form form_is)
     formed (Some at) (Some name) (Some key) (Some value) (Some draw) true None created at_is name_is key_is value_is draw_is form_is nonce_is created_is e =
         no_line e (lacks nonce_in nonce_is (λ name key body is. is.nonce))
-    formed (Some at) (Some name) (Some key) (Some value) (Some draw) true (Some nonce) None at_is name_is key_is value_is draw_is form_is nonce_is created_is e =
+    formed (Some at) (Some name) (Some key) (Some value) (Some draw) true (Some mark) None at_is name_is key_is value_is draw_is form_is nonce_is created_is e =
         no_line e (lacks created_in created_is (λ name key body is. is.created))
-    formed (Some at) (Some name) (Some key) (Some value) (Some draw) true (Some nonce) (Some created) at_is name_is key_is value_is draw_is form_is nonce_is created_is e =
+    formed (Some at) (Some name) (Some key) (Some value) (Some draw) true (Some mark) (Some created) at_is name_is key_is value_is draw_is form_is nonce_is created_is e =
         called at draw _ name key value
         (record {
           text = utf8;
@@ -156,7 +157,7 @@ module _ (setup : Setup) (number : ℕ) (line text : List ℕ) where
           value = some_of (value_of d) value value_is;
           draw = some_of (draw_of d) draw draw_is;
           body_form = form_is;
-          nonce = some_of (nonce_in d) nonce nonce_is;
+          nonce = some_of (nonce_in d) mark nonce_is;
           created = some_of (created_in d) created created_is;
           body_is = refl;
         })
