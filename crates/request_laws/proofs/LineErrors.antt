@@ -1,5 +1,5 @@
 -- What is said to a line at once has its cause: each way on which a line asks nothing is gone through.
-use Rattle.std.proofs.Common.{◌≡◌, ◌≢◌, ℕ, Bool, true, false, List, [], length, Option, Some, None, refl, sym, subst, ◌∙◌, inl, inr}
+use Rattle.std.proofs.Common.{◌≡◌, ℕ, Bool, true, false, List, [], length, Option, Some, None, refl, sym, subst, ◌∙◌, inl, inr}
 use Rattle.std.specs.Prelude.{codes, IsSome, ◌==◌, nat_lt, if◌then◌else◌}
 use Rattle.std.specs.Str.{is_utf8}
 use Rattle.std.proofs.lemmas.Bool.{eqb-true, ltb-true}
@@ -41,7 +41,7 @@ use Rattle.call_replay.specs.CallLines.{
   line_step,
 }
 use Rattle.call_replay.specs.ReplyLines.{error_line}
-use Rattle.request_laws.specs.LineErrors.{IsCallLine, IsNoCallLine, IsLineFor, IsRefusedWith, HasLineCause, IsSaidFor, LineErrorsHaveCauses}
+use Rattle.request_laws.specs.LineErrors.{IsCallLine, IsNoCallLine, IsRefusedWith, HasLineCause, IsSaidFor, LineErrorsHaveCauses}
 use Rattle.request_laws.proofs.DirectErrors.{BodyCause, body_refused}
 
 -- ---- a call that is refused
