@@ -21,15 +21,15 @@ const GRANTS: u32 = 8;
 // So many looks a call goes on for until two workers were at it at once.
 const LOOKS: u32 = 5_000_000;
 
-/// A core over tables that counts the calls behind a grant's first one that come where the last call was one of another grant.
+/// A core that counts the calls behind a grant's first one that come where the last call was one of another grant.
 #[derive(Drop)]
-struct CountingCore<'a> {
-    core: TableCore,
+struct CountingCore<'a, C> {
+    core: C,
     last: u8,
     between: &'a AtomicU64,
 }
 
-impl<'a> CountingCore<'a> {
+impl<'a, C> CountingCore<'a, C> {
     // Looks at a call's nonce: its grant's digit, `-`, and `1` for the grant's first call. Calls have their turns in the order in which they came, so while
     // this one takes long the other worker's thread can begin, and its first call is next.
     fn look(&mut self, nonce: &[u8])
@@ -50,14 +50,14 @@ impl<'a> CountingCore<'a> {
     }
 }
 
-impl<'a> Core for CountingCore<'a> {
+impl<'a, C: Core<M = Gnap>> Core for CountingCore<'a, C> {
     type M = Gnap;
 
-    ghost rules = { λ counting. ⟦<TableCore as Core>⟧.rules counting.core };
+    ghost rules = { λ counting. C.rules counting.core };
 
-    ghost stands = { λ counting. ⟦<TableCore as Core>⟧.stands counting.core };
+    ghost stands = { λ counting. C.stands counting.core };
 
-    ghost frugal = { ⟦<TableCore as Core>⟧.frugal };
+    ghost frugal = { C.frugal };
 
     fn step(&mut self, moment: u64, draw: &[u64; 48], signed: &Signed) -> Result<Reply, Mem> {
         if let Some(mark) = &signed.mark {
@@ -66,15 +66,18 @@ impl<'a> Core for CountingCore<'a> {
         self.core.step(moment, draw, signed)
     }
 
-    ghost legal = { λ counting. ⟦<TableCore as Core>⟧.legal counting.core };
+    ghost legal = { λ counting. C.legal counting.core };
 
-    ghost renumbers = { λ counting. ⟦<TableCore as Core>⟧.renumbers counting.core };
+    ghost renumbers = { λ counting. C.renumbers counting.core };
 }
 
 // A core that stands for the empty history under the setup of loads.
-fn counting_core<'a>(alloc: Global, between: &'a AtomicU64) -> Result<CountingCore<'a>, Mem>
-    ensures rules { IfOk result (λ core. ⟦<CountingCore<'a> as Core>⟧.rules core ≡ load_setup) }
-    ensures empty { IfOk result (λ core. ⟦<CountingCore<'a> as Core>⟧.stands core []) }
+fn counting_core<'a>(
+    alloc: Global,
+    between: &'a AtomicU64,
+) -> Result<CountingCore<'a, TableCore>, Mem>
+    ensures rules { IfOk result (λ core. ⟦<CountingCore<'a, TableCore> as Core>⟧.rules core ≡ load_setup) }
+    ensures empty { IfOk result (λ core. ⟦<CountingCore<'a, TableCore> as Core>⟧.stands core []) }
 {
     let core = TableCore::new(alloc, load_setup(alloc)?);
     Ok(CountingCore {
