@@ -11,7 +11,6 @@ mod both_cores;
 mod case;
 mod fault;
 mod latin;
-mod ordered_gears;
 mod outcome;
 mod world;
 

@@ -67,7 +67,7 @@ fn connection(
     Ok(MemConn::new(alloc, bytes, room, bad_reads, bad_writes)?)
 }
 
-pub(crate) fn connections(
+fn connections(
     alloc: Global,
     case: &Case,
     gear: &GearCase,
@@ -82,7 +82,7 @@ pub(crate) fn connections(
     Ok(conns)
 }
 
-pub(crate) fn moments(alloc: Global, gear: &GearCase) -> Result<Vec<u64>, Fault>
+fn moments(alloc: Global, gear: &GearCase) -> Result<Vec<u64>, Fault>
     ensures { IfOk result (λ moments. All (λ m. m ≤ last_moment) moments.items) }
 {
     let mut moments = Vec::new(alloc);
@@ -92,7 +92,7 @@ pub(crate) fn moments(alloc: Global, gear: &GearCase) -> Result<Vec<u64>, Fault>
     Ok(moments)
 }
 
-pub(crate) fn draws(alloc: Global, gear: &GearCase) -> Result<Vec<[u64; 48]>, Fault> {
+fn draws(alloc: Global, gear: &GearCase) -> Result<Vec<[u64; 48]>, Fault> {
     let mut draws = Vec::new(alloc);
     for given in &gear.draws {
         let mut words = [0; 48];
