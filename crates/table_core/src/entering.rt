@@ -1,6 +1,7 @@
 //! What the entry of a call has, and what a call comes to before anything changes.
 ghost use Rattle.std.specs.Prelude.{◌≡◌};
 ghost use Rattle.gnap_model.specs.Actions.Action.{Refuse};
+ghost use Rattle.token_manager.specs.Tokens.{AreOfApproved};
 ghost use Rattle.table_core.specs.Plans.{Plans, nothing_with};
 
 use crate::kept_terms::KeptTerms;
@@ -24,6 +25,7 @@ pub struct Entering<'a> {
     pub next: u64,
     /// What the entry draws on.
     pub supply: Supply<'a>,
+    pub ghost approved: { AreOfApproved grants.now.rows tokens.now.rows },
 }
 
 /// Rows of tokens that are to be issued.

@@ -9,7 +9,7 @@ use Rattle.std.proofs.lemmas.List.Elements.{All-filter, All-push, All-set}
 use Rattle.std.proofs.lemmas.List.Folds.{list_any-append}
 use Rattle.std.proofs.lemmas.List.Kept.{AllPairs-filter}
 use Rattle.std.proofs.lemmas.List.Quantifiers.{all_pairs_push}
-use Rattle.std.proofs.lemmas.List.Sums.{length-filter, count_by-le-length}
+use Rattle.std.proofs.lemmas.List.Sums.{length-filter, count_by-le-length, AllPass-from_list_all, get_or-le-sum_by, sum_by_push, sum_by-remove, sum_by-set}
 use Rattle.std.proofs.lemmas.Option.{slice_get-map}
 use Rattle.std.proofs.lemmas.Bool.{cases_lt, eqb-true}
 use Rattle.std.proofs.lemmas.Bool.Decides.{nat_tests}
@@ -19,14 +19,14 @@ use Rattle.gnap_model.specs.Values.{value_text}
 use Rattle.gnap_tables.specs.declared.rows.GrantRow.{GrantRow}
 use Rattle.gnap_tables.specs.declared.rows.TokenRow.{TokenRow}
 use Rattle.gnap_tables.specs.Tables.{change_token, drop_token, with_retirement}
-use Rattle.gnap_tables.specs.RowSearches.{newest, row_by_manage, is_live_row, live_rows}
+use Rattle.gnap_tables.specs.RowSearches.{newest, row_by_manage, is_approved_grant, is_live_row, live_rows}
 use Rattle.gnap_tables.specs.ActionsByRows.{rows_of_others}
 use Rattle.gnap_tables.proofs.Lists.{HasItem, filter_is, filter_map_same, all_kept}
 use Rattle.ordered_search.specs.Order.{IsAscending, IsPlaceOf}
 use Rattle.grant_states.specs.declared.numbers_by_key.Listed.{Listed}
 use Rattle.grant_states.specs.Listed.{under, where_some}
 use Rattle.token_manager.specs.declared.token_table.TokenPlace.{TokenPlace}
-use Rattle.token_manager.specs.Tokens.{IsTokenRow, AreTokenRows, row_by_value, token_in, IsTokenPlace, AreTokenPlaces, AreListed, is_among, Marks, is_live_place, is_live_elsewhere}
+use Rattle.token_manager.specs.Tokens.{IsTokenRow, AreTokenRows, row_by_value, token_in, IsTokenPlace, AreTokenPlaces, AreListed, is_among, Marks, lasts_at, is_lasting, is_lasting_elsewhere, one_if, is_of_approved, AreOfApproved}
 use Rattle.grant_states.proofs.Decoding.{Tells, no_number}
 use Rattle.grant_states.proofs.Items.{any_newest, item_all, item_in, item_of_map, get_at, get_past, newest_none}
 use Rattle.grant_states.proofs.Placed.{ascending_keys, at_place, one_key, placed, placed_key, eqb-self}
@@ -261,8 +261,8 @@ filter-filter {A} p q (x ∷ xs) = at (q x) (p x) refl (filter-filter p q xs)
     at false true e rest = rest
     at false false e rest = rest
 
-filter_agrees : (t u : TokenPlace → Bool) (places : List TokenPlace) → ((p : TokenPlace) → HasItem places p → t p ≡ u p) → filter t places ≡ filter u places
-filter_agrees t u places same = filter_is t places ∙ filter_map_same _ _ places (λ p h. ap (λ b. some_if b p) (same p h)) ∙ sym (filter_is u places)
+filter_agrees : {A : Type 0} (t u : A → Bool) (xs : List A) → ((x : A) → HasItem xs x → t x ≡ u x) → filter t xs ≡ filter u xs
+filter_agrees t u xs same = filter_is t xs ∙ filter_map_same _ _ xs (λ x h. ap (λ b. some_if b x) (same x h)) ∙ sym (filter_is u xs)
 
 -- where none passes, none is taken out
 pub all_stay : (t : TokenPlace → Bool) (places : List TokenPlace) → ((p : TokenPlace) → HasItem places p → t p ≡ true → ⊥) → places ≡ filter (λ (p : TokenPlace). not (t p)) places
@@ -413,27 +413,58 @@ place_pushed places new are is row above =
 count-map : {A B : Type 0} (f : A → B) (t : A → Bool) (u : B → Bool) (xs : List A) → ((x : A) → HasItem xs x → t x ≡ u (f x)) → count_by t xs ≡ length (filter u (map f xs))
 count-map {A} {B} f t u xs same = sym (length-filter t xs) ∙ sym (length-map (filter t xs) f) ∙ ap (length {A = B}) (map-filter f t u xs same)
 
-pub live_counted : (places : List TokenPlace) (rows : List TokenRow) (grants : List GrantRow) (now : ℕ) → map token_in places ≡ rows → count_by (is_live_place now grants) places ≡ length (live_rows now grants rows)
-live_counted places rows grants now view =
-    count-map token_in (is_live_place now grants) (λ (row : TokenRow). is_live_row now grants row) places (λ x h. refl) ∙ ap (λ (rs : List TokenRow). length (live_rows now grants rs)) view
+pub lasting_counted : (places : List TokenPlace) (rows : List TokenRow) (moment : ℕ) → map token_in places ≡ rows → count_by (is_lasting moment) places ≡ length (filter (lasts_at moment) rows)
+lasting_counted places rows moment view =
+    count-map token_in (is_lasting moment) (lasts_at moment) places (λ x h. refl) ∙ ap (λ (rs : List TokenRow). length (filter (lasts_at moment) rs)) view
 
-pub others_counted : (places : List TokenPlace) (rows : List TokenRow) (grants : List GrantRow) (number now : ℕ) → map token_in places ≡ rows → AreTokenPlaces places
-    → count_by (is_live_elsewhere now grants number) places ≡ length (rows_of_others number (live_rows now grants rows))
-others_counted places rows grants number now view are =
-    count-map token_in (is_live_elsewhere now grants number) (λ (row : TokenRow). not (row.grant == number) && is_live_row now grants row) places
-    (λ p h. ap (λ n. not (n == number) && is_live_row now grants p.row.value) (item_all IsTokenPlace places p are.each h).grant)
-    ∙ ap (length {A = TokenRow}) (sym (filter-filter (λ (row : TokenRow). not (row.grant == number)) (λ (row : TokenRow). is_live_row now grants row) (map token_in places)))
-    ∙ ap (λ (rs : List TokenRow). length (rows_of_others number (live_rows now grants rs))) view
+lasts_live : (now : ℕ) (grants : List GrantRow) (row : TokenRow) → is_of_approved grants row ≡ true → lasts_at now row ≡ is_live_row now grants row
+lasts_live now grants row approved = by row.retired (nat_lt now row.until) (is_approved_grant row.grant grants) approved
+  where
+    by : (r u a : Bool) → (r || a) ≡ true → (not r && u) ≡ (not r && u && a)
+    by true u a h = refl
+    by false true a h = sym h
+    by false false a h = refl
 
--- no more are counted than there are
-pub live_few : (rows : List TokenRow) (grants : List GrantRow) (now : ℕ) → length (live_rows now grants rows) ≤ length rows
-live_few rows grants now = let c = length-filter (λ (row : TokenRow). is_live_row now grants row) rows in let l = count_by-le-length (λ (row : TokenRow). is_live_row now grants row) rows in omega (arith, c, l)
+-- Where each row that isn't retired is of an approved grant, the rows that last are the live ones.
+pub lasting_live : (now : ℕ) (grants : List GrantRow) (rows : List TokenRow) → AreOfApproved grants rows → filter (lasts_at now) rows ≡ live_rows now grants rows
+lasting_live now grants rows approved = filter_agrees (lasts_at now) (λ (row : TokenRow). is_live_row now grants row) rows
+    (λ r h. lasts_live now grants r (item_all (λ (row : TokenRow). is_of_approved grants row ≡ true) rows r (AllPass-from_list_all (is_of_approved grants) rows approved) h))
 
-pub others_few : (rows : List TokenRow) (grants : List GrantRow) (number now : ℕ) → length (rows_of_others number (live_rows now grants rows)) ≤ length rows
-others_few rows grants number now =
-    let live = live_few rows grants now in
-    let c = length-filter (λ (row : TokenRow). not (row.grant == number)) (live_rows now grants rows) in
-    let l = count_by-le-length (λ (row : TokenRow). not (row.grant == number)) (live_rows now grants rows) in omega (arith, live, c, l)
+pub others_counted : (places : List TokenPlace) (rows : List TokenRow) (grants : List GrantRow) (number now : ℕ) → map token_in places ≡ rows → AreTokenPlaces places → AreOfApproved grants rows
+    → count_by (is_lasting_elsewhere now number) places ≡ length (rows_of_others number (live_rows now grants rows))
+others_counted places rows grants number now view are approved =
+    count-map token_in (is_lasting_elsewhere now number) (λ (row : TokenRow). not (row.grant == number) && lasts_at now row) places
+    (λ p h. ap (λ n. not (n == number) && is_lasting now p) (item_all IsTokenPlace places p are.each h).grant)
+    ∙ ap (length {A = TokenRow}) (sym (filter-filter (λ (row : TokenRow). not (row.grant == number)) (lasts_at now) (map token_in places)))
+    ∙ ap (λ (rs : List TokenRow). length (rows_of_others number (filter (lasts_at now) rs))) view
+    ∙ ap (λ (rs : List TokenRow). length (rows_of_others number rs)) (lasting_live now grants rows approved)
+
+-- no more are of others than there are
+pub others_few : (rows : List TokenRow) (number : ℕ) → length (rows_of_others number rows) ≤ length rows
+others_few rows number =
+    let c = length-filter (λ (row : TokenRow). not (row.grant == number)) rows in
+    let l = count_by-le-length (λ (row : TokenRow). not (row.grant == number)) rows in omega (arith, c, l)
+
+-- ---- how many last after a change
+
+pub lasting_pushed : (places : List TokenPlace) (new : TokenPlace) (moment lasting one : ℕ) → lasting ≡ count_by (is_lasting moment) places → one ≡ one_if (is_lasting moment new)
+    → lasting + one ≡ count_by (is_lasting moment) (places ++ new ∷ [])
+lasting_pushed places new moment lasting one all is = let more = sum_by_push (λ (p : TokenPlace). one_if (is_lasting moment p)) places new in omega (arith, all, is, more)
+
+pub lasting_removed : (places : List TokenPlace) (at moment lasting one : ℕ) (old : TokenPlace) → at < length places → old ≡ get_or places at old → lasting ≡ count_by (is_lasting moment) places
+    → one ≡ one_if (is_lasting moment old) → (one ≤ lasting) × (lasting - one ≡ count_by (is_lasting moment) (remove places at))
+lasting_removed places at moment lasting one old inside there all is =
+    let f : TokenPlace → ℕ = λ (p : TokenPlace). one_if (is_lasting moment p) in
+    let parts = sum_by-remove f places at old inside in
+    let same : f old ≡ f (get_or places at old) = ap f there in (omega (arith, parts, same, all, is), omega (arith, parts, same, all, is))
+
+pub lasting_set : (places : List TokenPlace) (at moment lasting before after : ℕ) (old new : TokenPlace) → at < length places → old ≡ get_or places at old → lasting ≡ count_by (is_lasting moment) places
+    → before ≡ one_if (is_lasting moment old) → after ≡ one_if (is_lasting moment new) → (before ≤ lasting) × (lasting - before + after ≡ count_by (is_lasting moment) (set places at new))
+lasting_set places at moment lasting before after old new inside there all was is =
+    let f : TokenPlace → ℕ = λ (p : TokenPlace). one_if (is_lasting moment p) in
+    let parts = sum_by-set f places at new old inside in
+    let low = get_or-le-sum_by f places at old inside in
+    let same : f old ≡ f (get_or places at old) = ap f there in (omega (arith, low, same, all, was), omega (arith, parts, low, same, all, was, is))
 
 -- so many more pass the limit where they pass what is left of it
 pub limit_moved : (count live more : ℕ) → count ≡ live → more ≤ 16 → nat_lt (65536 - more) count ≡ nat_lt 65536 (live + more)
