@@ -1,5 +1,4 @@
 use Rattle.std.proofs.Common.{◌≡◌, map, length, sym, subst, ◌∙◌, ap, arith}
-use Rattle.std.specs.Prelude.{filter}
 use Rattle.gnap_tables.specs.declared.rows.TokenRow.{TokenRow}
 use Rattle.gnap_tables.specs.RowSearches.{live_rows}
 use Rattle.gnap_tables.specs.ActionsByRows.{rows_of_others}

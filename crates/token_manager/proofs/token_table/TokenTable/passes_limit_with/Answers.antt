@@ -1,4 +1,4 @@
-use Rattle.std.proofs.Common.{List, length, ◌∙◌, ap}
+use Rattle.std.proofs.Common.{length, ◌∙◌, ap}
 use Rattle.gnap_tables.specs.declared.rows.TokenRow.{TokenRow}
 use Rattle.gnap_tables.specs.RowSearches.{live_rows}
 use Rattle.token_manager.proofs.TokenLemmas.{lasting_live, limit_moved}
