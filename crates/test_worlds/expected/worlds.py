@@ -280,9 +280,12 @@ def outcome(case):
     world = World(case)
     status = run(world)
     served = [[shown(text) for text in connections] for connections in world.served]
-    told = written_cases.HINTS.get(case["name"], "")
-    came = {"name": case["name"], "status": status, "out": shown(world.out), "served": served, "told": told}
-    return {**came, "asked": [shown(request) for request in world.asked]} if world.asked else came
+    came = {"name": case["name"], "status": status, "out": shown(world.out), "served": served}
+    if case.get("tells"):
+        came["told"] = written_cases.HINTS[case["name"]]
+    if world.asked:
+        came["asked"] = [shown(request) for request in world.asked]
+    return came
 
 
 def cut_outcome(case):

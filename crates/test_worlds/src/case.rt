@@ -1,70 +1,107 @@
 //! The lines of the table.
 //!
+//! A case is a command, and the world in which it is run. Each member but `name` and `words` may be missing, a list is then empty:
+//!
+//! - `name`, what the case shows, and `words`, the words after the program's name;
+//! - `files`, each with its name and its bytes;
+//! - `gears`, those at the address `a`;
+//! - `replies`, what comes back over the link to the address `a`, one reply after another;
+//! - `runs`, long parts of the bytes of this case: bytes, and how often they come one behind another;
+//! - `bad_reads`, for each file the numbers of its reads that fail. As everywhere here calls are counted from 1, and none fails where a list is too short;
+//! - `bad_opens`, `bad_writes`, `bad_exchanges`, the numbers of the openings, of the writes to standard output and of the exchanges over the link that fail;
+//! - `cut`, whether the case is run for each beginning of the connections' bytes instead, from none of them to all;
+//! - `tells`, whether it is shown what a person is told, on standard error.
+//!
+//! A gear is one worker's:
+//!
+//! - `connections`, the bytes of each;
+//! - `moments`, what the clock gives, in seconds since 1970: one after another, and then the last one again. It gives 0 where there is none;
+//! - `draws`, what each draw gives, up to 48 words; the others are 0, and so are those of further draws;
+//! - `bad_accepts`, the numbers of the calls that ask for a connection and fail;
+//! - `bad_reads`, `bad_writes`, for each connection the numbers of its reads and of its writes that fail;
+//! - `rooms`, for each connection how many bytes can be written to it; 262,144 where the list is too short.
+//!
 //! Bytes are written as a text with a character for each, from U+0000 to U+00FF. A character from U+0100 on stands for the run at its place among `runs`.
-use serde::Deserialize;
+use crate::fault::Fault;
+use json_objects::other_member;
+use serde_json::Value;
+use std::alloc::Global;
 
-/// A command, and the world in which it is run.
-#[derive(Drop, Deserialize)]
-#[serde(deny_unknown_fields)]
-pub struct Case {
-    /// What the case shows.
-    pub name: String,
-    /// The words after the program's name.
-    pub words: Vec<String>,
-    /// The files, each with its name and its bytes.
-    #[serde(default)]
-    pub files: Vec<(String, String)>,
-    /// The gears at the address `a`.
-    #[serde(default)]
-    pub gears: Vec<GearCase>,
-    /// What comes back over the link to the address `a`, one reply after another.
-    #[serde(default)]
-    pub replies: Vec<String>,
-    /// Long parts of the bytes of this case: bytes, and how often they come one behind another.
-    #[serde(default)]
-    pub runs: Vec<(String, u64)>,
-    /// For each file, the numbers of its reads that fail. As everywhere here calls are counted from 1, and none fails where a list is too short.
-    #[serde(default)]
-    pub bad_reads: Vec<Vec<u64>>,
-    /// The numbers of the openings that fail.
-    #[serde(default)]
-    pub bad_opens: Vec<u64>,
-    /// The numbers of the writes to standard output that fail.
-    #[serde(default)]
-    pub bad_writes: Vec<u64>,
-    /// The numbers of the exchanges over the link that fail.
-    #[serde(default)]
-    pub bad_exchanges: Vec<u64>,
-    /// Whether the case is run for each beginning of the connections' bytes instead, from none of them to all.
-    #[serde(default)]
-    pub cut: bool,
-    /// Whether it is shown what a person is told, on standard error.
-    #[serde(default)]
-    pub tells: bool,
+const OF_CASE: [&str; 12] = [
+    "name",
+    "words",
+    "files",
+    "gears",
+    "replies",
+    "runs",
+    "bad_reads",
+    "bad_opens",
+    "bad_writes",
+    "bad_exchanges",
+    "cut",
+    "tells",
+];
+
+const OF_GEAR: [&str; 7] = [
+    "connections",
+    "moments",
+    "draws",
+    "bad_accepts",
+    "bad_reads",
+    "bad_writes",
+    "rooms",
+];
+
+/// Refuses a case with a member that none has.
+pub(crate) fn refuse_others(case: &Value) -> Result<(), Fault> {
+    let mut is_odd = other_member(case, &OF_CASE).is_some();
+    for gear in items(case, "gears")? {
+        is_odd = is_odd || other_member(gear, &OF_GEAR).is_some();
+    }
+    if is_odd { Err(Fault::NotACase) } else { Ok(()) }
 }
 
-/// The connections, moments and words of one worker.
-#[derive(Drop, Deserialize)]
-#[serde(deny_unknown_fields)]
-pub struct GearCase {
-    /// The bytes of each connection.
-    pub connections: Vec<String>,
-    /// What the clock gives, in seconds since 1970: one after another, and then the last one again. It gives 0 where there is none.
-    #[serde(default)]
-    pub moments: Vec<u64>,
-    /// What each draw gives, up to 48 words; the others are 0, and so are those of further draws.
-    #[serde(default)]
-    pub draws: Vec<Vec<u64>>,
-    /// The numbers of the calls that ask for a connection and fail.
-    #[serde(default)]
-    pub bad_accepts: Vec<u64>,
-    /// For each connection, the numbers of its reads that fail.
-    #[serde(default)]
-    pub bad_reads: Vec<Vec<u64>>,
-    /// For each connection, the numbers of its writes that fail.
-    #[serde(default)]
-    pub bad_writes: Vec<Vec<u64>>,
-    /// For each connection, how many bytes can be written to it; 262,144 where the list is too short.
-    #[serde(default)]
-    pub rooms: Vec<u64>,
+/// The items of the list of this name, none where there is no such member.
+pub(crate) fn items<'a>(object: &'a Value, name: &str) -> Result<&'a [Value], Fault> {
+    match object.get(name) {
+        None => Ok(&[]),
+        Some(list) => all(list),
+    }
+}
+
+/// The items of a list.
+pub(crate) fn all(list: &Value) -> Result<&[Value], Fault> {
+    match list {
+        Value::Array(items) => Ok(items.as_slice()),
+        _ => Err(Fault::NotACase),
+    }
+}
+
+pub(crate) fn text(value: &Value) -> Result<&str, Fault> {
+    value.as_str().ok_or(Fault::NotACase)
+}
+
+pub(crate) fn number(value: &Value) -> Result<u64, Fault> {
+    value.as_u64().ok_or(Fault::NotACase)
+}
+
+/// The two parts of an item.
+pub(crate) fn pair(item: &Value) -> Result<(&Value, &Value), Fault> {
+    match all(item)? {
+        [first, second] => Ok((first, second)),
+        _ => Err(Fault::NotACase),
+    }
+}
+
+pub(crate) fn numbers(alloc: Global, items: &[Value]) -> Result<Vec<u64>, Fault> {
+    let mut numbers = Vec::new(alloc);
+    for item in items {
+        numbers.push(number(item)?)?;
+    }
+    Ok(numbers)
+}
+
+/// Whether the member of this name is true.
+pub(crate) fn is_set(object: &Value, name: &str) -> bool {
+    object.get(name).and_then(Value::as_bool).unwrap_or(false)
 }

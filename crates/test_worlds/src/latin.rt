@@ -1,7 +1,8 @@
 //! Bytes as texts with a character for each.
-use crate::case::Case;
+use crate::case::{items, number, pair, text};
 use crate::fault::Fault;
 use bytes_and_lists::bytes::Bytes;
+use serde_json::Value;
 use sha2::{Digest, Sha256};
 use std::alloc::Global;
 
@@ -20,40 +21,39 @@ fn add_text(bytes: &mut Bytes, text: &str) -> Result<(), Fault> {
 }
 
 // Adds the bytes of the run for which a character stands.
-fn add_run(bytes: &mut Bytes, runs: &[(String, u64)], symbol: char) -> Result<(), Fault> {
+fn add_run(bytes: &mut Bytes, runs: &[Value], symbol: char) -> Result<(), Fault> {
     let run = (symbol as usize)
         .checked_sub(256)
         .and_then(|place| runs.get(place));
-    let Some((text, times)) = run else {
-        return Err(Fault::NotACase);
-    };
-    for _ in 0..*times {
-        add_text(bytes, text.as_str())?;
+    let (part, times) = pair(run.ok_or(Fault::NotACase)?)?;
+    for _ in 0..number(times)? {
+        add_text(bytes, text(part)?)?;
     }
     Ok(())
 }
 
 /// The bytes for which a text of the case stands.
-pub(crate) fn bytes_of(alloc: Global, case: &Case, text: &str) -> Result<Bytes, Fault> {
+pub(crate) fn bytes_of(alloc: Global, case: &Value, value: &Value) -> Result<Bytes, Fault> {
     let mut bytes = Bytes::new(alloc);
-    for symbol in text.chars() {
+    for symbol in text(value)?.chars() {
         match u8::try_from(symbol as u32) {
             Ok(byte) => bytes.push(byte)?,
-            Err(_) => add_run(&mut bytes, case.runs.as_slice(), symbol)?,
+            Err(_) => add_run(&mut bytes, items(case, "runs")?, symbol)?,
         }
     }
     Ok(bytes)
 }
 
 /// A text for the bytes. Of more than 8,192 it is their number and their SHA-256 in hexadecimal digits.
-pub(crate) fn text_of(alloc: Global, bytes: &[u8]) -> Result<String, Fault> {
+pub(crate) fn text_of(alloc: Global, bytes: &[u8]) -> Result<Value, Fault> {
     if bytes.len() > LONGEST {
         let digest = hex::encode(alloc, &Sha256::digest(bytes))?;
-        return Ok(format!(in alloc; "{} bytes, SHA-256 {digest}", bytes.len())?);
+        let text = format!(in alloc; "{} bytes, SHA-256 {digest}", bytes.len())?;
+        return Ok(Value::String(text));
     }
     let mut text = String::new(alloc);
     for byte in bytes {
         text.push(char::from(*byte))?;
     }
-    Ok(text)
+    Ok(Value::String(text))
 }

@@ -1,5 +1,12 @@
 //! What came of a case, as a line of JSON.
-use crate::case::Case;
+//!
+//! It has the case's `name`; the `status`; `out`, what was written to standard output; `served`, for each gear that was taken back what was written to each of
+//! its connections that were served; `told`, what was written to standard error, where the case asks for it; and `asked`, the requests that were sent over the
+//! link, where some were.
+//!
+//! Of a case that is run for each beginning of its connections' bytes it has the `name` and `cut`: how many bytes there were, from the first number to the
+//! second; the status; and what was written to the first connection.
+use crate::case::{all, is_set, items, numbers, refuse_others, text};
 use crate::fault::Fault;
 use crate::latin::{bytes_of, text_of};
 use crate::world::world;
@@ -7,7 +14,7 @@ use gnap_io::memory_devices::MemSink;
 use gnap_io::memory_gear::MemGear;
 use gnap_io::memory_link::MemLink;
 use gnap_tool::run;
-use serde::Serialize;
+use serde_json::{Map, Value, put};
 use std::alloc::Global;
 use std::sync::Wait;
 use std::thread::Threads;
@@ -15,142 +22,135 @@ use std::thread::Threads;
 // How many bytes can be written to standard output, and to standard error.
 const ROOM: usize = 1_048_576;
 
-/// What came of a case.
-#[derive(Drop, Serialize)]
-pub struct Outcome {
-    name: String,
-    status: u8,
-    /// What was written to standard output.
-    out: String,
-    /// For each gear that was taken back, what was written to each of its connections that were served.
-    served: Vec<Vec<String>>,
-    /// What was written to standard error, where the case asks for it.
-    told: String,
-    /// The requests that were sent over the link.
-    #[serde(skip_serializing_if = "Vec::is_empty")]
-    asked: Vec<String>,
+fn words(alloc: Global, case: &Value) -> Result<Vec<String>, Fault> {
+    let mut words = Vec::new(alloc);
+    for word in all(case.get("words").ok_or(Fault::NotACase)?)? {
+        words.push(String::from_str(alloc, text(word)?)?)?;
+    }
+    Ok(words)
 }
 
-/// What came of a case for each beginning of its connections' bytes.
-#[derive(Drop, Serialize)]
-pub struct CutOutcome {
-    name: String,
-    /// How many bytes there were, from the first number to the second; the status; and what was written to the first connection.
-    cut: Vec<(usize, usize, u8, String)>,
+fn name(alloc: Global, case: &Value) -> Result<Value, Fault> {
+    let name = text(case.get("name").ok_or(Fault::NotACase)?)?;
+    Ok(Value::try_from_str(alloc, name)?)
 }
 
-fn written(alloc: Global, gear: &MemGear) -> Result<Vec<String>, Fault> {
+fn written(alloc: Global, gear: &MemGear) -> Result<Value, Fault> {
     let mut texts = Vec::new(alloc);
     for conn in gear.served() {
         texts.push(text_of(alloc, conn.written())?)?;
     }
-    Ok(texts)
+    Ok(Value::Array(texts))
 }
 
-fn asked(alloc: Global, link: Option<&MemLink>) -> Result<Vec<String>, Fault> {
+fn asked(alloc: Global, link: &MemLink) -> Result<Value, Fault> {
     let mut texts = Vec::new(alloc);
-    if let Some(link) = link {
-        for (request, _) in link.asked() {
-            texts.push(text_of(alloc, request.as_slice())?)?;
-        }
+    for (request, _) in link.asked() {
+        texts.push(text_of(alloc, request.as_slice())?)?;
     }
-    Ok(texts)
+    Ok(Value::Array(texts))
 }
 
 fn run_case<R: Threads + Wait + Sync>(
     rt: &R,
     alloc: Global,
-    case: &Case,
+    case: &Value,
     most: usize,
-) -> Result<Outcome, Fault> {
+) -> Result<Value, Fault> {
     let mut world = world(alloc, case, most)?;
-    let mut out = MemSink::new(alloc, ROOM, case.bad_writes.clone()?)?;
+    let mut out = MemSink::new(alloc, ROOM, numbers(alloc, items(case, "bad_writes")?)?)?;
     let mut err = MemSink::new(alloc, ROOM, Vec::new(alloc))?;
-    let status = run(
-        rt,
-        alloc,
-        case.words.as_slice(),
-        &mut world,
-        &mut out,
-        &mut err,
-    );
+    let words = words(alloc, case)?;
+    let status = run(rt, alloc, words.as_slice(), &mut world, &mut out, &mut err);
     let mut served = Vec::new(alloc);
     for gear in world.stopped_gears() {
         served.push(written(alloc, gear)?)?;
     }
-    Ok(Outcome {
-        name: case.name.clone()?,
-        status,
-        out: text_of(alloc, out.written())?,
-        served,
-        told: if case.tells {
-            text_of(alloc, err.written())?
-        } else {
-            String::new(alloc)
-        },
-        asked: asked(alloc, world.closed_link())?,
-    })
+    let mut outcome = Map::new(alloc);
+    put(&mut outcome, alloc, "name", name(alloc, case)?)?;
+    put(&mut outcome, alloc, "status", Value::from(status as u64))?;
+    put(&mut outcome, alloc, "out", text_of(alloc, out.written())?)?;
+    put(&mut outcome, alloc, "served", Value::Array(served))?;
+    if is_set(case, "tells") {
+        put(&mut outcome, alloc, "told", text_of(alloc, err.written())?)?;
+    }
+    if let Some(link) = world.closed_link() {
+        if !link.asked().is_empty() {
+            put(&mut outcome, alloc, "asked", asked(alloc, link)?)?;
+        }
+    }
+    Ok(Value::Object(outcome))
 }
 
 // How many bytes the longest connection has.
-fn longest(alloc: Global, case: &Case) -> Result<usize, Fault> {
+fn longest(alloc: Global, case: &Value) -> Result<usize, Fault> {
     let mut longest = 0;
-    for gear in &case.gears {
-        for text in &gear.connections {
-            longest = bytes_of(alloc, case, text.as_str())?.len().max(longest);
+    for gear in items(case, "gears")? {
+        for bytes in items(gear, "connections")? {
+            longest = bytes_of(alloc, case, bytes)?.len().max(longest);
         }
     }
     Ok(longest)
 }
 
-// What was written to the first connection.
-fn first_written(outcome: Outcome) -> Option<String> {
-    outcome.served.into_iter().flatten().next()
+// What was written to the first connection, an empty text where none was served.
+fn first_written(outcome: &Value) -> &str {
+    outcome
+        .pointer("/served/0/0")
+        .and_then(Value::as_str)
+        .unwrap_or("")
 }
 
-// Adds what came of so many bytes, to what came of one less where it is the same.
-fn add(
-    cut: &mut Vec<(usize, usize, u8, String)>,
-    count: usize,
-    status: u8,
-    text: String,
-) -> Result<(), Fault> {
-    if let Some(last) = cut.last_mut() {
-        if last.2 == status && last.3 == text {
-            last.1 = count;
-            return Ok(());
-        }
-    }
-    cut.push((count, count, status, text))?;
-    Ok(())
+fn status(outcome: &Value) -> u64 {
+    outcome.get("status").and_then(Value::as_u64).unwrap_or(0)
+}
+
+// What came of so many bytes, from the first number to the second.
+fn part(alloc: Global, first: usize, last: usize, outcome: &Value) -> Result<Value, Fault> {
+    let mut part = Vec::new(alloc);
+    part.push(Value::from(first))?;
+    part.push(Value::from(last))?;
+    part.push(Value::from(status(outcome)))?;
+    part.push(Value::try_from_str(alloc, first_written(outcome))?)?;
+    Ok(Value::Array(part))
 }
 
 fn run_beginnings<R: Threads + Wait + Sync>(
     rt: &R,
     alloc: Global,
-    case: &Case,
-) -> Result<CutOutcome, Fault> {
-    let mut cut = Vec::new(alloc);
-    for count in 0..=longest(alloc, case)? {
-        let outcome = run_case(rt, alloc, case, count)?;
-        let status = outcome.status;
-        let text = first_written(outcome).unwrap_or(String::new(alloc));
-        add(&mut cut, count, status, text)?;
+    case: &Value,
+) -> Result<Value, Fault> {
+    let longest = longest(alloc, case)?;
+    let mut parts = Vec::new(alloc);
+    let mut first = 0;
+    let mut outcome = run_case(rt, alloc, case, 0)?;
+    for count in 0..longest {
+        let next = run_case(rt, alloc, case, count + 1)?;
+        if status(&next) != status(&outcome) || first_written(&next) != first_written(&outcome) {
+            parts.push(part(alloc, first, count, &outcome)?)?;
+            first = count + 1;
+            outcome = next;
+        }
     }
-    Ok(CutOutcome {
-        name: case.name.clone()?,
-        cut,
-    })
+    parts.push(part(alloc, first, longest, &outcome)?)?;
+    let mut cut = Map::new(alloc);
+    put(&mut cut, alloc, "name", name(alloc, case)?)?;
+    put(&mut cut, alloc, "cut", Value::Array(parts))?;
+    Ok(Value::Object(cut))
 }
 
 /// Runs the case, and tells what came of it.
 pub(crate) fn outcome_line<R: Threads + Wait + Sync>(
     rt: &R,
     alloc: Global,
-    case: &Case,
+    line: &str,
 ) -> Result<String, Fault> {
-    if case.cut {
-        return Ok(serde_json::to_string(alloc, &run_beginnings(rt, alloc, case)?)?);
-    }
-    Ok(serde_json::to_string(alloc, &run_case(rt, alloc, case, usize::MAX)?)?)
+    let case = Value::from_str(alloc, line)?;
+    refuse_others(&case)?;
+    let outcome = if is_set(&case, "cut") {
+        run_beginnings(rt, alloc, &case)?
+    } else {
+        run_case(rt, alloc, &case, usize::MAX)?
+    };
+    Ok(outcome.to_string(alloc)?)
 }

@@ -5,7 +5,7 @@ ghost use Rattle.gnap_io.specs.Gears.{IsUnused};
 ghost use Rattle.gnap_io.specs.Links.{new_link};
 ghost use Rattle.gnap_io.specs.MemoryForms.{IsUnusedConn, link_state};
 
-use crate::case::{Case, GearCase};
+use crate::case::{all, items, number, numbers, pair, text};
 use crate::fault::Fault;
 use crate::latin::bytes_of;
 use bytes_and_lists::bytes::Bytes;
@@ -15,6 +15,7 @@ use gnap_io::memory_devices::MemSource;
 use gnap_io::memory_gear::MemGear;
 use gnap_io::memory_link::MemLink;
 use gnap_io::memory_world::MemWorld;
+use serde_json::Value;
 use std::alloc::Global;
 
 const LAST_MOMENT: u64 = 253_402_300_799;
@@ -23,21 +24,20 @@ const LAST_MOMENT: u64 = 253_402_300_799;
 const ROOM: u64 = 262_144;
 
 // The numbers of the calls that fail, at a place of a list of them.
-fn plan(alloc: Global, plans: &[Vec<u64>], place: usize) -> Result<Vec<u64>, Fault> {
+fn plan(alloc: Global, plans: &[Value], place: usize) -> Result<Vec<u64>, Fault> {
     match plans.get(place) {
         None => Ok(Vec::new(alloc)),
-        Some(plan) => Ok(plan.clone()?),
+        Some(plan) => numbers(alloc, all(plan)?),
     }
 }
 
-fn files(alloc: Global, case: &Case) -> Result<Vec<(Bytes, MemSource)>, Fault> {
+fn files(alloc: Global, case: &Value) -> Result<Vec<(Bytes, MemSource)>, Fault> {
     let mut files = Vec::new(alloc);
-    for (place, (name, text)) in case.files.iter().enumerate() {
-        let source = MemSource::new(
-            bytes_of(alloc, case, text.as_str())?,
-            plan(alloc, case.bad_reads.as_slice(), place)?,
-        );
-        files.push((Bytes::from_slice(alloc, name.as_bytes())?, source))?;
+    for (place, file) in items(case, "files")?.iter().enumerate() {
+        let (name, bytes) = pair(file)?;
+        let bad_reads = plan(alloc, items(case, "bad_reads")?, place)?;
+        let source = MemSource::new(bytes_of(alloc, case, bytes)?, bad_reads);
+        files.push((Bytes::from_slice(alloc, text(name)?.as_bytes())?, source))?;
     }
     Ok(files)
 }
@@ -50,96 +50,104 @@ fn beginning(alloc: Global, bytes: Bytes, most: usize) -> Result<Bytes, Fault> {
     Ok(Bytes::from_slice(alloc, &bytes.as_slice()[..most])?)
 }
 
+// How many bytes can be written to the connection at this place.
+fn room(gear: &Value, place: usize) -> Result<usize, Fault> {
+    match items(gear, "rooms")?.get(place) {
+        None => Ok(ROOM as usize),
+        Some(room) => Ok(number(room)?.min(ROOM) as usize),
+    }
+}
+
 fn connection(
     alloc: Global,
-    case: &Case,
-    gear: &GearCase,
+    case: &Value,
+    gear: &Value,
     place: usize,
-    text: &str,
+    bytes: &Value,
     most: usize,
 ) -> Result<MemConn, Fault>
     ensures { IfOk result IsUnusedConn }
 {
-    let bytes = beginning(alloc, bytes_of(alloc, case, text)?, most)?;
-    let room = gear.rooms.get(place).copied().unwrap_or(ROOM).min(ROOM) as usize;
-    let bad_reads = plan(alloc, gear.bad_reads.as_slice(), place)?;
-    let bad_writes = plan(alloc, gear.bad_writes.as_slice(), place)?;
-    Ok(MemConn::new(alloc, bytes, room, bad_reads, bad_writes)?)
+    let bytes = beginning(alloc, bytes_of(alloc, case, bytes)?, most)?;
+    let bad_reads = plan(alloc, items(gear, "bad_reads")?, place)?;
+    let bad_writes = plan(alloc, items(gear, "bad_writes")?, place)?;
+    Ok(MemConn::new(alloc, bytes, room(gear, place)?, bad_reads, bad_writes)?)
 }
 
 fn connections(
     alloc: Global,
-    case: &Case,
-    gear: &GearCase,
+    case: &Value,
+    gear: &Value,
     most: usize,
 ) -> Result<Vec<MemConn>, Fault>
     ensures { IfOk result (λ conns. All IsUnusedConn conns.items) }
 {
     let mut conns = Vec::new(alloc);
-    for (place, text) in gear.connections.iter().enumerate() {
-        conns.push(connection(alloc, case, gear, place, text.as_str(), most)?)?;
+    for (place, bytes) in items(gear, "connections")?.iter().enumerate() {
+        conns.push(connection(alloc, case, gear, place, bytes, most)?)?;
     }
     Ok(conns)
 }
 
-fn moments(alloc: Global, gear: &GearCase) -> Result<Vec<u64>, Fault>
+fn moments(alloc: Global, gear: &Value) -> Result<Vec<u64>, Fault>
     ensures { IfOk result (λ moments. All (λ m. m ≤ last_moment) moments.items) }
 {
     let mut moments = Vec::new(alloc);
-    for moment in &gear.moments {
-        moments.push((*moment).min(LAST_MOMENT))?;
+    for moment in items(gear, "moments")? {
+        moments.push(number(moment)?.min(LAST_MOMENT))?;
     }
     Ok(moments)
 }
 
-fn draws(alloc: Global, gear: &GearCase) -> Result<Vec<[u64; 48]>, Fault> {
+fn draws(alloc: Global, gear: &Value) -> Result<Vec<[u64; 48]>, Fault> {
     let mut draws = Vec::new(alloc);
-    for given in &gear.draws {
+    for given in items(gear, "draws")? {
         let mut words = [0; 48];
-        for (word, given) in words.iter_mut().zip(given) {
-            *word = *given;
+        for (word, given) in words.iter_mut().zip(all(given)?) {
+            *word = number(given)?;
         }
         draws.push(words)?;
     }
     Ok(draws)
 }
 
-fn gear(alloc: Global, case: &Case, gear: &GearCase, most: usize) -> Result<MemGear, Fault>
+fn gear(alloc: Global, case: &Value, gear: &Value, most: usize) -> Result<MemGear, Fault>
     ensures { IfOk result (λ gear. IsUnused (⟦<MemGear as Counted>⟧.state gear)) }
 {
     Ok(MemGear::new(
         connections(alloc, case, gear, most)?,
         moments(alloc, gear)?,
         draws(alloc, gear)?,
-        gear.bad_accepts.clone()?,
+        numbers(alloc, items(gear, "bad_accepts")?)?,
     )?)
 }
 
-fn gears(alloc: Global, case: &Case, most: usize) -> Result<Vec<MemGear>, Fault>
+fn gears(alloc: Global, case: &Value, most: usize) -> Result<Vec<MemGear>, Fault>
     ensures { IfOk result (λ gears. All (λ gear. IsUnused (⟦<MemGear as Counted>⟧.state gear)) gears.items) }
 {
     let mut gears = Vec::new(alloc);
-    for given in &case.gears {
+    for given in items(case, "gears")? {
         gears.push(gear(alloc, case, given, most)?)?;
     }
     Ok(gears)
 }
 
-fn link(alloc: Global, case: &Case) -> Result<MemLink, Fault>
+fn link(alloc: Global, case: &Value) -> Result<MemLink, Fault>
     ensures { IfOk result (λ link. link_state link ≡ new_link) }
 {
     let mut replies = Vec::new(alloc);
-    for text in &case.replies {
-        replies.push(bytes_of(alloc, case, text.as_str())?)?;
+    for reply in items(case, "replies")? {
+        replies.push(bytes_of(alloc, case, reply)?)?;
     }
-    Ok(MemLink::new(replies, case.bad_exchanges.clone()?))
+    Ok(MemLink::new(replies, numbers(alloc, items(case, "bad_exchanges")?)?))
 }
 
 /// The world of the case, whose connections have at most so many of their bytes.
-pub(crate) fn world(alloc: Global, case: &Case, most: usize) -> Result<MemWorld, Fault> {
+pub(crate) fn world(alloc: Global, case: &Value, most: usize) -> Result<MemWorld, Fault> {
     let mut at = Vec::new(alloc);
     at.push((Bytes::from_slice(alloc, b"a")?, gears(alloc, case, most)?))?;
     let mut links = Vec::new(alloc);
     links.push((Bytes::from_slice(alloc, b"a")?, link(alloc, case)?))?;
-    Ok(MemWorld::new(files(alloc, case)?, at, links, case.bad_opens.clone()?))
+    let bad_opens = numbers(alloc, items(case, "bad_opens")?)?;
+    Ok(MemWorld::new(files(alloc, case)?, at, links, bad_opens))
 }
