@@ -17,14 +17,18 @@ use gnap_model::rights::{Right, RightObject, Rights, Texts};
 use json_objects::compact_text;
 use serde_json::{Map, Value};
 use std::alloc::Global;
+use thiserror::Error;
 
 /// Why a JSON value isn't an array of rights.
-#[derive(Clone, Copy, Debug, PartialEq, Eq)]
+#[derive(Clone, Copy, Debug, PartialEq, Eq, Error)]
 pub enum RightsFault {
     /// Another JSON type, an empty text or array, or a right in full without a type.
+    #[error("the rights aren't of their form")]
     Wrong,
     /// A text, an array or the number of a right's atoms passes its limit.
+    #[error("a right is too long or has too many items")]
     TooMany,
+    #[error("memory ran out")]
     OutOfMemory,
 }
 

@@ -1,6 +1,5 @@
 pub mod NewKeys
+pub mod MarkSizes
 pub mod WhoSigned
 pub mod Authorizations
 pub mod Askable
-pub mod BothKeys
-pub mod DirectErrors

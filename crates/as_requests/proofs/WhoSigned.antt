@@ -12,8 +12,7 @@ use Rattle.message_signature.specs.declared.marks.SignatureMark.{SignatureMark}
 use Rattle.message_signature.specs.Marks.{longest_nonce, latest_created, mark_of}
 use Rattle.message_signature.specs.Marked.{with_mark, verified_marked}
 use Rattle.message_signature.specs.Verified.{verified}
-use Rattle.message_signature.proofs.Accepted.{verified_accepted}
-use Rattle.message_signature.proofs.MarkSizes.{HasSizes, mark_fits}
+use Rattle.message_signature.proofs.VerifiedParts.{verified_key}
 use Rattle.gnap_model.specs.Common.{Text}
 use Rattle.gnap_model.specs.declared.objects.KeyRow.{KeyRow}
 use Rattle.gnap_model.specs.declared.objects.Setup.{Setup}
@@ -22,6 +21,7 @@ use Rattle.gnap_objects.specs.Setups.{IsSetup}
 use Rattle.grant_machine.specs.Gnap.{MarkFits}
 use Rattle.as_requests.specs.Rings.{secrets_of}
 use Rattle.as_requests.specs.Signers.{call_mark, signer_with, SignerFits}
+use Rattle.as_requests.proofs.MarkSizes.{HasSizes, mark_fits}
 
 id_text : (ks : List KeyRow) (id secret : Text) → AllByRecursion KeyFits ks → value_at (map (λ k. (k.id, k.secret)) ks) id ≡ Some secret → IsUtf8 id
 id_text [] id secret fit e = absurd cc
@@ -36,8 +36,8 @@ id_text (k ∷ ks) id secret fit e = by (bytes_eq id k.id) refl e (id_text ks id
 
 pub signer_text : (setup : Setup) (m : Message) (moment : ℕ) (id : Text) → IsSetup setup → verified m setup.base (secrets_of setup) moment (codes "gnap") ≡ Ok id → IsUtf8 id
 signer_text setup m moment id is e =
-    let accepted = verified_accepted m setup.base (secrets_of setup) moment (codes "gnap") id e in
-    id_text setup.keys id accepted.secret is.fits.keys accepted.key
+    let known = verified_key m setup.base (secrets_of setup) moment (codes "gnap") id e in
+    id_text setup.keys id known.0 is.fits.keys known.1
 
 -- ---- the mark
 

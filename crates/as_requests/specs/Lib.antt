@@ -4,5 +4,3 @@ pub mod Presented
 pub mod Signers
 pub mod KeyRotations
 pub mod DeskCalls
-pub mod Laws
-pub mod DirectErrors

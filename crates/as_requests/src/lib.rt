@@ -6,14 +6,14 @@
 //! message came and how an answer is printed. A call that is asked can be taken: its texts can be shown, it has at most 8 asks, and its mark, where it has
 //! one, a nonce of 1 to 64 bytes.
 //!
-//! `laws` says what this amounts to for a token's move to a new key: it is asked only where both keys signed.
+//! The crate `request_laws` says what this amounts to: a token's move to a new key is asked only where both keys signed, and an error that is answered at
+//! once has its cause.
 #![tactic(auto)]
 
 pub mod authorization;
 pub mod desk_calls;
 pub mod edge;
 mod key_rotations;
-pub mod laws;
 pub mod routes;
 pub mod signers;
 

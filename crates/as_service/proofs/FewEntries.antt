@@ -20,7 +20,8 @@ use Rattle.as_edge.specs.EdgeSessions.{IsEdgeSession}
 use Rattle.http_serving.specs.EdgeWire.{edge_wire}
 use Rattle.as_service.specs.Services.{IsService, not_started, served}
 
-connections_few : (quota : ℕ) (gears : List GearState) → quota ≤ 4294967295 → All (λ gear. length gear.log.served ≤ quota) gears
+-- gears that each serve at most a quota of connections
+pub connections_few : (quota : ℕ) (gears : List GearState) → quota ≤ 4294967295 → All (λ gear. length gear.log.served ≤ quota) gears
     → connections_of gears ≤ 4294967295 * length gears
 connections_few quota [] most few = omega arith
 connections_few quota (gear ∷ gears) most few =

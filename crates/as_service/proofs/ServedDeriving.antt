@@ -1,6 +1,6 @@
 -- What serving at an address leaves behind where tokens are derived.
 use Rattle.std.proofs.Common.{◌≡◌, ℕ, suc, ◌*◌, ◌^◌, ◌≤◌, List, [], ◌∷◌, length, length-append, sym, subst, arith}
-use Rattle.std.specs.Prelude.{All, Bool, Result}
+use Rattle.std.specs.Prelude.{Bool, Result}
 use Rattle.gnap_io.specs.Outside.{Served}
 use Rattle.gnap_io.specs.Gears.{GearState}
 use Rattle.gnap_io.specs.Worlds.{WorldState}
@@ -26,6 +26,7 @@ use Rattle.derived_tokens.specs.DerivedTurns as derived
 use Rattle.derived_tokens.specs.DerivedSessions.{IsDerivingSession}
 use Rattle.as_service.specs.DerivedServices.{IsDerivingService, not_started, served}
 use Rattle.derived_tokens.proofs.DerivedEntries.{history_derived}
+use Rattle.as_service.proofs.FewEntries.{connections_few}
 
 -- ---- how many entries there are
 
@@ -52,14 +53,6 @@ session_few pairs setup conn turns is =
     let most = is.1.few in
     let two_each = turns_few pairs setup 0 turns is.1.each in
     omega (arith, most, two_each)
-
-connections_few : (quota : ℕ) (gears : List GearState) → quota ≤ 4294967295 → All (λ gear. length gear.log.served ≤ quota) gears
-    → connections_of gears ≤ 4294967295 * length gears
-connections_few quota [] most few = omega arith
-connections_few quota (gear ∷ gears) most few =
-    let first = few 0 gear (omega arith) in
-    let rest = connections_few quota gears most (λ k d lt. few (suc k) d (omega (arith, lt))) in
-    omega (arith, first, rest, most)
 
 -- the history that at most 64 gears account for is short enough for what is known of legal histories
 few_enough : (pairs : List Pair) (setup : Setup) (gears : List GearState) (one : OneHistory gnap setup (accounts_of (IsDerivingSession pairs setup) gears)) → length gears ≤ 64

@@ -2,11 +2,10 @@
 //!
 //!     bench TASK TIMES
 //!
-//! measures one, done so often, and prints the nanoseconds of one, the mean. The tasks are `covering`, `requests`, `introspections`, `grants` and `adding`;
-//! a module of each name says what is done and printed. Without words each is done a few times, and no time is printed.
+//! measures one, done so often, and prints the nanoseconds of one, the mean. The tasks are `covering`, `requests`, `grants` and `adding`; a module of each name
+//! says what is done and printed. Without words each is done a few times, and no time is printed.
 //!
-//! Standard input has the lines of two tasks, also where one of them is measured alone: four of the requests, and behind them those of the introspections.
-//! For another task alone it isn't read.
+//! Standard input has the four lines of the requests. For another task alone it isn't read.
 #![tactic(auto)]
 
 mod adding;
@@ -14,7 +13,6 @@ mod connections;
 mod covering;
 mod grants;
 mod hashes;
-mod introspections;
 mod requests;
 mod timings;
 
@@ -24,32 +22,21 @@ use std::sync::Wait;
 use std::thread::Threads;
 use std::{env, io};
 
-// How many lines are those of the requests.
-const REQUEST_LINES: usize = 4;
-
 #[derive(Clone, Copy)]
 enum Task {
     Covering,
     Requests,
-    Introspections,
     Grants,
     Adding,
 }
 
-const TASKS: [Task; 5] = [
-    Task::Covering,
-    Task::Requests,
-    Task::Introspections,
-    Task::Grants,
-    Task::Adding,
-];
+const TASKS: [Task; 4] = [Task::Covering, Task::Requests, Task::Grants, Task::Adding];
 
 impl Task {
     fn named(word: &str) -> Option<Task> {
         match word {
             "covering" => Some(Task::Covering),
             "requests" => Some(Task::Requests),
-            "introspections" => Some(Task::Introspections),
             "grants" => Some(Task::Grants),
             "adding" => Some(Task::Adding),
             _ => None,
@@ -58,23 +45,21 @@ impl Task {
 
     fn takes_lines(self) -> bool {
         match self {
-            Task::Requests | Task::Introspections => true,
+            Task::Requests => true,
             Task::Covering | Task::Grants | Task::Adding => false,
         }
     }
 
-    // Does the task as often as asked, with the lines of both tasks that have lines.
+    // Does the task as often as asked, with the lines of the requests.
     fn measure<R: Threads + Wait + Sync + Clock + Print + AllocGlobal>(
         self,
         rt: &R,
         lines: &[String],
         asked: Option<u64>,
     ) -> io::Result<()> {
-        let (requests, introspections) = lines.split_at(lines.len().min(REQUEST_LINES));
         match self {
             Task::Covering => covering::measure(rt, asked),
-            Task::Requests => requests::measure(rt, requests, asked),
-            Task::Introspections => introspections::measure(rt, introspections, asked),
+            Task::Requests => requests::measure(rt, lines, asked),
             Task::Grants => grants::measure(rt, asked),
             Task::Adding => adding::measure(rt, asked),
         }
@@ -105,7 +90,7 @@ impl Order {
 fn main(rt: HostRuntime) -> io::Result<()> {
     let words: Vec<String> = env::args(&rt)?.skip(1).collect(rt.alloc())?;
     let Some(order) = Order::told_by(words.as_slice()) else {
-        return println!(rt; "usage: bench [covering|requests|introspections|grants|adding TIMES]");
+        return println!(rt; "usage: bench [covering|requests|grants|adding TIMES]");
     };
     match order {
         Order::Each => {

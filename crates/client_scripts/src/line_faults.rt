@@ -5,6 +5,7 @@ ghost use Rattle.client_scripts.specs.Lines.{name_of, in_body, missing, wrong};
 
 use bytes_and_lists::memory::Mem;
 use gnap_objects::ObjectFault;
+use std::fmt;
 
 /// A member of a line.
 #[derive(Clone, Copy)]
@@ -35,6 +36,20 @@ impl LineMember {
             LineMember::Token => "token",
             LineMember::Method => "method",
             LineMember::Path => "path",
+        }
+    }
+
+    /// What the member has to be, in words.
+    pub fn form(self) -> &'static str {
+        match self {
+            LineMember::At => "a moment (0 to 253402300799, in seconds since 1970)",
+            LineMember::Nonce => "1 to 64 letters, digits, `.`, `_` or `-`",
+            LineMember::Do => "begin, poll, finish, patch, cancel, rotate, revoke or use",
+            LineMember::Body => "an object with whole numbers",
+            LineMember::Hash | LineMember::Reference => "a string",
+            LineMember::Token => "a whole number from 0 to 2^64 - 1",
+            LineMember::Method => "1 to 15 upper-case letters",
+            LineMember::Path => "`/` and at most 2,047 bytes from 0x21 to 0x7E",
         }
     }
 }
@@ -74,6 +89,28 @@ impl From<ObjectFault> for LineFault {
         match fault {
             ObjectFault::OutOfMemory => LineFault::OutOfMemory,
             fault => LineFault::BadLine(BadLine::InBody(fault)),
+        }
+    }
+}
+
+impl fmt::Display for BadLine {
+    fn fmt<W: fmt::Write>(&self, f: &mut fmt::Formatter<W>) -> fmt::Result {
+        match self {
+            BadLine::NotJson => f.write_str("it is no JSON"),
+            BadLine::Missing(member) => write!(f, "member `{}` is missing", member.name()),
+            BadLine::Wrong(member) => {
+                write!(f, "member `{}` isn't {}", member.name(), member.form())
+            }
+            BadLine::InBody(fault) => write!(f, "in `body`, {fault}"),
+        }
+    }
+}
+
+impl fmt::Display for LineFault {
+    fn fmt<W: fmt::Write>(&self, f: &mut fmt::Formatter<W>) -> fmt::Result {
+        match self {
+            LineFault::BadLine(why) => write!(f, "{why}"),
+            LineFault::OutOfMemory => f.write_str("memory ran out"),
         }
     }
 }

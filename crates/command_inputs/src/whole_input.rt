@@ -7,15 +7,19 @@ use bytes_and_lists::bytes::Bytes;
 use bytes_and_lists::memory::Mem;
 use gnap_io::device::Source;
 use std::alloc::Global;
+use thiserror::Error;
 
 /// Why a source wasn't read to its end.
-#[derive(Clone, Copy, Debug, PartialEq, Eq)]
+#[derive(Clone, Copy, Debug, PartialEq, Eq, Error)]
 pub enum InputFault {
     /// It has more bytes than are wanted.
+    #[error("it has more bytes than are wanted")]
     TooLong,
     /// A read failed.
+    #[error("a read failed")]
     Failed,
     /// Memory ran out.
+    #[error("memory ran out")]
     OutOfMemory,
 }
 

@@ -1,2 +1,4 @@
 pub mod AfterDashes
+pub mod Numerals
 pub mod Refusals
+pub mod WordCounts

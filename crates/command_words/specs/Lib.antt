@@ -1,1 +1,3 @@
 pub mod Positionals
+pub mod Numbers
+pub mod Commands

@@ -4,6 +4,7 @@ ghost use Rattle.content_digest.specs.declared.fault.DigestFault.TheVariants.{Ou
 
 use bytes_and_lists::bytes::Bytes;
 use bytes_and_lists::memory::Mem;
+use std::fmt;
 
 /// Why a Content-Digest field doesn't pass.
 #[derive(Drop)]
@@ -27,5 +28,16 @@ impl From<Mem> for DigestFault {
 
     fn from(_e: Mem) -> DigestFault {
         DigestFault::OutOfMemory
+    }
+}
+
+impl fmt::Display for DigestFault {
+    fn fmt<W: fmt::Write>(&self, f: &mut fmt::Formatter<W>) -> fmt::Result {
+        f.write_str(match self {
+            DigestFault::NotAField => "`content-digest` isn't a dictionary of byte sequences",
+            DigestFault::NoKnown => "`content-digest` has neither `sha-256` nor `sha-512`",
+            DigestFault::Differs { .. } => "`content-digest` isn't the digest of the body",
+            DigestFault::OutOfMemory => "memory ran out",
+        })
     }
 }

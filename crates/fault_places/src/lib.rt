@@ -9,6 +9,7 @@ use gnap_objects::SetupFault;
 use json_objects::has_fraction;
 use serde_json::Value;
 use std::alloc::Global;
+use std::fmt;
 
 /// Where a text that should be a setup or a configuration is at fault.
 #[derive(Drop)]
@@ -23,6 +24,25 @@ pub enum FaultPlace {
     Key(Bytes),
     /// No nearer place is known.
     Unknown,
+}
+
+impl fmt::Display for FaultPlace {
+    fn fmt<W: fmt::Write>(&self, f: &mut fmt::Formatter<W>) -> fmt::Result {
+        match self {
+            FaultPlace::Syntax { line, column } => {
+                write!(f, "it is no JSON at line {line}, column {column}")
+            }
+            FaultPlace::NoObject => f.write_str("it is JSON, but no object"),
+            FaultPlace::Number => {
+                f.write_str("a number in it isn't a whole one from -2^63 to 2^64 - 1")
+            }
+            FaultPlace::Key(id) => match str::from_utf8(id.as_slice()) {
+                Ok(id) => write!(f, "in the key `{id}`"),
+                Err(_) => f.write_str("in a key"),
+            },
+            FaultPlace::Unknown => f.write_str("no place is known"),
+        }
+    }
 }
 
 fn json_place(alloc: Global, text: &[u8]) -> FaultPlace {

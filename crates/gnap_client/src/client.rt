@@ -10,6 +10,7 @@ use gnap_model::calls::Tokens;
 use gnap_model::objects::{ErrorCode, Finish};
 use reply_readers::{GrantReply, Interaction};
 use std::alloc::Global;
+use std::fmt;
 
 /// Where a grant stands, as its client knows it.
 #[derive(Clone, Copy, Debug, PartialEq, Eq)]
@@ -175,5 +176,25 @@ impl Client {
         ensures { option_map (λ b. b.now) result ≡ self.now.received.subject }
     {
         self.received.subject.as_ref()
+    }
+}
+
+impl fmt::Display for ClientFault {
+    fn fmt<W: fmt::Write>(&self, f: &mut fmt::Formatter<W>) -> fmt::Result {
+        match self {
+            ClientFault::NotInGrammar => f.write_str("the bytes are no reply to the request"),
+            ClientFault::HashDiffers { .. } => {
+                f.write_str("the hash isn't the one that the client computes")
+            }
+            ClientFault::WrongState { state } => {
+                write!(f, "the call isn't made in the state {state:?}")
+            }
+            ClientFault::NoToken { held } => {
+                write!(f, "there is no such token: {held} are held")
+            }
+            ClientFault::Refused { code } => write!(f, "the server refused: {}", code.text()),
+            ClientFault::LinkFault => f.write_str("the link failed"),
+            ClientFault::OutOfMemory => f.write_str("memory ran out"),
+        }
     }
 }

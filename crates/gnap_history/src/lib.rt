@@ -24,9 +24,11 @@ mod presented_values;
 mod rounds;
 mod user_codes;
 
+pub use drawn_texts::{code_text, value_text};
 pub use gnap_model::calls::{Call, FinishOut, Reply, TokenOut, Tokens};
 pub use grant_machine::{Gnap, laws};
 pub use histories::lone::Lone;
 pub use histories::machine::{Core, Desk, Machine};
 pub use list_core::{ListCore, ListDesk, list_desk};
 pub use note_core::NoteCore;
+pub use signed_calls::signed::{Mark, Signed};

@@ -2,13 +2,16 @@
 ghost use Rattle.gnap_io.specs.Links.{LinkState, Exchanges};
 
 use bytes_and_lists::bytes::Bytes;
+use thiserror::Error;
 
 /// Why no reply came.
-#[derive(Clone, Copy, Debug, PartialEq, Eq)]
+#[derive(Clone, Copy, Debug, PartialEq, Eq, Error)]
 pub enum LinkFault {
     /// The link failed: its count of faults rose.
+    #[error("the link failed")]
     Failed,
     /// Memory ran out, and nothing was sent.
+    #[error("memory ran out")]
     OutOfMemory,
 }
 

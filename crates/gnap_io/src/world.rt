@@ -9,13 +9,16 @@ use crate::device::Source;
 use crate::gear::Gear;
 use crate::link::Link;
 use bytes_and_lists::bytes::Bytes;
+use thiserror::Error;
 
 /// Why the world handed nothing out.
-#[derive(Clone, Copy, Debug, PartialEq, Eq)]
+#[derive(Clone, Copy, Debug, PartialEq, Eq, Error)]
 pub enum WorldFault {
     /// It failed: its count of faults rose.
+    #[error("it can't be opened")]
     Failed,
     /// Memory ran out.
+    #[error("memory ran out")]
     OutOfMemory,
 }
 

@@ -5,6 +5,7 @@ ghost use Rattle.gnap_objects.specs.declared.fault.ObjectFault.TheVariants.{Miss
 use bytes_and_lists::bytes::Bytes;
 use bytes_and_lists::memory::Mem;
 use std::alloc::Global;
+use std::fmt;
 
 /// The first fault that a reader meets, with the name of the member in which it stands.
 #[derive(Drop)]
@@ -31,6 +32,30 @@ impl From<Mem> for ObjectFault {
 }
 
 impl ObjectFault {
+    /// The name of the member at fault. None where memory ran out.
+    pub fn member(&self) -> Option<&Bytes> {
+        match self {
+            ObjectFault::Missing(name)
+            | ObjectFault::Wrong(name)
+            | ObjectFault::TooMany(name)
+            | ObjectFault::Flag(name)
+            | ObjectFault::Unknown(name) => Some(name),
+            ObjectFault::OutOfMemory => None,
+        }
+    }
+
+    /// What is wrong with that member, in words that stand behind its name; or that memory ran out.
+    pub fn words(&self) -> &'static str {
+        match self {
+            ObjectFault::Missing(_) => "is missing",
+            ObjectFault::Wrong(_) => "isn't of its form",
+            ObjectFault::TooMany(_) => "is too long or has too many items",
+            ObjectFault::Flag(_) => "has a flag twice",
+            ObjectFault::Unknown(_) => "isn't known here",
+            ObjectFault::OutOfMemory => "memory ran out",
+        }
+    }
+
     pub(crate) fn missing(alloc: Global, name: &str) -> ObjectFault
         ensures { (result ≡ OutOfMemory) ⊎ (result ≡ Missing name.now) }
     {
@@ -73,6 +98,19 @@ impl ObjectFault {
         match Bytes::from_slice(alloc, name.as_bytes()) {
             Ok(name) => ObjectFault::Unknown(name),
             Err(Mem) => ObjectFault::OutOfMemory,
+        }
+    }
+}
+
+/// Shows the member's name as it is. A name that isn't known may be of somebody else.
+impl fmt::Display for ObjectFault {
+    fn fmt<W: fmt::Write>(&self, f: &mut fmt::Formatter<W>) -> fmt::Result {
+        let Some(name) = self.member() else {
+            return f.write_str(self.words());
+        };
+        match str::from_utf8(name.as_slice()) {
+            Ok(name) => write!(f, "member `{name}` {}", self.words()),
+            Err(_) => write!(f, "a member {}", self.words()),
         }
     }
 }

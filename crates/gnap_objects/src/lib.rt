@@ -31,6 +31,7 @@ pub use gnap_model::objects::{
 };
 pub use grants::read_grant;
 pub use introspections::read_introspect;
+pub use json_objects::{BodyFault, read_body};
 pub use registrations::{Registration, read_registration, read_resolution};
 pub use setups::{SetupFault, read_setup};
 pub use user_codes::read_code;

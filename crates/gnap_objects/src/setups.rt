@@ -25,6 +25,7 @@ use gnap_model::rights::{Names, Rights};
 use json_objects::TextSet;
 use serde_json::Value;
 use std::alloc::Global;
+use std::fmt;
 
 /// Why bytes are no setup.
 #[derive(Drop)]
@@ -54,6 +55,22 @@ impl From<Mem> for SetupFault {
 
     fn from(_e: Mem) -> SetupFault {
         SetupFault::OutOfMemory
+    }
+}
+
+impl fmt::Display for SetupFault {
+    fn fmt<W: fmt::Write>(&self, f: &mut fmt::Formatter<W>) -> fmt::Result {
+        match self {
+            SetupFault::NotJson => f.write_str("it isn't one JSON object with whole numbers"),
+            SetupFault::InSetup(fault) => write!(f, "{fault}"),
+            SetupFault::InKey(place, fault) => {
+                write!(
+                    f,
+                    "{fault}, in the key at place {place} of `keys`, counted from 0"
+                )
+            }
+            SetupFault::OutOfMemory => f.write_str("memory ran out"),
+        }
     }
 }
 

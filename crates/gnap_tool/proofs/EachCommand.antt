@@ -9,11 +9,11 @@ use Rattle.gnap_io.proofs.Devices.{writes_none}
 use Rattle.command_inputs.specs.declared.ended.Ended.{Ended}
 use Rattle.command_inputs.specs.declared.ended.Ended.TheVariants.{Done, NoSetup, Failed, WriteFault, Memory, Refused, TooLong}
 use Rattle.command_inputs.specs.Ends.{status_of}
-use Rattle.gnap_tool.specs.declared.command.Command.{Command}
-use Rattle.gnap_tool.specs.declared.command.Command.TheVariants.{Replay, Field, Sign, Verify, Serve, Rs, Client, Hash, Load}
+use Rattle.command_words.specs.declared.command.Command.{Command}
+use Rattle.command_words.specs.declared.command.Command.TheVariants.{Replay, Field, Sign, Verify, Serve, Rs, Client, Hash, Load}
 use Rattle.gnap_tool.specs.declared.purpose.Purpose.{Purpose}
 use Rattle.gnap_tool.specs.declared.purpose.Purpose.TheVariants as purposes
-use Rattle.gnap_tool.specs.Commands.{openings_of, quota_of, input_place}
+use Rattle.gnap_tool.specs.Openings.{openings_of, quota_of, input_place}
 use Rattle.gnap_tool.specs.Runs.{CarriesOut, input_of}
 use Rattle.world_uses.specs.Uses.{UsesWorld}
 

@@ -15,10 +15,10 @@ use Rattle.rs_facing.specs.SetServices.{IsSetService}
 use Rattle.rs_facing.specs.SetServices as sets
 use Rattle.command_inputs.specs.declared.ended.Ended.{Ended}
 use Rattle.command_inputs.specs.declared.ended.Ended.TheVariants.{Failed, Memory}
-use Rattle.gnap_tool.specs.declared.command.Service.{Service}
-use Rattle.gnap_tool.specs.declared.command.Service.TheVariants.{Grants, Derivations, Sets}
-use Rattle.gnap_tool.specs.declared.command.ServedSetup.{ServedSetup}
-use Rattle.gnap_tool.specs.Commands.{service_openings}
+use Rattle.command_words.specs.declared.command.Service.{Service}
+use Rattle.command_words.specs.declared.command.Service.TheVariants.{Grants, Derivations, Sets}
+use Rattle.command_words.specs.declared.command.ServedSetup.{ServedSetup}
+use Rattle.gnap_tool.specs.Openings.{service_openings}
 use Rattle.gnap_tool.specs.Runs.{ServesBy, ended_service}
 use Rattle.gnap_tool.proofs.ServedGears.{gears_used}
 use Rattle.world_uses.specs.Uses.{UsesWorld}

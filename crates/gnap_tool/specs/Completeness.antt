@@ -8,10 +8,10 @@ use Rattle.command_inputs.specs.Configs.{setup_in}
 use Rattle.command_inputs.specs.Lines.{lines_of}
 use Rattle.call_replay.specs.Replays.{first_of}
 use Rattle.world_uses.specs.Uses.{HasFailed}
-use Rattle.gnap_tool.specs.declared.command.Command.{Command}
-use Rattle.gnap_tool.specs.declared.command.Command.TheVariants.{Replay, Field, Sign, Verify, Serve, Rs, Client, Hash, Load}
-use Rattle.gnap_tool.specs.declared.command.Service.{Service}
-use Rattle.gnap_tool.specs.declared.command.Service.TheVariants.{Grants, Derivations, Sets}
+use Rattle.command_words.specs.declared.command.Command.{Command}
+use Rattle.command_words.specs.declared.command.Command.TheVariants.{Replay, Field, Sign, Verify, Serve, Rs, Client, Hash, Load}
+use Rattle.command_words.specs.declared.command.Service.{Service}
+use Rattle.command_words.specs.declared.command.Service.TheVariants.{Grants, Derivations, Sets}
 use Rattle.gnap_tool.specs.Configs.{client_config_in, rs_setup_in, pairs_in}
 
 -- what was taken of a file, with something that may be left of it, reads as this

@@ -10,11 +10,11 @@ use Rattle.as_service.specs.Services.{IsService}
 use Rattle.rs_facing.specs.SetServices.{IsSetService}
 use Rattle.derivation_requests.specs.Pairs.{Pair}
 use Rattle.as_service.specs.DerivedServices.{IsDerivingService}
-use Rattle.gnap_tool.specs.declared.command.Command.{Command}
-use Rattle.gnap_tool.specs.declared.command.Command.TheVariants.{Replay, Field, Sign, Verify, Serve, Rs, Client, Hash, Load}
-use Rattle.gnap_tool.specs.declared.command.Service.{Service}
-use Rattle.gnap_tool.specs.declared.command.Service.TheVariants.{Grants, Derivations, Sets}
-use Rattle.gnap_tool.specs.declared.command.ServedSetup.{ServedSetup}
+use Rattle.command_words.specs.declared.command.Command.{Command}
+use Rattle.command_words.specs.declared.command.Command.TheVariants.{Replay, Field, Sign, Verify, Serve, Rs, Client, Hash, Load}
+use Rattle.command_words.specs.declared.command.Service.{Service}
+use Rattle.command_words.specs.declared.command.Service.TheVariants.{Grants, Derivations, Sets}
+use Rattle.command_words.specs.declared.command.ServedSetup.{ServedSetup}
 use Rattle.gnap_tool.specs.declared.purpose.Purpose.{Purpose}
 use Rattle.gnap_tool.specs.declared.purpose.Purpose.TheVariants as purposes
 use Rattle.command_inputs.specs.declared.ended.Ended.{Ended}

@@ -1,43 +1,33 @@
-//! What a person is told, on standard error. Whether it is written changes nothing else.
-use crate::command::{Command, Service};
+//! What a person is told, on standard error, of a command that wasn't carried out. Whether it is written changes nothing else.
 use bytes_and_lists::bytes::Bytes;
 use command_inputs::{ConfigKind, Ended, WrongSetup};
+use command_words::telling::{tell, tell_number, tell_shown};
+use command_words::{Command, Service};
 use fault_places::FaultPlace;
 use gnap_io::device::{Sink, write_all};
 use gnap_objects::{ObjectFault, SetupFault};
+use std::fmt;
+use std::fmt::Write;
 
-/// Writes these pieces, as far as they can be written.
-pub(crate) fn tell<E: Sink>(err: &mut E, pieces: &[&[u8]]) {
-    for piece in pieces {
-        if write_all(err, piece).is_err() {
-            return;
+// A sink as what words are written to.
+#[derive(Drop)]
+struct Said<'a, E> {
+    err: &'a mut E,
+}
+
+impl<E: Sink> fmt::Write for Said<'_, E> {
+    fn write_str(&mut self, text: &str) -> fmt::Result {
+        match write_all(self.err, text.as_bytes()) {
+            Ok(()) => Ok(()),
+            Err(_) => Err(fmt::Error),
         }
     }
 }
 
-/// Writes a number in decimal digits.
-pub(crate) fn tell_number<E: Sink>(err: &mut E, number: usize) {
-    let mut digits = itoa::Buffer::new();
-    tell(err, &[digits.format(number).as_bytes()]);
-}
-
-// How many bytes of a word or a name are shown.
-const SHOWN: usize = 64;
-
-/// Writes the beginning of a text that somebody else wrote, with `?` for bytes that a terminal may act on.
-pub(crate) fn tell_shown<E: Sink>(err: &mut E, text: &[u8]) {
-    let mut shown = [b'?'; SHOWN];
-    for place in 0..SHOWN {
-        match text.get(place) {
-            Some(byte) if !byte.is_ascii_control() => shown[place] = *byte,
-            _ => {}
-        }
-    }
-    if text.len() <= SHOWN {
-        tell(err, &[&shown[..text.len()]]);
-    } else {
-        tell(err, &[&shown[..], b".."]);
-    }
+// Writes a fault in its own words, as far as they can be written.
+fn tell_fault<E: Sink, F: fmt::Display>(err: &mut E, fault: &F) {
+    let mut said = Said { err };
+    let _written = write!(said, "{fault}");
 }
 
 // The form of the member of this name, of pairs or of one of them.
@@ -92,20 +82,20 @@ fn limit_of(name: &Bytes) -> &'static str {
 }
 
 fn tell_member<E: Sink>(err: &mut E, kind: ConfigKind, fault: &ObjectFault) {
-    let (name, is, form): (&Bytes, &str, &str) = match fault {
-        ObjectFault::Missing(name) => (name, "` is missing", ""),
-        ObjectFault::Wrong(name) => match kind {
-            ConfigKind::Pairs => (name, "` isn't of its form", pair_form_of(name)),
-            _ => (name, "` isn't of its form", form_of(name)),
+    let Some(name) = fault.member() else {
+        return;
+    };
+    let form = match fault {
+        ObjectFault::Wrong(_) => match kind {
+            ConfigKind::Pairs => pair_form_of(name),
+            _ => form_of(name),
         },
-        ObjectFault::TooMany(name) => (name, "` is too long or has too many items", limit_of(name)),
-        ObjectFault::Flag(name) => (name, "` stands twice", ""),
-        ObjectFault::Unknown(name) => (name, "` isn't known here", ""),
-        ObjectFault::OutOfMemory => return,
+        ObjectFault::TooMany(_) => limit_of(name),
+        _ => "",
     };
     tell(err, &[b"member `"]);
     tell_shown(err, name.as_slice());
-    tell(err, &[is.as_bytes(), form.as_bytes()]);
+    tell(err, &[b"` ", fault.words().as_bytes(), form.as_bytes()]);
 }
 
 // The file of a command whose text has to be of this kind, and what stands before its name. None where the command reads none.
@@ -143,20 +133,10 @@ fn tell_no_setup<E: Sink>(err: &mut E, command: &Command, kind: ConfigKind) {
 // Why a text isn't one JSON object with whole numbers.
 fn tell_no_json<E: Sink>(err: &mut E, place: &FaultPlace) {
     match place {
-        FaultPlace::Syntax { line, column } => {
-            tell(err, &[b"it is no JSON at line "]);
-            tell_number(err, *line);
-            tell(err, &[b", column "]);
-            tell_number(err, *column);
+        FaultPlace::Syntax { .. } | FaultPlace::NoObject | FaultPlace::Number => {
+            tell_fault(err, place)
         }
-        FaultPlace::NoObject => tell(err, &[b"it is JSON, but no object"]),
-        FaultPlace::Number => tell(
-            err,
-            &[b"a number in it isn't a whole one from -2^63 to 2^64 - 1"],
-        ),
-        FaultPlace::Key(_) | FaultPlace::Unknown => {
-            tell(err, &[b"it isn't one JSON object with whole numbers"])
-        }
+        FaultPlace::Key(_) | FaultPlace::Unknown => tell_fault(err, &SetupFault::NotJson),
     }
 }
 
@@ -177,7 +157,7 @@ fn tell_setup<E: Sink>(err: &mut E, command: &Command, why: &WrongSetup) {
     let (WrongSetup::TooLong(kind) | WrongSetup::Faulty(kind, _, _)) = why;
     tell_no_setup(err, command, *kind);
     match why {
-        WrongSetup::TooLong(_) => tell(err, &[b"it has more than 1,048,576 bytes"]),
+        WrongSetup::TooLong(_) => tell_fault(err, why),
         WrongSetup::Faulty(_, SetupFault::NotJson, place) => tell_no_json(err, place),
         WrongSetup::Faulty(_, SetupFault::InSetup(fault), _) => tell_member(err, *kind, fault),
         WrongSetup::Faulty(_, SetupFault::InKey(number, fault), place) => {
@@ -257,7 +237,7 @@ fn tell_refusal<E: Sink>(err: &mut E, command: &Command) {
 }
 
 /// Tells what happened, where a command wasn't carried out.
-pub fn explain<E: Sink>(err: &mut E, command: &Command, ended: &Ended) {
+pub(crate) fn explain<E: Sink>(err: &mut E, command: &Command, ended: &Ended) {
     let (front, back): (&[u8], &[u8]) = match ended {
         Ended::Done => return,
         Ended::NoSetup(why) => return tell_setup(err, command, why),

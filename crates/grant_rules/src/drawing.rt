@@ -6,9 +6,9 @@ ghost use Rattle.grant_rules.specs.Drawn.{token_drawn, round_drawn, finish_told}
 
 use crate::limits::{INTERACTION_TIME, ROUND_TIME, TOKEN_TIME};
 pub use crate::supply::Supply;
-use crate::values::value_text;
 use bytes_and_lists::bytes::Bytes;
 use bytes_and_lists::memory::{Duplicate, Mem};
+use drawn_texts::value_text;
 use gnap_model::calls::{FinishOut, Reply};
 use gnap_model::notes::{RoundNote, TokenNote};
 use gnap_model::objects::{Finish, Modes};

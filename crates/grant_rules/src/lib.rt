@@ -15,4 +15,3 @@ pub mod suiting;
 pub mod supply;
 pub mod tokens;
 pub mod user_codes;
-pub mod values;

@@ -4,10 +4,7 @@ ghost use Rattle.std.specs.List.{list_any};
 ghost use Rattle.gnap_model.specs.Common.{same_text};
 ghost use Rattle.gnap_model.specs.Values.{free_code as code_not_taken};
 
-use crate::values::code_text;
-
-/// There are so many user codes: 20 letters in each of 8 places.
-pub const CODE_COUNT: u64 = 25_600_000_000;
+use drawn_texts::{CODE_COUNT, code_text};
 
 // The code is one of those that are taken.
 fn is_taken(code: [u8; 8], taken: &[[u8; 8]]) -> bool

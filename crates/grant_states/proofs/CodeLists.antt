@@ -2,7 +2,7 @@
 use Rattle.std.proofs.Common.{ℕ, zero, suc, ◌≡◌, ◌⊎◌, ◌<◌, ◌≤◌, ◌+◌, ◌-◌, ◌/◌, ◌^◌, Bool, true, false, List, [], ◌∷◌, ◌++◌, length, get_or, take, drop, map, refl, sym, ◌∙◌, ap, subst, inl, inr, arith, Option, Some, None, set}
 use Rattle.std.specs.Prelude.{◌==◌, ◌&&◌, slice_get, filter, not, if◌then◌else◌}
 use Rattle.std.specs.List.{insert, remove, items_where_true}
-use Rattle.std.proofs.lemmas.List.{length-map, length-drop, take-append-drop, get_or-drop, get_or-set_same, get_or-set_other, get_or_past}
+use Rattle.std.proofs.lemmas.List.{length-map, length-drop, take-append-drop, get_or-drop, get_or-set_same, get_or-set_other, get_or_past, get_or_read}
 use Rattle.std.proofs.lemmas.List.Edits.{length-insert, get_or-insert_below, get_or-insert_at, get_or-insert_above}
 use Rattle.std.proofs.lemmas.List.Kept.{AllPairs-cons}
 use Rattle.std.proofs.lemmas.List.Quantifiers.{all_pairs_remove}
@@ -299,12 +299,16 @@ got_none (x ∷ xs) (suc i) e = got_none xs i e
 abbrev pub HasIn : List (List Listed) → ℕ → ℕ → Type 0
 HasIn lists code number = HasItem (get_or lists (code / 20 ^ 7) []) (under code number)
 
-module _ (lists : List (List Listed)) (at listed number : ℕ) (old new : List Listed) (inside : at < length lists) (is : old ≡ get_or lists at []) where
+-- the old list stands at the place, and the new one comes to stand there
+module _ (lists : List (List Listed)) (at listed number : ℕ) (old new : List Listed) (inside : at < length lists) (read : old ≡ get_or lists at old) where
+  is_old : old ≡ get_or lists at []
+  is_old = get_or_read lists at old inside read []
+
   was_in : (n other : ℕ) → n / 20 ^ 7 ≡ at → HasItem old (under n other) → HasIn lists n other
-  was_in n other e h = subst (λ (os : List Listed). HasItem os (under n other)) (is ∙ ap (λ k. get_or lists k []) (sym e)) h
+  was_in n other e h = subst (λ (os : List Listed). HasItem os (under n other)) (is_old ∙ ap (λ k. get_or lists k []) (sym e)) h
 
   in_was : (n other : ℕ) → n / 20 ^ 7 ≡ at → HasIn lists n other → HasItem old (under n other)
-  in_was n other e h = subst (λ (os : List Listed). HasItem os (under n other)) (sym (is ∙ ap (λ k. get_or lists k []) (sym e))) h
+  in_was n other e h = subst (λ (os : List Listed). HasItem os (under n other)) (sym (is_old ∙ ap (λ k. get_or lists k []) (sym e))) h
 
   pub take_kept : ((one : Listed) → HasItem old one → (one ≡ under listed number → ⊥) → HasItem new one) → (n other : ℕ) → HasIn lists n other → (other ≡ number → ⊥) → HasIn (set lists at new) n other
   take_kept kept n other h never = elim (one_list lists at (n / 20 ^ 7) new inside) [

@@ -2,8 +2,7 @@
 ghost use Rattle.std.specs.Prelude.{◌≡◌, ◌<◌, get_or};
 ghost use Rattle.grant_states.specs.CodeNumbers.{digit_of, number_in, number_of};
 
-use grant_rules::user_codes::CODE_COUNT;
-use grant_rules::values::code_text;
+use drawn_texts::{CODE_COUNT, code_text};
 
 // The letters from A to Z as digits of user codes, and 0 for those that no code has.
 const DIGITS: [u8; 26] = [

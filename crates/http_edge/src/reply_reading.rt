@@ -12,12 +12,15 @@ use bytes_and_lists::memory::Mem;
 use httparse::Status;
 use httparse::spans::{EMPTY_HEADER_SPAN, HeaderSpan, ResponseSpans, parse_response};
 use std::alloc::Global;
+use thiserror::Error;
 
 /// Why bytes are no reply.
-#[derive(Clone, Copy, Debug, PartialEq, Eq)]
+#[derive(Clone, Copy, Debug, PartialEq, Eq, Error)]
 pub enum ReplyFault {
     /// They aren't one whole reply, with nothing behind it.
+    #[error("the bytes aren't one whole reply")]
     NotAReply,
+    #[error("memory ran out")]
     OutOfMemory,
 }
 

@@ -11,9 +11,11 @@ use gnap_io::device::{Failed, Sink, write_all};
 use http::StatusCode;
 use itoa::Buffer;
 use std::marker::Model;
+use thiserror::Error;
 
 /// A write failed.
-#[derive(Clone, Copy, Debug, PartialEq, Eq)]
+#[derive(Clone, Copy, Debug, PartialEq, Eq, Error)]
+#[error("a write failed")]
 pub struct WriteFault;
 
 impl From<Failed> for WriteFault {

@@ -9,13 +9,16 @@ ghost use Rattle.interaction.specs.declared.uris.UriFault.TheVariants.{NotAUri};
 use bytes_and_lists::bytes::Bytes;
 use bytes_and_lists::memory::Mem;
 use std::alloc::Global;
+use thiserror::Error;
 use url::{ParseError, Url};
 
 /// Why there is no finish URI.
-#[derive(Clone, Copy, Debug, PartialEq, Eq)]
+#[derive(Clone, Copy, Debug, PartialEq, Eq, Error)]
 pub enum UriFault {
     /// The text isn't UTF-8, is no URL, has another scheme than `http` and `https`, or has a fragment.
+    #[error("it is no `http` or `https` URI without a fragment")]
     NotAUri,
+    #[error("memory ran out")]
     OutOfMemory,
 }
 

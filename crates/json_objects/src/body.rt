@@ -8,14 +8,18 @@ ghost use Rattle.json_objects.specs.Reading.{Gives};
 
 use serde_json::{Map, Value};
 use std::alloc::Global;
+use thiserror::Error;
 
 /// Why bytes are no body.
-#[derive(Clone, Copy, Debug, PartialEq, Eq)]
+#[derive(Clone, Copy, Debug, PartialEq, Eq, Error)]
 pub enum BodyFault {
     /// Not one JSON object (RFC 8259) of at most 127 levels, in UTF-8.
+    #[error("it isn't one JSON object")]
     NotAnObject,
     /// A number isn't a whole one from -2^63 to 2^64 - 1.
+    #[error("a number in it isn't a whole one from -2^63 to 2^64 - 1")]
     Number,
+    #[error("memory ran out")]
     OutOfMemory,
 }
 

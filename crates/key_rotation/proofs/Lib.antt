@@ -1,12 +1,4 @@
 mod RotationLines
 mod Told
-mod Members
-mod PlainBase
-mod HeldLines
-mod Steps
-mod ByBoth
-mod ByFault
-mod SecondBase
-mod TwoLines
-mod BothPass
-mod Examples
+pub mod Members
+pub mod SecondBase

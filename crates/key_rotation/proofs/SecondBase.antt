@@ -17,7 +17,7 @@ use Rattle.structured_fields.proofs.Fronts.{some_is}
 use Rattle.hmac_key.specs.Hmac.{hmac_sha256}
 use Rattle.message_signature.specs.declared.fault.SigFault.{SigFault}
 use Rattle.message_signature.specs.declared.tags.SignatureFields.{SignatureFields}
-use Rattle.message_signature.specs.Components.{component, field_value}
+use Rattle.message_signature.specs.Components.{component}
 use Rattle.message_signature.specs.Verified.{has_body, has_field, signature_fields}
 use Rattle.message_signature.specs.Signed.{with_fields, component_item, params_of, label}
 use Rattle.message_signature.proofs.SignedFields.{names, params_range, params_distinct}
@@ -25,7 +25,6 @@ use Rattle.message_signature.proofs.SignedBase.{there_is}
 use Rattle.key_rotation.specs.RotationBase.{rotation_lines, base_with, rotation_base}
 use Rattle.key_rotation.specs.SecondSignature.{second_tag}
 use Rattle.key_rotation.specs.SignedRotation.{is_inner, has_only_first, are_first_alone, is_signed, member_item, rotation_input, second_lines, signed_rotation}
-use Rattle.key_rotation.specs.Laws.{IsAlwaysSignedAgain}
 use Rattle.key_rotation.proofs.Members.{members_are}
 
 -- ---- what it covers: the digest of a body, an access token, and the first signature
@@ -47,17 +46,6 @@ base_there m base fields params false false d t s i = rw ((there_is _ s).is, (th
 base_there m base fields params true false d t s i = rw ((there_is _ (d refl)).is, (there_is _ s).is, (there_is _ i).is) refl
 base_there m base fields params false true d t s i = rw ((there_is _ (t refl)).is, (there_is _ s).is, (there_is _ i).is) refl
 base_there m base fields params true true d t s i = rw ((there_is _ (d refl)).is, (there_is _ (t refl)).is, (there_is _ s).is, (there_is _ i).is) refl
-
--- other fields, and other members, leave it as it is
-pub base_same : (m : Message) (fields : List Field) (base : List ℕ) (old new : SignatureFields) (params : List (List ℕ × Bare)) (body token : Bool)
-    → field_value (codes "content-digest") fields ≡ field_value (codes "content-digest") m.fields → field_value (codes "authorization") fields ≡ field_value (codes "authorization") m.fields
-    → value_at new.signatures label ≡ value_at old.signatures label → value_at new.inputs label ≡ value_at old.inputs label
-    → base_with (record m { fields = fields }) base new (list_of body token params) ≡ base_with m base old (list_of body token params)
-unfolding base_with rotation_lines component
-base_same m fields base old new params false false d t s i = rw (s, i) refl
-base_same m fields base old new params true false d t s i = rw (d, s, i) refl
-base_same m fields base old new params false true d t s i = rw (t, s, i) refl
-base_same m fields base old new params true true d t s i = rw (d, t, s, i) refl
 
 -- ---- a message that can be signed again
 
@@ -131,17 +119,6 @@ signed_with m base id secret bytes created list fields more b c d e =
         ap (λ (fs : List Field). Some (record m { fields = fs })) (ap (λ (fs : List Field). m.fields ++ fs) same ∙ sym e)
     by None h = absurd cc
 
-pub always_signed_again : IsAlwaysSignedAgain
-always_signed_again m base id secret created h =
-    let text = there_is _ (based m base id created h) in
-    ap is_some (signed_with m base id secret (hmac_sha256 secret text.value) created (rotation_input m id created) _ _ refl (ap (option_map (hmac_sha256 secret)) text.is) refl refl)
-
--- which fields the message has
-pub signed_again_is : (m r : Message) (base id secret : List ℕ) (created : ℕ) (text : List ℕ) → rotation_base m base (rotation_input m id created) ≡ Some text
-    → signed_rotation m base id secret created ≡ Some r → with_fields (second_lines (rotation_input m id created) (hmac_sha256 secret text)) m ≡ r
-signed_again_is m r base id secret created text base_is is =
-    some_is _ _ (sym (signed_with m base id secret (hmac_sha256 secret text) created (rotation_input m id created) _ _ refl (ap (option_map (hmac_sha256 secret)) base_is) refl refl) ∙ is)
-
 -- ---- its range
 
 name_range : (name : List ℕ) → list_all is_string_byte name ≡ true → IsItemInRange (component_item name)
@@ -149,12 +126,6 @@ name_range name h = record { bare = h; params = tt; distinct = tt }
 
 member_range : (name : List ℕ) → list_all is_string_byte name ≡ true → IsItemInRange (member_item name)
 member_range name h = record { bare = h; params = ((refl, refl), tt); distinct = (refl, tt) }
-
-pub names_range : (body token : Bool) → AllByRecursion IsItemInRange (map component_item (names body token))
-names_range false false = (name_range _ refl, (name_range _ refl, tt))
-names_range false true = (name_range _ refl, (name_range _ refl, (name_range _ refl, tt)))
-names_range true false = (name_range _ refl, (name_range _ refl, (name_range _ refl, tt)))
-names_range true true = (name_range _ refl, (name_range _ refl, (name_range _ refl, (name_range _ refl, tt))))
 
 items_range : (body token : Bool) → AllByRecursion IsItemInRange (items_of body token)
 items_range false false = (name_range _ refl, (name_range _ refl, (member_range _ refl, (member_range _ refl, tt))))

@@ -3,4 +3,3 @@ pub mod Faults
 pub mod SecondSignature
 pub mod Rotated
 pub mod SignedRotation
-pub mod Laws

@@ -5,24 +5,31 @@ ghost use Rattle.key_rotation.specs.declared.fault.RotationSignFault.TheVariants
 
 use bytes_and_lists::memory::Mem;
 use message_signature::SigFault;
+use thiserror::Error;
 
 /// Why the two signatures of a message don't pass: the first of these that is so, in this order. Want of memory has no place in it.
-#[derive(Clone, Copy, Debug, PartialEq, Eq)]
+#[derive(Clone, Copy, Debug, PartialEq, Eq, Error)]
 pub enum RotationFault {
     /// The signature with the tag `gnap` has this fault, which is not want of memory.
+    #[error("of the signature with the tag `gnap`: {0}")]
     First(SigFault),
     /// The signature with the tag `gnap-rotate` has this fault, which is not want of memory.
+    #[error("of the signature with the tag `gnap-rotate`: {0}")]
     Second(SigFault),
     /// The second signature doesn't cover the first: its bytes, and its list with the parameters.
+    #[error("the second signature doesn't cover the first")]
     NotChained,
+    #[error("memory ran out")]
     OutOfMemory,
 }
 
 /// Why a message wasn't signed again.
-#[derive(Clone, Copy, Debug, PartialEq, Eq)]
+#[derive(Clone, Copy, Debug, PartialEq, Eq, Error)]
 pub enum RotationSignFault {
     /// Its signature isn't one alone under the label `sig1`, or there is a body and no `content-digest` field.
+    #[error("the message isn't signed once, under `sig1`, or its body has no `content-digest`")]
     NotSigned,
+    #[error("memory ran out")]
     OutOfMemory,
 }
 

@@ -1,7 +1,6 @@
 -- A message with the digest of its body, and the signature base of a message that is signed.
 use Rattle.std.proofs.Common.{◌≡◌, ◌∷◌, [], ◌++◌, ℕ, Bool, true, false, not, cond, ◌&&◌, List, map, Option, Some, None, refl, sym, ap, ◌∙◌, subst, true≢false}
 use Rattle.std.specs.Prelude.{codes, is_some, IsSome, option_map}
-use Rattle.std.specs.Str.{bytes_eq}
 use Rattle.bytes_and_lists.specs.declared.message.Field.{Field}
 use Rattle.bytes_and_lists.specs.declared.message.Message.{Message}
 use Rattle.structured_fields.specs.declared.bare.Bare.{Bare}
@@ -9,59 +8,42 @@ use Rattle.structured_fields.specs.declared.item.InnerList.{InnerList}
 use Rattle.structured_fields.specs.Reading.{◌>>=◌}
 use Rattle.structured_fields.proofs.Fronts.{some_is}
 use Rattle.content_digest.specs.Digest.{digest_text}
-use Rattle.content_digest.specs.Judged.{Fits}
-use Rattle.content_digest.proofs.LineFits.{line_fits}
 use Rattle.hmac_key.specs.Hmac.{hmac_sha256}
 use Rattle.message_signature.specs.Components.{component, field_value}
 use Rattle.message_signature.specs.Base.{base_lines, signature_base}
 use Rattle.message_signature.specs.Verified.{has_body, has_field}
 use Rattle.message_signature.specs.Signed.{field, with_fields, with_digest, component_item, signature_input, signature_lines, signed_under}
-use Rattle.message_signature.specs.Laws.{IsAlwaysSigned}
-use Rattle.message_signature.proofs.Appended.{value_beside, value_added}
+use Rattle.message_signature.proofs.Appended.{value_added}
 use Rattle.message_signature.proofs.SignedFields.{digest_trimmed, names}
 
 -- ---- the digest of the body
 
-abbrev digest_name : List ℕ
+abbrev pub digest_name : List ℕ
 digest_name = codes "content-digest"
-
--- a digest that is there fits the body
-abbrev pub HasFitting : Message → Type 0
-HasFitting m = (field : List ℕ) → field_value (codes "content-digest") m.fields ≡ Some field → Fits field m.body
-
--- what the message with the digest keeps, and what it has
-pub record IsDigested (m w : Message) : Type 0 where
-  pub body : w.body ≡ m.body
-  pub beside : (name : List ℕ) → bytes_eq (codes "content-digest") name ≡ false → field_value name w.fields ≡ field_value name m.fields
-  pub there : has_body w ≡ true → has_field (codes "content-digest") w ≡ true
-  pub fits : HasFitting m → HasFitting w
 
 pub none_is : {A : Type 0} (o : Option A) → is_some o ≡ false → o ≡ None
 none_is None h = refl
 none_is (Some x) h = absurd cc
 
-abbrev digest_lines : Message → List Field
+abbrev pub digest_lines : Message → List Field
 digest_lines m = field digest_name (digest_text m.body) ∷ []
 
-pub digested : (m : Message) → IsDigested m (with_digest m)
-digested m = by (has_body m) (has_field digest_name m) refl refl
+-- where there was none, it is that of the body
+pub digest_value : (m : Message) → has_field digest_name m ≡ false → field_value digest_name (m.fields ++ digest_lines m) ≡ Some (digest_text m.body)
+digest_value m none = value_added digest_name m.fields (digest_lines m) (digest_text m.body) (ap (λ (t : List ℕ). t ∷ []) (digest_trimmed m.body)) (none_is _ none)
+
+pub has_digest : (m : Message) → has_body (with_digest m) ≡ true → has_field digest_name (with_digest m) ≡ true
+has_digest m = by (has_body m) (has_field digest_name m) refl refl
   where
-    by : (a b : Bool) → has_body m ≡ a → has_field digest_name m ≡ b → IsDigested m (cond (a && not b) (with_fields (digest_lines m) m) m)
-    by true true p q = record { body = refl; beside = λ name other. refl; there = λ h. q; fits = λ h. h }
-    by false b p q = record { body = refl; beside = λ name other. refl; there = λ h. absurd (true≢false (sym h ∙ p)); fits = λ h. h }
-    by true false p q =
-        let added : field_value digest_name (m.fields ++ digest_lines m) ≡ Some (digest_text m.body) =
-        value_added digest_name m.fields (digest_lines m) (digest_text m.body) (ap (λ (t : List ℕ). t ∷ []) (digest_trimmed m.body)) (none_is _ q) in
-        record {
-          body = refl;
-          beside = λ name other. value_beside name m.fields (digest_lines m) (rw other refl);
-          there = λ h. ap is_some added;
-          fits = λ h field e. let same : digest_text m.body ≡ field = cc in subst (λ (t : List ℕ). Fits t m.body) same (line_fits m.body);
-        }
+    by : (a b : Bool) → has_body m ≡ a → has_field digest_name m ≡ b
+        → has_body (cond (a && not b) (with_fields (digest_lines m) m) m) ≡ true → has_field digest_name (cond (a && not b) (with_fields (digest_lines m) m) m) ≡ true
+    by true true p q h = q
+    by false b p q h = absurd (true≢false (sym h ∙ p))
+    by true false p q h = ap is_some (digest_value m q)
 
 -- ---- the signature base
 
-abbrev list_of : Bool → Bool → List (List ℕ × Bare) → InnerList
+abbrev pub list_of : Bool → Bool → List (List ℕ × Bare) → InnerList
 list_of body token params = record { items = map component_item (names body token); params = params }
 
 pub record Is {A : Type 0} (o : Option A) : Type 0 where
@@ -81,20 +63,10 @@ base_there m base params true false d t = rw ((there_is _ (d refl)).is) refl
 base_there m base params false true d t = rw ((there_is _ (t refl)).is) refl
 base_there m base params true true d t = rw ((there_is _ (d refl)).is, (there_is _ (t refl)).is) refl
 
--- other fields leave it as it is
-pub base_same : (m : Message) (fields : List Field) (base : List ℕ) (params : List (List ℕ × Bare)) (body token : Bool)
-    → field_value (codes "content-digest") fields ≡ field_value (codes "content-digest") m.fields → field_value (codes "authorization") fields ≡ field_value (codes "authorization") m.fields
-    → signature_base (record m { fields = fields }) base (list_of body token params) ≡ signature_base m base (list_of body token params)
-unfolding signature_base base_lines component
-base_same m fields base params false false d t = refl
-base_same m fields base params true false d t = rw d refl
-base_same m fields base params false true d t = rw t refl
-base_same m fields base params true true d t = rw (d, t) refl
-
 pub always_based : (m : Message) (base : List ℕ) (params : List (List ℕ × Bare)) → IsSome (signature_base (with_digest m) base (signature_input (with_digest m) params))
 always_based m base params =
     let w = with_digest m in
-    base_there w base params (has_body w) (has_field (codes "authorization") w) (digested m).there (λ h. h)
+    base_there w base params (has_body w) (has_field (codes "authorization") w) (has_digest m) (λ h. h)
 
 -- the signed message, from the steps of signing
 pub signed_with : (m w : Message) (base : List ℕ) (params : List (List ℕ × Bare)) (secret bytes : List ℕ) (list : InnerList) (fields more : List Field) → w ≡ with_digest m → list ≡ signature_input w params
@@ -111,15 +83,9 @@ signed_with m w base params secret bytes list fields more a b c d e =
         ap (λ (fs : List Field). Some (record w { fields = fs })) (ap (λ (fs : List Field). w.fields ++ fs) same ∙ sym e)
     by None h = absurd cc
 
-pub always_signed : IsAlwaysSigned
+-- there is always a signed message
+pub always_signed : (m : Message) (base : List ℕ) (params : List (List ℕ × Bare)) (secret : List ℕ) → IsSome (signed_under m base params secret)
 always_signed m base params secret =
     let w = with_digest m in
     let text = there_is _ (always_based m base params) in
     ap is_some (signed_with m w base params secret (hmac_sha256 secret text.value) (signature_input w params) _ _ refl refl (ap (option_map (hmac_sha256 secret)) text.is) refl refl)
-
--- which fields a signed message has
-pub signed_is : (m n : Message) (base : List ℕ) (params : List (List ℕ × Bare)) (secret : List ℕ) (text : List ℕ) → signature_base (with_digest m) base (signature_input (with_digest m) params) ≡ Some text
-    → signed_under m base params secret ≡ Some n → with_fields (signature_lines (signature_input (with_digest m) params) (hmac_sha256 secret text)) (with_digest m) ≡ n
-signed_is m n base params secret text base_is is =
-    let w = with_digest m in
-    some_is _ _ (sym (signed_with m w base params secret (hmac_sha256 secret text) (signature_input w params) _ _ refl refl (ap (option_map (hmac_sha256 secret)) base_is) refl refl) ∙ is)

@@ -2,9 +2,8 @@ pub mod Faults
 pub mod Components
 pub mod Base
 pub mod Verified
+pub mod Lone
 pub mod Seen
 pub mod Marks
 pub mod Marked
-pub mod Accepted
 pub mod Signed
-pub mod Laws

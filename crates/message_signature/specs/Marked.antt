@@ -4,7 +4,7 @@ use Rattle.bytes_and_lists.specs.declared.message.Message.{Message}
 use Rattle.message_signature.specs.declared.fault.SigFault.{SigFault}
 use Rattle.message_signature.specs.declared.marks.SignatureMark.{SignatureMark}
 use Rattle.message_signature.specs.Faults.{◌>>=◌}
-use Rattle.message_signature.specs.Verified.{tagged, judged, verified}
+use Rattle.message_signature.specs.Verified.{Signature, tagged, judged, verified}
 use Rattle.message_signature.specs.Marks.{mark_in, mark_of}
 
 -- the id of the key with a mark, or the first fault
@@ -20,5 +20,11 @@ verified_marked m base ring now tag = with_mark (mark_of m tag) (verified m base
 unfoldable pub id_and_mark : Message → List ℕ → List (List ℕ × List ℕ) → ℕ → List ℕ → Result (List ℕ × Option SignatureMark) SigFault
 id_and_mark m base ring now tag = do
   one ← tagged m tag
+  id ← judged m base ring now one
+  Ok (id, mark_in one.list)
+
+-- the id of the key of a signature that was found, with the mark of its list
+abbrev pub judged_with_mark : Message → List ℕ → List (List ℕ × List ℕ) → ℕ → Signature → Result (List ℕ × Option SignatureMark) SigFault
+judged_with_mark m base ring now one = do
   id ← judged m base ring now one
   Ok (id, mark_in one.list)

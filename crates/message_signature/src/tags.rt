@@ -151,7 +151,7 @@ fn is_absent_or_string(v: Option<&Bare>) -> bool
     matches!(v, None | Some(Bare::Str(_)))
 }
 
-fn is_well_formed(list: &InnerList) -> bool
+pub(crate) fn is_well_formed(list: &InnerList) -> bool
     ensures { result ≡ is_well_formed list.now }
 {
     has_only_strings(&list.items)

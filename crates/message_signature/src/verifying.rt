@@ -1,5 +1,5 @@
 //! Verifying the signature of a message (RFC 9421, section 3.2).
-ghost use Rattle.std.specs.Prelude.{◌≡◌, IfOk, Some, codes};
+ghost use Rattle.std.specs.Prelude.{◌≡◌, ℕ, List, IfOk, Some, codes};
 ghost use Rattle.std.specs.Option.{option_copied, option_map};
 ghost use Rattle.std.specs.Str.{bytes_eq};
 ghost use Rattle.structured_fields.specs.Named.{value_at};
@@ -8,13 +8,14 @@ ghost use Rattle.hmac_key.specs.Hmac.{hmac_sha256};
 ghost use Rattle.message_signature.specs.declared.fault.SigFault.TheVariants.{Unsupported, UnknownKey};
 ghost use Rattle.message_signature.specs.Base.{is_string, signature_base};
 ghost use Rattle.message_signature.specs.Faults.{Gives, need, must};
-ghost use Rattle.message_signature.specs.Marked.{id_and_mark, verified_marked};
+ghost use Rattle.message_signature.specs.Marked.{id_and_mark, judged_with_mark, verified_marked};
 ghost use Rattle.message_signature.specs.Seen.{signature_seen};
 ghost use Rattle.message_signature.specs.Verified.{absent_or, covers_enough, is_in_window, is_not_expired, key_in, has_right_digest, admitted, made_under, judged_over, judged, verified};
 
 use crate::base::{base_of, is_named, is_string};
 use crate::components::{field_value, has_body, has_field};
 use crate::fault::{BaseFault, SigFault};
+use crate::lone::lone_signature;
 use crate::marks::{SignatureMark, mark_in};
 use crate::tags::{TaggedSignature, must, signature_fields, tagged};
 use bytes_and_lists::bytes::Bytes;
@@ -181,7 +182,23 @@ pub fn check_tagged(
     made_under(alloc, message, text, ring, list, bytes)
 }
 
+// The label of a signature doesn't count.
 #[tactic(auto, unfolding(crate::specs::Verified::judged))]
+fn judged_list(
+    alloc: Global,
+    message: &Message,
+    base: &Bytes,
+    ring: &Keyring,
+    now: u64,
+    list: &InnerList,
+    bytes: &Bytes,
+) -> Result<Bytes, SigFault>
+    ensures { (label : List ℕ) → Gives (λ id. id) result (judged message.now base.now ring.now now (record { label = label; list = list.now; bytes = bytes.now })) }
+{
+    let text = base_under(alloc, message, base, list)?;
+    check_tagged(alloc, message, &text, ring, now, list, bytes)
+}
+
 fn judged(
     alloc: Global,
     message: &Message,
@@ -192,16 +209,12 @@ fn judged(
 ) -> Result<Bytes, SigFault>
     ensures { Gives (λ id. id) result (judged message.now base.now ring.now now (signature_seen one.now)) }
 {
-    let text = base_under(alloc, message, base, one.list)?;
-    check_tagged(alloc, message, &text, ring, now, one.list, one.bytes)
+    judged_list(alloc, message, base, ring, now, one.list, one.bytes)
 }
 
-/// The id of the key that signed a message which came to the server with this base (RFC 9421, section 3.2). The signature is the one whose parameter `tag` is this tag, and others are passed over; it is the HMAC-SHA-256 (section 3.3.3) of the signature base (section 2.5) under a key of the ring.
-/// The base is scheme, `://` and authority, without a `/` at its end. `now`, `created` and `expires` are in seconds since 1970. Parameters of other names, as `nonce`, are signed and not looked at.
-///
-/// Errors: the first fault that is so, in the order of `SigFault`. OutOfMemory may come in place of any answer.
+// By all members of the two fields.
 #[tactic(auto, unfolding(crate::specs::Verified::verified, crate::specs::Verified::tagged))]
-pub fn verify(
+fn verify_among(
     alloc: Global,
     message: &Message,
     base: &Bytes,
@@ -216,8 +229,29 @@ pub fn verify(
     judged(alloc, message, base, ring, now, &one)
 }
 
+/// The id of the key that signed a message which came to the server with this base (RFC 9421, section 3.2). The signature is the one whose parameter `tag` is this tag, and others are passed over; it is the HMAC-SHA-256 (section 3.3.3) of the signature base (section 2.5) under a key of the ring.
+/// The base is scheme, `://` and authority, without a `/` at its end. `now`, `created` and `expires` are in seconds since 1970. Parameters of other names, as `nonce`, are signed and not looked at.
+///
+/// Errors: the first fault that is so, in the order of `SigFault`. OutOfMemory may come in place of any answer.
+pub fn verify(
+    alloc: Global,
+    message: &Message,
+    base: &Bytes,
+    ring: &Keyring,
+    now: u64,
+    tag: &Bytes,
+) -> Result<Bytes, SigFault>
+    ensures { Gives (λ id. id) result (verified message.now base.now ring.now now tag.now) }
+{
+    let lone = lone_signature(alloc, message, tag.as_slice())?;
+    match lone {
+        Some(one) => judged_list(alloc, message, base, ring, now, &one.list, &one.bytes),
+        None => verify_among(alloc, message, base, ring, now, tag),
+    }
+}
+
 #[tactic(auto, unfolding(crate::specs::Marked::id_and_mark, crate::specs::Verified::tagged))]
-fn id_and_mark(
+fn id_and_mark_among(
     alloc: Global,
     message: &Message,
     base: &Bytes,
@@ -231,6 +265,38 @@ fn id_and_mark(
     let one = tagged(&fields, tag.as_slice())?;
     let id = judged(alloc, message, base, ring, now, &one)?;
     Ok((id, mark_in(one.list)?))
+}
+
+fn id_and_mark_of(
+    alloc: Global,
+    message: &Message,
+    base: &Bytes,
+    ring: &Keyring,
+    now: u64,
+    list: &InnerList,
+    bytes: &Bytes,
+) -> Result<(Bytes, Option<SignatureMark>), SigFault>
+    ensures { (label : List ℕ) → Gives (λ x. x) result (judged_with_mark message.now base.now ring.now now (record { label = label; list = list.now; bytes = bytes.now })) }
+{
+    let id = judged_list(alloc, message, base, ring, now, list, bytes)?;
+    Ok((id, mark_in(list)?))
+}
+
+fn id_and_mark(
+    alloc: Global,
+    message: &Message,
+    base: &Bytes,
+    ring: &Keyring,
+    now: u64,
+    tag: &Bytes,
+) -> Result<(Bytes, Option<SignatureMark>), SigFault>
+    ensures { Gives (λ x. x) result (id_and_mark message.now base.now ring.now now tag.now) }
+{
+    let lone = lone_signature(alloc, message, tag.as_slice())?;
+    match lone {
+        Some(one) => id_and_mark_of(alloc, message, base, ring, now, &one.list, &one.bytes),
+        None => id_and_mark_among(alloc, message, base, ring, now, tag),
+    }
 }
 
 /// What `verify` answers, with the mark of the signature that it verified (`mark_of`): the fields are read once.

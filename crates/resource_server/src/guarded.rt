@@ -1,5 +1,6 @@
 //! What a resource server answers.
 use bytes_and_lists::bytes::Bytes;
+use std::fmt;
 
 /// What a request comes to.
 #[derive(Drop)]
@@ -31,4 +32,18 @@ pub enum Why {
     TooNarrow,
     /// The token's key hasn't signed the request: 401.
     Signature,
+}
+
+impl fmt::Display for Why {
+    fn fmt<W: fmt::Write>(&self, f: &mut fmt::Formatter<W>) -> fmt::Result {
+        f.write_str(match self {
+            Why::NoRoute => "no route has the path",
+            Why::NoMethod => "no route with the path has the method",
+            Why::NoToken => "no token is presented",
+            Why::BadReply(_) => "the authorization server's reply says nothing of the token",
+            Why::Inactive => "there is no such token",
+            Why::TooNarrow => "the token's rights don't cover the route's",
+            Why::Signature => "the token's key hasn't signed the request",
+        })
+    }
 }

@@ -15,11 +15,11 @@ use crate::sets::{SetCall, SetReply, Sets};
 use bytes_and_lists::bytes::Bytes;
 use bytes_and_lists::memory::Mem;
 use bytes_and_lists::seq::Seq;
+use drawn_texts::value_text;
 use gnap_model::objects::{ErrorCode, Setup};
 use gnap_model::rights::Rights;
 use grant_rules::keys::server_names;
 use grant_rules::suiting::serves_each;
-use grant_rules::values::value_text;
 use histories::machine::Core;
 use std::alloc::Global;
 

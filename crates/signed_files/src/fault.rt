@@ -7,6 +7,7 @@ ghost use Rattle.signed_files.specs.Verdicts.{HasSignatureFault};
 use bytes_and_lists::memory::Mem;
 use http_edge::EdgeFault;
 use message_signature::SigFault;
+use std::fmt;
 
 /// Why a file is not answered with a text.
 #[derive(Clone, Copy, Debug, PartialEq, Eq)]
@@ -23,6 +24,19 @@ impl From<Mem> for FileFault {
 
     fn from(_e: Mem) -> FileFault {
         FileFault::OutOfMemory
+    }
+}
+
+impl fmt::Display for FileFault {
+    fn fmt<W: fmt::Write>(&self, f: &mut fmt::Formatter<W>) -> fmt::Result {
+        match self {
+            FileFault::Refused(name) => match str::from_utf8(name) {
+                Ok(name) => write!(f, "refused {name}"),
+                Err(_) => f.write_str("refused"),
+            },
+            FileFault::ReadFault => f.write_str("a read failed"),
+            FileFault::OutOfMemory => f.write_str("memory ran out"),
+        }
     }
 }
 

@@ -62,7 +62,7 @@ request_bytes m = m.method ++ (codes " " ++ (m.target ++ (codes " HTTP/1.1\r\n"
     ++ (flat_map spelt_line m.fields ++ (body_length_line m.body ++ (codes "\r\n" ++ m.body))))))
 
 -- The bytes of a request to the server with this base, signed under this id and secret at this moment with the tag `gnap`. They are always there
--- (`message_signature::laws`).
+-- (`signature_laws::signing`).
 unfoldable pub signed_request : List ℕ → List ℕ → List ℕ → ℕ → UnsignedRequest → Option (List ℕ)
 signed_request base id secret now request = option_map request_bytes (signed (unsigned_message base request) base id secret now (codes "gnap"))
 

@@ -15,7 +15,7 @@ turned a b h = by (bytes_eq b a) refl
 
 module _ {V : Type 0} where
   -- what stands at a name once one was set
-  value_after : (es : List (List ℕ × V)) (n : List ℕ) (v : V) (m : List ℕ) → bytes_eq m n ≡ false → value_at (with_value es n v) m ≡ value_at es m
+  pub value_after : (es : List (List ℕ × V)) (n : List ℕ) (v : V) (m : List ℕ) → bytes_eq m n ≡ false → value_at (with_value es n v) m ≡ value_at es m
   value_after [] n v m apart = rw apart refl
   value_after (e ∷ es) n v m apart = by (bytes_eq n e.0) refl (value_after es n v m apart)
     where

@@ -16,4 +16,6 @@ pub mod Members
 pub mod Whole
 pub mod Ranges
 pub mod Read
+pub mod Behind
+pub mod SkippedEntries
 pub mod Written

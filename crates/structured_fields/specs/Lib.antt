@@ -4,4 +4,5 @@ pub mod Grammar
 pub mod Canonical
 pub mod Reading
 pub mod NameNotes
+pub mod Skipping
 pub mod Laws

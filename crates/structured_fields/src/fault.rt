@@ -3,10 +3,14 @@ ghost use Rattle.std.specs.Prelude.{◌≡◌};
 ghost use Rattle.structured_fields.specs.declared.fault.FieldFault.TheVariants.{OutOfMemory};
 
 use bytes_and_lists::memory::Mem;
+use thiserror::Error;
 
-#[derive(Clone, Copy, Debug, PartialEq, Eq)]
+/// Why a text is not read, or a value not written.
+#[derive(Clone, Copy, Debug, PartialEq, Eq, Error)]
 pub enum FieldFault {
+    #[error("not in the grammar")]
     NotInGrammar,
+    #[error("memory ran out")]
     OutOfMemory,
 }
 

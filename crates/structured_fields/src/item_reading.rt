@@ -11,7 +11,7 @@ use bytes_and_lists::bytes::Bytes;
 use std::alloc::Global;
 
 #[tactic(auto, unfolding(crate::specs::Reading::value_of))]
-fn value_in(alloc: Global, bytes: &[u8]) -> Result<(Bare, &[u8]), FieldFault>
+pub(crate) fn value_in(alloc: Global, bytes: &[u8]) -> Result<(Bare, &[u8]), FieldFault>
     ensures { Gives (λ x. (x.0, x.1.now)) result (value_of bytes.now) }
 {
     match bytes {
@@ -54,7 +54,7 @@ pub(crate) fn item_in(alloc: Global, bytes: &[u8]) -> Result<(Item, &[u8]), Fiel
     Ok((Item { bare, params }, rest))
 }
 
-fn is_item_end(bytes: &[u8]) -> bool
+pub(crate) fn is_item_end(bytes: &[u8]) -> bool
     ensures { result ≡ is_item_end bytes.now }
 {
     begins(b' ', bytes) || begins(b')', bytes)
@@ -106,7 +106,7 @@ pub(crate) fn member_in(alloc: Global, bytes: &[u8]) -> Result<(Member, &[u8]), 
 }
 
 #[tactic(auto, unfolding(crate::specs::Reading::entry_value_at))]
-fn entry_value_in(alloc: Global, bytes: &[u8]) -> Result<(Member, &[u8]), FieldFault>
+pub(crate) fn entry_value_in(alloc: Global, bytes: &[u8]) -> Result<(Member, &[u8]), FieldFault>
     ensures { Gives (λ x. (x.0, x.1.now)) result (entry_value_at bytes.now) }
 {
     match bytes {

@@ -16,15 +16,18 @@ mod item;
 mod item_reading;
 pub mod laws;
 mod letters;
+mod lookup;
 mod name_notes;
 mod named;
 mod reading;
+mod skipping;
 mod writing;
 
 pub use bare::Bare;
 pub use fault::FieldFault;
 pub use item::{Dictionary, InnerList, Item, Items, List, Member, Params};
 pub use letters::trimmed;
+pub use lookup::{Keyed, Matched, matching_list, member_behind, single_under};
 pub use named::Named;
 pub use reading::{read_dictionary, read_item, read_list};
 pub use writing::{

@@ -15,12 +15,11 @@ use crate::entering::Entering;
 use crate::stored::stored_round;
 use bytes_and_lists::bytes::Bytes;
 use bytes_and_lists::memory::Mem;
+use drawn_texts::{CODE_COUNT, code_text};
 use gnap_model::calls::Reply;
 use gnap_model::objects::Modes;
 use gnap_tables::rows::KeptRound;
 use grant_rules::drawing::pending_reply;
-use grant_rules::user_codes::CODE_COUNT;
-use grant_rules::values::code_text;
 use grant_states::InteractionName;
 use std::alloc::Global;
 

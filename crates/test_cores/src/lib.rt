@@ -1,7 +1,10 @@
-//! Tests of the core that the commands keep, where no line of a file tells what is seen: how many nonces it remembers, and that two workers at it run at once.
+//! Tests of the core that the commands keep, where no line of a file tells what is seen: how many nonces it remembers, and that two workers at it
+//! run at once.
 #![tactic(auto)]
 
 #[cfg(test)]
 mod gates;
+#[cfg(test)]
+mod loading_at_once;
 #[cfg(test)]
 mod remembered_nonces;

@@ -1,7 +1,7 @@
 use Rattle.std.proofs.Common.{ℕ, List, Option, subst, refl}
 use Rattle.std.specs.Prelude.{IfSome}
 use Rattle.serving.specs.ServiceEnds.{HaveServedJust}
-use Rattle.gnap_tool.specs.declared.command.Command.TheVariants.{Sign}
+use Rattle.command_words.specs.declared.command.Command.TheVariants.{Sign}
 use Rattle.gnap_tool.specs.Runs.{CarriesOut}
 use Rattle.world_uses.proofs.Uses.{nothing_used}
 use Rattle.gnap_tool.proofs.EachCommand.{carried_as, used_as, quota_as}

@@ -3,11 +3,11 @@ use Rattle.std.specs.Prelude.{Option, Some, IsSome, IfSome}
 use Rattle.gnap_io.specs.Worlds.{WorldState}
 use Rattle.gnap_io.specs.declared.world.Opening.{Opening}
 use Rattle.gnap_io.specs.Openings.{Gives}
-use Rattle.gnap_tool.specs.declared.command.Command.{Command}
+use Rattle.command_words.specs.declared.command.Command.{Command}
 use Rattle.command_inputs.specs.declared.ended.Ended.{Ended}
 use Rattle.command_inputs.specs.declared.ended.Ended.TheVariants.{Done, TooLong}
 use Rattle.serving.specs.ServiceEnds.{HaveServedJust}
-use Rattle.gnap_tool.specs.Commands.{openings_of, quota_of, input_place}
+use Rattle.gnap_tool.specs.Openings.{openings_of, quota_of, input_place}
 use Rattle.command_inputs.specs.Ends.{status_of}
 use Rattle.world_uses.specs.Uses.{UsesWorld, InputTook}
 use Rattle.gnap_tool.specs.Completeness.{NothingWentWrong, IsCompleted}

@@ -1,9 +1,9 @@
 use Rattle.std.proofs.Common.{◌≡◌, ◌∙◌, ap, sym, subst, refl, inl, inr}
 use Rattle.std.specs.Prelude.{Some, IsSome, IfSome}
 use Rattle.serving.specs.ServiceEnds.{HaveServedJust}
-use Rattle.gnap_tool.specs.declared.command.Command.{Command}
+use Rattle.command_words.specs.declared.command.Command.{Command}
 use Rattle.command_inputs.specs.declared.ended.Ended.TheVariants.{Done, Memory, TooLong}
-use Rattle.gnap_tool.specs.Commands.{openings_of, quota_of, input_place}
+use Rattle.gnap_tool.specs.Openings.{openings_of, quota_of, input_place}
 use Rattle.command_inputs.specs.Ends.{status_of}
 use Rattle.world_uses.specs.Uses.{InputTook}
 use Rattle.world_uses.proofs.Uses.{back-none, unopened_sound, failed_at_4, full_at_8, whole_at_0, to_end_at_0, done_at_0}

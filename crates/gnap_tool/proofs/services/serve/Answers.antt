@@ -4,7 +4,7 @@ use Rattle.gnap_io.specs.Worlds.{WorldState}
 use Rattle.gnap_io.specs.declared.world.Opening.TheVariants.{File}
 use Rattle.gnap_model.specs.declared.objects.Setup.{Setup}
 use Rattle.command_inputs.specs.Configs.{setup_in}
-use Rattle.gnap_tool.specs.Commands.{service_openings}
+use Rattle.gnap_tool.specs.Openings.{service_openings}
 use Rattle.gnap_tool.specs.Runs.{ServesBy}
 use Rattle.world_uses.proofs.AfterConfig.{by_setup_on, by_setup_off, unread_used, unread_isnt_done, unread_writes, uses_then}
 use Rattle.gnap_tool.proofs.ServedSetups.{nothing_served}

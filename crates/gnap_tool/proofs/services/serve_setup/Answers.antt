@@ -2,7 +2,7 @@ use Rattle.std.proofs.Common.{◌≡◌, ◌∷◌, [], sym, subst, inr, refl}
 use Rattle.std.specs.Prelude.{None}
 use Rattle.gnap_io.specs.declared.world.Opening.TheVariants.{Gears}
 use Rattle.command_inputs.specs.declared.ended.Ended.{Ended}
-use Rattle.gnap_tool.specs.declared.command.Service.TheVariants.{Grants, Derivations, Sets}
+use Rattle.command_words.specs.declared.command.Service.TheVariants.{Grants, Derivations, Sets}
 use Rattle.world_uses.specs.Uses.{UsesWorld}
 use Rattle.gnap_tool.proofs.ServedGears.{done_by}
 use Rattle.gnap_tool.proofs.ServedSetups.{grants_used, sets_used, serves_as, service_used}

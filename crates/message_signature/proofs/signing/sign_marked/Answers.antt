@@ -1,6 +1,6 @@
 use Rattle.std.specs.Prelude.{Some}
 use Rattle.message_signature.proofs.SignedFields.{params_range}
-use Rattle.message_signature.proofs.Passes.{is_nonce_parts, nonce_letters}
+use Rattle.message_signature.proofs.SigningSteps.{is_nonce_parts, nonce_letters}
 use Rattle.message_signature.proofs.signing.sign_marked.Goals as goal
 
 pub sign_under-requires-clause-params : goal.sign_under-requires-clause-params

@@ -3,7 +3,7 @@ use Rattle.std.specs.Prelude.{Result}
 use Rattle.message_signature.specs.declared.fault.SigFault.{SigFault}
 use Rattle.message_signature.specs.declared.marks.SignatureMark.{SignatureMark}
 use Rattle.message_signature.specs.Faults.{Gives}
-use Rattle.message_signature.proofs.Accepted.{id_and_mark_is}
+use Rattle.message_signature.proofs.VerifiedParts.{id_and_mark_is}
 use Rattle.message_signature.proofs.verifying.verify_marked.Goals as goal
 
 pub returns : goal.returns

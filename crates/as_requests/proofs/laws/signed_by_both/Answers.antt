@@ -1,5 +1,0 @@
-use Rattle.as_requests.proofs.BothKeys.{signed_by_both}
-use Rattle.as_requests.proofs.laws.signed_by_both.Goals as goal
-
-pub returns : goal.returns
-returns c = λ setup m moment mark key value new_key e. signed_by_both c.rotation_laws.ensures.says setup m moment mark key value new_key e

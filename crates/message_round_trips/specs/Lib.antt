@@ -1,0 +1,2 @@
+pub mod SignedFiles
+pub mod SignedRequests

@@ -1,0 +1,190 @@
+-- The signature with a tag, by what was found of the members of the two fields.
+use Rattle.std.proofs.Common.{◌≡◌, ℕ, Bool, true, false, cond, List, [], ◌∷◌, Option, Some, None, Result, Ok, Err, refl, sym, ap, subst, ◌∙◌}
+use Rattle.std.specs.Prelude.{codes}
+use Rattle.std.specs.Option.{option_map}
+use Rattle.bytes_and_lists.specs.declared.message.Message.{Message}
+use Rattle.structured_fields.specs.declared.bare.Bare.{Bare}
+use Rattle.structured_fields.specs.declared.bare.Bare.TheVariants.{Integer, Decimal, Str, Token, Binary, Boolean, Date, Display}
+use Rattle.structured_fields.specs.declared.item.InnerList.{InnerList}
+use Rattle.structured_fields.specs.declared.item.Member.{Member}
+use Rattle.structured_fields.specs.declared.item.Member.TheVariants.{Item as Single, Inner}
+use Rattle.structured_fields.specs.Named.{value_at}
+use Rattle.structured_fields.specs.Skipping.{front_of, holds_string, matches_among, single_in}
+use Rattle.structured_fields.specs.Reading.{dictionary_of, entry_value_at}
+use Rattle.structured_fields.proofs.Fronts.{some_is}
+use Rattle.message_signature.specs.declared.fault.SigFault.{SigFault}
+use Rattle.message_signature.specs.declared.fault.SigFault.TheVariants.{NoField, NotAField, NoTag, OutOfMemory}
+use Rattle.message_signature.specs.Components.{field_value}
+use Rattle.message_signature.specs.Faults.{◌>>=◌, need, Fails}
+use Rattle.message_signature.specs.Lone.{read_tagged, bytes_in, formed}
+use Rattle.message_signature.specs.Verified.{Signature, is_text, with_tag, signature_under, tagged_in, tagged, judged, verified}
+use Rattle.message_signature.specs.Marked.{id_and_mark, judged_with_mark}
+
+abbrev Entry : Type 0
+Entry = List ℕ × Member
+
+-- ---- the lists with the tag
+
+same_text : (s : List ℕ) (o : Option Bare) → is_text s o ≡ holds_string s o
+same_text s None = refl
+same_text s (Some (Str t)) = refl
+same_text s (Some (Integer n)) = refl
+same_text s (Some (Decimal n)) = refl
+same_text s (Some (Token t)) = refl
+same_text s (Some (Binary b)) = refl
+same_text s (Some (Boolean b)) = refl
+same_text s (Some (Date n)) = refl
+same_text s (Some (Display t)) = refl
+
+module _ (tag : List ℕ) where
+  abbrev matching : List Entry → List Entry
+  matching d = matches_among (codes "tag") tag d
+
+  abbrev holds : InnerList → Bool
+  holds list = holds_string tag (value_at list.params (codes "tag"))
+
+  pub none_tagged : (d : List Entry) → matching d ≡ [] → with_tag tag d ≡ []
+  none_tagged [] h = refl
+  none_tagged ((name, Single item) ∷ d) h = none_tagged d h
+  none_tagged ((name, Inner list) ∷ d) h = by (holds list) refl h (none_tagged d)
+    where
+      by : (b : Bool) → holds list ≡ b → cond b ((name, Inner list) ∷ matching d) (matching d) ≡ [] → (matching d ≡ [] → with_tag tag d ≡ []) → with_tag tag ((name, Inner list) ∷ d) ≡ []
+      by true t h again = absurd cc
+      by false t h again =
+          let first : is_text tag (value_at list.params (codes "tag")) ≡ false = same_text tag (value_at list.params (codes "tag")) ∙ t in
+          rw first (again h)
+
+  pub one_tagged : (d : List Entry) (label : List ℕ) (one : InnerList) → matching d ≡ (label, Inner one) ∷ [] → with_tag tag d ≡ (label, one) ∷ []
+  one_tagged [] label one h = absurd cc
+  one_tagged ((name, Single item) ∷ d) label one h = one_tagged d label one h
+  one_tagged ((name, Inner list) ∷ d) label one h = by (holds list) refl h (none_tagged d) (one_tagged d label one)
+    where
+      by : (b : Bool) → holds list ≡ b → cond b ((name, Inner list) ∷ matching d) (matching d) ≡ (label, Inner one) ∷ [] → (matching d ≡ [] → with_tag tag d ≡ [])
+          → (matching d ≡ (label, Inner one) ∷ [] → with_tag tag d ≡ (label, one) ∷ []) → with_tag tag ((name, Inner list) ∷ d) ≡ (label, one) ∷ []
+      by true t h none again =
+          let first : is_text tag (value_at list.params (codes "tag")) ≡ true = same_text tag (value_at list.params (codes "tag")) ∙ t in
+          let held : Entry = (name, Inner list) in
+          let only : Entry = (label, Inner one) in
+          let same : held ≡ only = cc in
+          let others : matching d ≡ [] = cc in
+          let names : name ≡ label = ap (λ (e : Entry). e.0) same in
+          let members : Inner list ≡ Inner one = ap (λ (e : Entry). e.1) same in
+          let lists : list ≡ one = cc in
+          rw (first, none others, names, lists) refl
+      by false t h none again =
+          let first : is_text tag (value_at list.params (codes "tag")) ≡ false = same_text tag (value_at list.params (codes "tag")) ∙ t in
+          rw first (again h)
+
+-- the member behind the label of the one that is marked is this list
+pub once_is : (tag value label : List ℕ) (d : List Entry) (list : InnerList) (m : Member) (rest : List ℕ) → front_of (entry_value_at value) ≡ Some (Inner list) → entry_value_at value ≡ Some (m, rest)
+    → matches_among (codes "tag") tag d ≡ (label, m) ∷ [] → matches_among (codes "tag") tag d ≡ (label, Inner list) ∷ []
+once_is tag value label d list m rest is read one =
+    let twice : front_of (entry_value_at value) ≡ Some m = ap front_of read in
+    let same : m ≡ Inner list = some_is m (Inner list) (sym twice ∙ is) in
+    one ∙ ap (λ (x : Member). (label, x) ∷ []) same
+
+-- ---- the bytes under a label
+
+pub bytes_of_single : (label : List ℕ) (d : List Entry) → bytes_in (single_in (value_at d label)) ≡ signature_under label d
+bytes_of_single label d = by (value_at d label) refl
+  where
+    by : (o : Option Member) → value_at d label ≡ o → bytes_in (single_in o) ≡ signature_under label d
+    by None e = rw e refl
+    by (Some (Single i)) e = rw e refl
+    by (Some (Inner l)) e = rw e refl
+
+-- what is read of the field, where it is a dictionary, and where it is none
+pub bytes_read : (label : List ℕ) (r : Option (List Entry)) (bare : Option Bare) → option_map (λ d. single_in (value_at d label)) r ≡ Some bare → need NotAField (option_map (signature_under label) r) ≡ Ok (bytes_in bare)
+bytes_read label None bare h = absurd cc
+bytes_read label (Some d) bare h =
+    let same : single_in (value_at d label) ≡ bare = some_is (single_in (value_at d label)) bare h in
+    ap (λ (o : Option (List ℕ)). Ok o) (sym (bytes_of_single label d)) ∙ ap (λ (o : Option Bare). Ok (bytes_in o)) same
+
+pub no_bytes : (label : List ℕ) (r : Option (List Entry)) → option_map (λ d. single_in (value_at d label)) r ≡ None → need NotAField (option_map (signature_under label) r) ≡ Err NotAField
+no_bytes label None h = refl
+no_bytes label (Some d) h = absurd cc
+
+-- ---- the chain
+
+-- a step that fails, whatever is made of its value
+fails_behind : {A B C : Type 0} (f : SigFault) (g : A → B) (o : Option A) (k : A → Result C SigFault) (e : SigFault) → need f (option_map g o) ≡ Err e → (need f o >>= k) ≡ Err e
+fails_behind f g None k e h = cc
+fails_behind f g (Some x) k e h = absurd cc
+
+read_behind : {A B : Type 0} (f : SigFault) (g : A → B) (o : Option A) (y : B) → need f (option_map g o) ≡ Ok y → (x : A) × (o ≡ Some x) × (g x ≡ y)
+read_behind f g None y h = absurd cc
+read_behind f g (Some x) y h = (x, refl, cc)
+
+module _ (input signature tag : List ℕ) where
+  abbrev rest : List Entry → Result Signature SigFault
+  rest inputs = need NotAField (dictionary_of signature) >>= λ signatures. tagged_in tag (record { inputs = inputs; signatures = signatures })
+
+  pub input_fails : (e : SigFault) → Fails e (need NotAField (dictionary_of input)) → Fails e (read_tagged input signature tag)
+  input_fails OutOfMemory h = tt
+  input_fails e h = ap (λ (r : Result (List Entry) SigFault). r >>= rest) h
+
+  module _ (d : List Entry) (reads : dictionary_of input ≡ Some d) where
+    pub signature_fails : (label : List ℕ) (e : SigFault) → Fails e (need NotAField (option_map (signature_under label) (dictionary_of signature))) → Fails e (read_tagged input signature tag)
+    signature_fails label OutOfMemory h = tt
+    signature_fails label e h = rw reads (fails_behind NotAField (signature_under label) (dictionary_of signature) (λ signatures. tagged_in tag (record { inputs = d; signatures = signatures })) e h)
+
+    pub untagged : (label : List ℕ) (o : Option (List ℕ)) → need NotAField (option_map (signature_under label) (dictionary_of signature)) ≡ Ok o → matches_among (codes "tag") tag d ≡ [] → read_tagged input signature tag ≡ Err NoTag
+    untagged label o h none =
+        let x = read_behind NotAField (signature_under label) (dictionary_of signature) o h in
+        rw (reads, x.1, none_tagged tag d none) refl
+
+    pub tagged_once : (label : List ℕ) (list : InnerList) (o : Option (List ℕ)) → need NotAField (option_map (signature_under label) (dictionary_of signature)) ≡ Ok o
+        → matches_among (codes "tag") tag d ≡ (label, Inner list) ∷ [] → read_tagged input signature tag ≡ formed label list o
+    tagged_once label list o h one =
+        let x = read_behind NotAField (signature_under label) (dictionary_of signature) o h in
+        rw (reads, x.1, one_tagged tag d label list one) (ap (formed label list) x.2)
+
+    pub once_fails : (label : List ℕ) (list : InnerList) (o : Option (List ℕ)) (e : SigFault) → need NotAField (option_map (signature_under label) (dictionary_of signature)) ≡ Ok o
+        → matches_among (codes "tag") tag d ≡ (label, Inner list) ∷ [] → Fails e (formed label list o) → Fails e (read_tagged input signature tag)
+    once_fails label list o e h one f = subst (Fails e) (sym (tagged_once label list o h one)) f
+
+-- ---- by the fields of a message
+
+module _ (m : Message) (tag : List ℕ) where
+  pub no_input : (e : SigFault) → Fails e (need NoField (field_value (codes "signature-input") m.fields)) → Fails e (tagged m tag)
+  unfolding tagged
+  no_input OutOfMemory h = tt
+  no_input e h = rw h refl
+
+  module _ (input : List ℕ) (input_is : need NoField (field_value (codes "signature-input") m.fields) ≡ Ok input) where
+    pub no_signature : (e : SigFault) → Fails e (need NoField (field_value (codes "signature") m.fields)) → Fails e (tagged m tag)
+    unfolding tagged
+    no_signature OutOfMemory h = tt
+    no_signature e h = rw (input_is, h) refl
+
+    pub by_texts : (signature : List ℕ) → need NoField (field_value (codes "signature") m.fields) ≡ Ok signature → tagged m tag ≡ read_tagged input signature tag
+    unfolding tagged
+    by_texts signature signature_is = rw (input_is, signature_is) (by (dictionary_of input) (dictionary_of signature))
+      where
+        by : (a b : Option (List Entry))
+            → ((need NotAField a >>= λ inputs. need NotAField b >>= λ signatures. Ok (record { inputs = inputs; signatures = signatures })) >>= λ fields. tagged_in tag fields)
+            ≡ (need NotAField a >>= λ inputs. need NotAField b >>= λ signatures. tagged_in tag (record { inputs = inputs; signatures = signatures }))
+        by None b = refl
+        by (Some a) None = refl
+        by (Some a) (Some b) = refl
+
+-- ---- what is verified by it
+
+module _ (m : Message) (base : List ℕ) (ring : List (List ℕ × List ℕ)) (now : ℕ) (tag : List ℕ) where
+  pub verified_by : (one : Signature) → tagged m tag ≡ Ok one → verified m base ring now tag ≡ judged m base ring now one
+  unfolding verified
+  verified_by one e = rw e refl
+
+  pub verified_fails : (e : SigFault) → Fails e (tagged m tag) → Fails e (verified m base ring now tag)
+  unfolding verified
+  verified_fails OutOfMemory h = tt
+  verified_fails e h = rw h refl
+
+  pub marked_by : (one : Signature) → tagged m tag ≡ Ok one → id_and_mark m base ring now tag ≡ judged_with_mark m base ring now one
+  unfolding id_and_mark
+  marked_by one e = rw e refl
+
+  pub marked_fails : (e : SigFault) → Fails e (tagged m tag) → Fails e (id_and_mark m base ring now tag)
+  unfolding id_and_mark
+  marked_fails OutOfMemory h = tt
+  marked_fails e h = rw h refl

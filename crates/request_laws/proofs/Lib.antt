@@ -1,0 +1,3 @@
+mod BothKeys
+mod DirectErrors
+mod LineErrors

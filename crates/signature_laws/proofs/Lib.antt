@@ -1,0 +1,17 @@
+mod BaseExamples
+mod FieldsAgain
+mod Digested
+mod Passes
+mod AcceptedTests
+mod AcceptedTag
+mod AcceptedParts
+mod Accepted
+mod RotationSteps
+mod PlainBase
+mod HeldLines
+mod ByBoth
+mod ByFault
+mod SignedAgain
+mod TwoLines
+mod BothPass
+mod RotationExamples

@@ -1,0 +1,90 @@
+-- What is skipped in a text, and which members of a dictionary have a parameter with a given String.
+use Rattle.std.specs.Prelude.{◌≡◌, ℕ, Bool, false, if◌then◌else◌, List, [], ◌∷◌, filter, Option, Some, None, option_map}
+use Rattle.std.specs.Str.{bytes_eq}
+use Rattle.structured_fields.specs.declared.bare.Bare.{Bare}
+use Rattle.structured_fields.specs.declared.bare.Bare.TheVariants.{Integer, Decimal, Str, Token, Binary, Boolean, Date, Display}
+use Rattle.structured_fields.specs.declared.item.InnerList.{InnerList}
+use Rattle.structured_fields.specs.declared.item.Member.{Member}
+use Rattle.structured_fields.specs.declared.item.Member.TheVariants.{Item as Single, Inner}
+use Rattle.structured_fields.specs.declared.lookup.Matched.{Matched}
+use Rattle.structured_fields.specs.declared.lookup.Matched.TheVariants.{Nowhere, Once, Unsettled}
+use Rattle.structured_fields.specs.Letters.{is_token_start}
+use Rattle.structured_fields.specs.Named.{value_at}
+use Rattle.structured_fields.specs.Reading.{entry_value_at}
+
+-- what stands behind what was read
+abbrev pub rest_of : {A : Type 0} → Option (A × List ℕ) → Option (List ℕ)
+rest_of read = option_map (λ x. x.1) read
+
+-- a token begins the text
+abbrev pub begins_token : List ℕ → Bool
+begins_token [] = false
+begins_token (c ∷ t) = is_token_start c
+
+-- ---- a parameter with a given String
+
+-- the bare item is there, and is this String
+abbrev pub holds_string : List ℕ → Option Bare → Bool
+holds_string s None = false
+holds_string s (Some (Str t)) = bytes_eq t s
+holds_string s (Some (Integer n)) = false
+holds_string s (Some (Decimal n)) = false
+holds_string s (Some (Token t)) = false
+holds_string s (Some (Binary b)) = false
+holds_string s (Some (Boolean b)) = false
+holds_string s (Some (Date n)) = false
+holds_string s (Some (Display t)) = false
+
+-- the member is an inner list whose parameter of this name is this String
+abbrev pub is_match : List ℕ → List ℕ → Member → Bool
+is_match name s (Inner list) = holds_string s (value_at list.params name)
+is_match name s (Single item) = false
+
+-- the same of what was read, with what stands behind it: of a value that may be asked for, and else what was so before
+abbrev pub value_matched : Bool → List ℕ → Bool → Bare × List ℕ → Bool × List ℕ
+value_matched asked s before v = ((if asked then holds_string s (Some v.0) else before), v.1)
+
+abbrev pub parameter_matched : List ℕ → List ℕ → Bool → (List ℕ × Bare) × List ℕ → Bool × List ℕ
+parameter_matched name s before g = ((if bytes_eq g.0.0 name then holds_string s (Some g.0.1) else before), g.1)
+
+abbrev pub params_matched : List ℕ → List ℕ → List (List ℕ × Bare) × List ℕ → Bool × List ℕ
+params_matched name s p = (holds_string s (value_at p.0 name), p.1)
+
+abbrev pub inner_matched : List ℕ → List ℕ → InnerList × List ℕ → Bool × List ℕ
+inner_matched name s l = (holds_string s (value_at l.0.params name), l.1)
+
+abbrev pub member_matched : List ℕ → List ℕ → Member × List ℕ → Bool × List ℕ
+member_matched name s m = (is_match name s m.0, m.1)
+
+abbrev pub entry_matched : List ℕ → List ℕ → (List ℕ × Member) × List ℕ → (List ℕ × Bool) × List ℕ
+entry_matched name s e = ((e.0.0, is_match name s e.0.1), e.1)
+
+-- what was read, without what stands behind it
+abbrev pub front_of : {A : Type 0} → Option (A × List ℕ) → Option A
+front_of read = option_map (λ x. x.0) read
+
+-- the entries of a dictionary whose members are such
+abbrev pub matches_among : List ℕ → List ℕ → List (List ℕ × Member) → List (List ℕ × Member)
+matches_among name s d = filter (λ e. is_match name s e.1) d
+
+-- what was found of the entries that are such: none; one alone, by its key and the text of its member; or it is left open
+abbrev pub Tells : List ℕ → List ℕ → Matched → List (List ℕ × Member) → Type 0
+Tells name s Nowhere d = matches_among name s d ≡ []
+Tells name s (Once at) d = (m : Member) × (rest : List ℕ) × (entry_value_at at.value.now ≡ Some (m, rest)) × (matches_among name s d ≡ (at.key.now, m) ∷ [])
+Tells name s Unsettled d = Unit {0}
+
+-- ---- the bare item under a key
+
+-- the bare item of a member that is an item
+abbrev pub single_of : Member → Option Bare
+single_of (Single item) = Some item.bare
+single_of (Inner list) = None
+
+abbrev pub single_in : Option Member → Option Bare
+single_in None = None
+single_in (Some m) = single_of m
+
+-- the text is that of this member, or there is none
+abbrev pub IsUnder : Option (List ℕ) → Option Member → Type 0
+IsUnder None o = o ≡ None
+IsUnder (Some value) o = (m : Member) × (rest : List ℕ) × (entry_value_at value ≡ Some (m, rest)) × (o ≡ Some m)
