@@ -144,6 +144,8 @@ CASES = {
     "params-alike": lambda: with_input(listed() + ";", names(2, "a" * 13, LETTERS_AND_DIGITS), ";"),
     "items": lambda: many_items("a"),
     "items-params": lambda: many_items("a;a"),
+    "strings": lambda: many_items('""'),
+    "strings-params": lambda: many_items('"";a'),
     "covered-absent": covering_absent_fields,
     "covered-fields": covering_fields,
     "covered-long": covering_long_field,
