@@ -6,7 +6,7 @@ use Rattle.command_inputs.specs.declared.ended.Ended.TheVariants.{Done, Memory, 
 use Rattle.gnap_tool.specs.Openings.{openings_of, quota_of, input_place}
 use Rattle.command_inputs.specs.Ends.{status_of}
 use Rattle.world_uses.specs.Uses.{InputTook}
-use Rattle.world_uses.proofs.Uses.{back-none, unopened_sound, failed_at_4, full_at_8, whole_at_0, to_end_at_0, done_at_0}
+use Rattle.world_uses.proofs.Uses.{back-none, unopened_sound, failed_at_4, full_at_8, whole_at_0, to_end_at_0, configs_at_7, done_at_0}
 use Rattle.gnap_tool.specs.Completeness.{NothingWentWrong, IsCompleted}
 use Rattle.gnap_tool.proofs.Completing.{completes}
 use Rattle.gnap_tool.proofs.EachCommand.{starved_carries}
@@ -52,6 +52,9 @@ returns-in-Err-OutOfMemory-clause-carries g c = λ command found. record { ended
 
 pub returns-in-Err-OutOfMemory-clause-given_back : goal.returns-in-Err-OutOfMemory-clause-given_back
 returns-in-Err-OutOfMemory-clause-given_back g c = λ command found. back-none (openings_of command) _ _ refl
+
+pub returns-in-Some-clause-configs : goal.returns-in-Some-clause-configs
+returns-in-Some-clause-configs g c = λ is. configs_at_7 _ _ _ _ c.in-Some.ended c.in-Some.ensures.world (sym c.status_of.ensures ∙ is)
 
 pub returns-in-Some-clause-to_end : goal.returns-in-Some-clause-to_end
 returns-in-Some-clause-to_end g c = λ is. to_end_at_0 _ _ _ _ c.in-Some.ended c.in-Some.ensures.world (sym c.status_of.ensures ∙ is)
