@@ -93,6 +93,6 @@ pub gears_used : (address : List ℕ) (n quota : ℕ) (before after : WorldState
 gears_used address n quota before after gears (Ok done) back many ended =
     whole address n quota before after gears back many Done (used_unfailed gears ended) (λ is. absurd cc) (inl refl)
 gears_used address n quota before after gears (Err faults.Failed) back many ended =
-    broken address n quota before after gears back many (failed_gears gears (Any-from_list_any has_failed gears ended))
+    broken address n quota before after gears back many (failed_gears gears (Any-from_list_any has_failed gears ended.0))
 gears_used address n quota before after gears (Err faults.OutOfMemory) back many ended =
     whole address n quota before after gears back many Memory (unused_unfailed gears ended) (λ is. absurd cc) (inr refl)
