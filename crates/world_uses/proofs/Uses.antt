@@ -39,8 +39,13 @@ unopened_sound before after same count = record {
   doors = λ some. absurd (no_gears (new_openings before after) (ap gears_in (openings_none before after same)) some);
 }
 
--- just one file was opened
-one_file_at : (files : List Served) (place : ℕ) (file other : Served) → files ≡ file ∷ [] → slice_get files place ≡ Some other → file ≡ other
+-- no file was opened, or just one
+pub no_file_at : (files : List Served) (place : ℕ) (file : Served) → files ≡ [] → slice_get files place ≡ Some file → ⊥
+no_file_at files place file none found =
+    let within : place < 0 = slice_get_within [] place file (ap (λ (fs : List Served). slice_get fs place) (sym none) ∙ found) in
+    absurd (omega (arith, within))
+
+pub one_file_at : (files : List Served) (place : ℕ) (file other : Served) → files ≡ file ∷ [] → slice_get files place ≡ Some other → file ≡ other
 one_file_at files place file other one found =
     let shown : slice_get (file ∷ []) place ≡ Some other = ap (λ (fs : List Served). slice_get fs place) (sym one) ∙ found in
     let within : place < length (file ∷ []) = slice_get_within (file ∷ []) place other shown in
@@ -55,7 +60,7 @@ unopened_failed openings input before after same rose = record {
   all = λ done. elim done [ inl is ↦ absurd cc | inr is ↦ absurd cc ];
   failed = λ is. inl rose;
   sound = λ isnt. absurd (isnt refl);
-  took = λ place is file found. tt;
+  took = λ place is file found. absurd (no_file_at (new_files before after) place file (files_none before after same) found);
   limited = λ is. absurd cc;
   to_end = λ is. absurd cc;
   configs = λ is. absurd cc;
@@ -226,6 +231,16 @@ configs_at_7 openings input before after Failed uses is = absurd cc
 configs_at_7 openings input before after WriteFault uses is = absurd cc
 configs_at_7 openings input before after Memory uses is = absurd cc
 configs_at_7 openings input before after TooLong uses is = absurd cc
+
+pub short_at_4 : (openings : List Opening) (input : Option ℕ) (before after : WorldState) (ended : Ended) → UsesWorld openings input before after ended
+    → status_of ended ≡ 4 → InputTook Failed input before after
+short_at_4 openings input before after Failed uses is = uses.took
+short_at_4 openings input before after Done uses is = absurd cc
+short_at_4 openings input before after (NoSetup why) uses is = absurd cc
+short_at_4 openings input before after WriteFault uses is = absurd cc
+short_at_4 openings input before after Memory uses is = absurd cc
+short_at_4 openings input before after Refused uses is = absurd cc
+short_at_4 openings input before after TooLong uses is = absurd cc
 
 pub done_at_0 : (ended : Ended) → status_of ended ≡ 0 → ended ≡ Done
 done_at_0 Done is = refl
