@@ -1,8 +1,9 @@
 -- Numbers in the order of their keys.
-use Rattle.std.proofs.Common.{ℕ, zero, suc, ◌≡◌, ◌⊎◌, ◌<◌, ◌≤◌, Bool, true, false, List, [], ◌∷◌, length, get_or, take, drop, refl, sym, ◌∙◌, ap, subst, inl, inr, arith, leb, ltb, Some}
+use Rattle.std.proofs.Common.{ℕ, zero, suc, ◌+◌, ◌≡◌, ◌⊎◌, ◌<◌, ◌≤◌, Bool, true, false, List, [], ◌∷◌, length, get_or, take, drop, refl, sym, ◌∙◌, ap, subst, inl, inr, arith, leb, ltb, Some}
 use Rattle.std.specs.List.{insert, remove, items_where_true}
 use Rattle.std.specs.List.Sorted.{IsNonDecreasingBy, IsPartitionPoint}
 use Rattle.std.proofs.lemmas.List.{take-append-drop}
+use Rattle.std.proofs.lemmas.List.Edits.{get_or-remove_above, get_or-remove_below, length-remove}
 use Rattle.std.proofs.lemmas.List.Sorted.{IsNonDecreasingBy-insert, IsNonDecreasingBy-short, IsNonDecreasingBy-drop}
 use Rattle.std.proofs.lemmas.Bool.{cases_lt}
 use Rattle.std.proofs.lemmas.Bool.Decides.{nat_tests}
@@ -128,6 +129,25 @@ taken_in_order n [] (suc i) order = order
 taken_in_order n (x ∷ xs) zero order = IsNonDecreasingBy-drop n 1 (x ∷ xs) order
 taken_in_order n (x ∷ xs) (suc i) order =
     cons_order n x (remove xs i) (λ z h. head_low n x xs z order (item_left_in xs i z h)) (taken_in_order n xs i (IsNonDecreasingBy-drop n 1 (x ∷ xs) order))
+
+-- ---- what a key has is taken out from its start on
+
+pub start_stays : (listed : List Listed) (low key : ℕ) → IsStartOf key listed low → low < length listed → IsStartOf key (remove listed low) low
+start_stays listed low key start inside = (
+  λ k d zero less. subst (λ (one : Listed). ltb (key_of one) key ≡ true) (sym (get_or-remove_below listed low d k less inside)) (start.0 k d zero less),
+  λ k d from within.
+      let many = length-remove listed low inside in
+      subst (λ (one : Listed). ltb (key_of one) key ≡ false) (sym (get_or-remove_above listed low d k from inside)) (start.1 (k + 1) d (omega (arith, from)) (omega (arith, many, within))),
+)
+
+pub other_kept : (listed : List Listed) (at key : ℕ) (d one : Listed) → at < length listed → (get_or listed at d).key ≡ key → (one.key ≡ key → ⊥) → HasItem listed one → HasItem (remove listed at) one
+other_kept listed at key d one inside mine other h =
+    item_not_taken listed at one h (λ e. other (ap key_of (sym e ∙ one_at listed at one d inside) ∙ mine))
+
+pub none_under : (listed : List Listed) (low key : ℕ) (d : Listed) → IsNonDecreasingBy key_of listed → IsStartOf key listed low → (low < length listed → (get_or listed low d).key ≡ key → ⊥)
+    → (one : Listed) → HasItem listed one → one.key ≡ key → ⊥
+none_under listed low key d order start other one h mine =
+    missing_under listed low low key one.number d order start (omega arith) (λ i e from less is. omega (arith, from, less)) other (subst (λ n. HasItem listed (under n one.number)) mine h)
 
 -- ---- what is left of a list in order
 

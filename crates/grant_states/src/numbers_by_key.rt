@@ -1,5 +1,5 @@
 //! Numbers that are found by keys.
-ghost use Rattle.std.specs.Prelude.{◌≡◌, ◌+◌, ◌<◌, ◌≤◌, [], None, length, get_or, IfSome, OnOk};
+ghost use Rattle.std.specs.Prelude.{◌≡◌, ◌+◌, ◌<◌, ◌≤◌, [], None, length, get_or, vec_len, vec_capacity, IfSome, OnOk};
 ghost use Rattle.std.specs.List.Sorted.{IsNonDecreasingBy};
 ghost use Rattle.std.specs.Fn.{CalledAt};
 ghost use Rattle.std.specs.List.Retain.{IsFiltered};
@@ -52,6 +52,22 @@ fn place_under(listed: &[Listed], key: u64, number: u64) -> Option<usize>
         at += 1;
     }
     None
+}
+
+// Takes out what is listed under a key.
+fn take_run(listed: &mut Vec<Listed>, key: u64)
+    requires { IsNonDecreasingBy key_of listed.old.items }
+    ensures order { IsNonDecreasingBy key_of listed.new.items }
+    ensures gone { (one : Listed) → HasItem listed.new.items one → one.key ≡ key → ⊥ }
+    ensures kept { (one : Listed) → HasItem listed.old.items one → (one.key ≡ key → ⊥) → HasItem listed.new.items one }
+    ensures only { (one : Listed) → HasItem listed.new.items one → HasItem listed.old.items one }
+    ensures fewer { vec_len listed.new ≤ vec_len listed.old }
+    ensures capacity { vec_capacity listed.new ≡ vec_capacity listed.old }
+{
+    let first = listed.as_slice().partition_point(|one| one.key < key);
+    while first < listed.len() && listed[first].key == key {
+        let _gone = listed.remove(first);
+    }
 }
 
 impl NumbersByKey {
@@ -113,6 +129,16 @@ impl NumbersByKey {
         if let Some(at) = place_under(self.listed.as_slice(), key, number) {
             let _gone = self.listed.remove(at);
         }
+    }
+
+    /// Takes all numbers out from under a key. Takes no memory.
+    pub fn unlist_all(&mut self, key: u64)
+        ensures gone { (one : Listed) → HasItem self.new.listed one → one.key ≡ key → ⊥ }
+        ensures kept { (one : Listed) → HasItem self.old.listed one → (one.key ≡ key → ⊥) → HasItem self.new.listed one }
+        ensures only { (one : Listed) → HasItem self.new.listed one → HasItem self.old.listed one }
+        ensures spare { self.old.spare ≤ self.new.spare }
+    {
+        take_run(&mut self.listed, key);
     }
 
     /// What is listed under a key.
