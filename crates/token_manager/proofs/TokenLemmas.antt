@@ -28,7 +28,7 @@ use Rattle.grant_states.specs.Listed.{under, where_some}
 use Rattle.token_manager.specs.declared.token_table.TokenPlace.{TokenPlace}
 use Rattle.token_manager.specs.Tokens.{IsTokenRow, AreTokenRows, row_by_value, token_in, IsTokenPlace, AreTokenPlaces, AreListed, is_this, is_among, Marks, lasts_at, is_lasting, is_lasting_elsewhere, one_if, is_of_approved, AreOfApproved}
 use Rattle.grant_states.proofs.Decoding.{Tells, no_number}
-use Rattle.grant_states.proofs.Items.{any_newest, item_all, item_append, item_in, item_of_map, get_at, get_past, newest_none}
+use Rattle.grant_states.proofs.Items.{any_newest, item_all, item_append, item_of_filter, item_in, item_of_map, get_at, get_past, newest_none}
 use Rattle.grant_states.proofs.Placed.{ascending_keys, at_place, one_key, placed, placed_key, eqb-self}
 use Rattle.grant_states.proofs.Changed.{changed_at, changed_past, removed_at, all_left, map-filter}
 
@@ -360,6 +360,32 @@ pub listed_removed : (owned : List Listed) (places : List TokenPlace) (at serial
 listed_removed owned places at serial old are listed inside is mine =
     subst (AreListed owned) (sym (removed_at (λ (p : TokenPlace). p.serial) places at serial old (place_pairs places are) inside (ap (λ (p : TokenPlace). p.serial) (sym is) ∙ mine)))
     (listed_left (λ (p : TokenPlace). not (serial == p.serial)) owned places listed)
+
+-- what is taken out with its serial leaves the others listed
+pub listed_without : (before after : List Listed) (places : List TokenPlace) (at : ℕ) (gone : TokenPlace) → AreTokenPlaces places → at < length places → gone ≡ get_or places at gone → AreListed before (remove places at)
+    → ((one : Listed) → HasItem before one → (one ≡ under gone.grant gone.serial → ⊥) → HasItem after one) → AreListed after (remove places at)
+listed_without before after places at gone are inside is listed kept k d lt =
+    let p : TokenPlace = get_or (remove places at) k d in
+    kept (under p.grant p.serial) (listed k d lt) (λ same. apart (subst (λ (ps : List TokenPlace). HasItem ps p) left (item_in (remove places at) k d lt)) (ap (λ (one : Listed). one.number) same))
+  where
+    left : remove places at ≡ filter (λ (p : TokenPlace). not (gone.serial == p.serial)) places
+    left = removed_at (λ (p : TokenPlace). p.serial) places at gone.serial gone (place_pairs places are) inside (ap (λ (p : TokenPlace). p.serial) (sym is))
+
+    apart : HasItem (filter (λ (p : TokenPlace). not (gone.serial == p.serial)) places) (get_or (remove places at) k d) → (get_or (remove places at) k d).serial ≡ gone.serial → ⊥
+    apart h same =
+        let other = (item_of_filter (λ (p : TokenPlace). not (gone.serial == p.serial)) places (get_or (remove places at) k d) h).1 in
+        let own : (gone.serial == (get_or (remove places at) k d).serial) ≡ true = subst (λ n. (gone.serial == n) ≡ true) (sym same) (eqb-self gone.serial) in
+        let k : false ≡ true = sym (ap not own) ∙ other in cc k
+
+-- what is left of other grants stays listed where what is under the grant is taken out
+pub listed_elsewhere : (before after : List Listed) (places : List TokenPlace) (grant : ℕ) → AreListed before (filter (λ (p : TokenPlace). not (grant == p.grant)) places)
+    → ((one : Listed) → HasItem before one → (one.key ≡ grant → ⊥) → HasItem after one) → AreListed after (filter (λ (p : TokenPlace). not (grant == p.grant)) places)
+listed_elsewhere before after places grant listed kept k d lt =
+    let p : TokenPlace = get_or (filter (λ (p : TokenPlace). not (grant == p.grant)) places) k d in
+    kept (under p.grant p.serial) (listed k d lt) (λ same.
+    let other = (item_of_filter (λ (q : TokenPlace). not (grant == q.grant)) places p (item_in (filter (λ (q : TokenPlace). not (grant == q.grant)) places) k d lt)).1 in
+    let own : (grant == p.grant) ≡ true = subst (λ n. (grant == n) ≡ true) (sym same) (eqb-self grant) in
+    let k : false ≡ true = sym (ap not own) ∙ other in cc k)
 
 pub listed_marked : (owned : List Listed) (places : List TokenPlace) (at serial : ℕ) (old new : TokenPlace) → AreListed owned places → at < length places → old ≡ get_or places at old → Marks serial old new
     → AreListed owned (set places at new)

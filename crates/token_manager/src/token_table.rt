@@ -471,7 +471,8 @@ impl TokenTable {
         let at = place_of(self.places.as_slice(), serial);
         if at < self.places.len() && self.places[at].serial == serial {
             let one = one_lasting(&self.places[at], self.swept);
-            let _gone = self.places.remove(at);
+            let gone = self.places.remove(at);
+            self.serials.unlist(gone.grant, gone.serial);
             self.lasting -= one;
         }
     }
@@ -488,6 +489,7 @@ impl TokenTable {
             self.swept,
             self.lasting,
         );
+        self.serials.unlist_all(grant);
     }
 
     /// Takes out the tokens whose grant isn't among these, at this moment. Takes no memory.

@@ -4,7 +4,7 @@ use Rattle.gnap_tables.specs.declared.rows.TokenRow.{TokenRow}
 use Rattle.gnap_tables.specs.Tables.{drop_tokens_of}
 use Rattle.token_manager.specs.declared.token_table.TokenPlace.{TokenPlace}
 use Rattle.token_manager.specs.Tokens.{StoredTokens, AreTokenPlaces, AreListed, token_in}
-use Rattle.token_manager.proofs.TokenLemmas.{HoldRows, kept_places, place_pairs, all_of_grant, listed_left}
+use Rattle.token_manager.proofs.TokenLemmas.{HoldRows, kept_places, place_pairs, all_of_grant, listed_left, listed_elsewhere}
 use Rattle.token_manager.proofs.token_table.TokenTable.retire_all.Goals as goal
 use Rattle.token_manager.proofs.token_table.TokenTable.retire_all.Goals.{After-take_out_all-self-inside}
 
@@ -24,6 +24,7 @@ returns-clause-rows c =
 pub invariant_of-self : goal.invariant_of-self
 invariant_of-self c = let kept = (goal.at.invariant_of-self c).After-take_out_all-self-inside in (
   subst AreTokenPlaces (sym (left kept)) (held kept).1,
-  subst (AreListed c.self.inside.serials.listed) (sym (left kept)) (listed_left (λ (place : TokenPlace). not (c.args.grant == place.grant)) c.self.inside.serials.listed c.self.inside.places.items c.self.invariant.1),
+  subst (AreListed c.unlist_all.new.self.listed) (sym (left kept)) (listed_elsewhere c.self.inside.serials.listed c.unlist_all.new.self.listed c.self.inside.places.items c.args.grant
+      (listed_left (λ (place : TokenPlace). not (c.args.grant == place.grant)) c.self.inside.serials.listed c.self.inside.places.items c.self.invariant.1) c.unlist_all.ensures.kept),
   c.take_out_all-self-inside.ensures.counted,
 )
