@@ -10,6 +10,7 @@ from pathlib import Path
 import client_cases
 import derived_cases
 import edge_cases
+import failing_calls
 import generated_histories
 import http_cases
 import line_cases
@@ -34,7 +35,7 @@ from worlds import outcome
 def cases():
     for module in (
         http_cases, edge_cases, outside_cases, rights_cases, line_cases, mark_cases, rotation_cases, marked_histories, rotated_histories, written_cases,
-        client_cases, resource_cases, set_cases, derived_cases,
+        client_cases, resource_cases, set_cases, derived_cases, failing_calls,
     ):
         yield from module.cases()
     yield from run_cases.cases(scripted_grants.RUNS + scripted_interactions.RUNS)

@@ -38,6 +38,10 @@ pub struct Case {
     /// Whether the case is run for each beginning of the connections' bytes instead, from none of them to all.
     #[serde(default)]
     pub cut: bool,
+    /// Whether the connections of four gears come in one order: the first ones of all gears, then the second ones, and so on. The words aren't looked at then:
+    /// it is `as` over the first file, with four workers.
+    #[serde(default)]
+    pub in_order: bool,
     /// Whether it is shown what a person is told, on standard error.
     #[serde(default)]
     pub tells: bool,

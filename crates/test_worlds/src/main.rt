@@ -11,6 +11,7 @@ mod both_cores;
 mod case;
 mod fault;
 mod latin;
+mod ordered_gears;
 mod outcome;
 mod world;
 

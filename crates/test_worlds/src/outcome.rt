@@ -2,6 +2,7 @@
 use crate::case::Case;
 use crate::fault::Fault;
 use crate::latin::{bytes_of, text_of};
+use crate::ordered_gears::served_in_order;
 use crate::world::world;
 use gnap_io::memory_devices::MemSink;
 use gnap_io::memory_gear::MemGear;
@@ -39,7 +40,8 @@ pub struct CutOutcome {
     cut: Vec<(usize, usize, u8, String)>,
 }
 
-fn written(alloc: Global, gear: &MemGear) -> Result<Vec<String>, Fault> {
+// What was written to each connection of a gear that was served.
+pub(crate) fn written(alloc: Global, gear: &MemGear) -> Result<Vec<String>, Fault> {
     let mut texts = Vec::new(alloc);
     for conn in gear.served() {
         texts.push(text_of(alloc, conn.written())?)?;
@@ -89,6 +91,22 @@ fn run_case<R: Threads + Wait + Sync>(
             String::new(alloc)
         },
         asked: asked(alloc, world.closed_link())?,
+    })
+}
+
+fn run_in_order<R: Threads + Wait + Sync>(
+    rt: &R,
+    alloc: Global,
+    case: &Case,
+) -> Result<Outcome, Fault> {
+    let (status, served) = served_in_order(rt, alloc, case)?;
+    Ok(Outcome {
+        name: case.name.clone()?,
+        status,
+        out: String::new(alloc),
+        served,
+        told: String::new(alloc),
+        asked: Vec::new(alloc),
     })
 }
 
@@ -152,5 +170,10 @@ pub(crate) fn outcome_line<R: Threads + Wait + Sync>(
     if case.cut {
         return Ok(serde_json::to_string(alloc, &run_beginnings(rt, alloc, case)?)?);
     }
-    Ok(serde_json::to_string(alloc, &run_case(rt, alloc, case, usize::MAX)?)?)
+    let outcome = if case.in_order {
+        run_in_order(rt, alloc, case)?
+    } else {
+        run_case(rt, alloc, case, usize::MAX)?
+    };
+    Ok(serde_json::to_string(alloc, &outcome)?)
 }

@@ -67,7 +67,7 @@ fn connection(
     Ok(MemConn::new(alloc, bytes, room, bad_reads, bad_writes)?)
 }
 
-fn connections(
+pub(crate) fn connections(
     alloc: Global,
     case: &Case,
     gear: &GearCase,
@@ -82,7 +82,7 @@ fn connections(
     Ok(conns)
 }
 
-fn moments(alloc: Global, gear: &GearCase) -> Result<Vec<u64>, Fault>
+pub(crate) fn moments(alloc: Global, gear: &GearCase) -> Result<Vec<u64>, Fault>
     ensures { IfOk result (λ moments. All (λ m. m ≤ last_moment) moments.items) }
 {
     let mut moments = Vec::new(alloc);
@@ -92,7 +92,7 @@ fn moments(alloc: Global, gear: &GearCase) -> Result<Vec<u64>, Fault>
     Ok(moments)
 }
 
-fn draws(alloc: Global, gear: &GearCase) -> Result<Vec<[u64; 48]>, Fault> {
+pub(crate) fn draws(alloc: Global, gear: &GearCase) -> Result<Vec<[u64; 48]>, Fault> {
     let mut draws = Vec::new(alloc);
     for given in &gear.draws {
         let mut words = [0; 48];
