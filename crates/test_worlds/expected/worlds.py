@@ -284,8 +284,8 @@ def outcome(case):
     status = run(world)
     served = [[shown(text) for text in connections] for connections in world.served]
     told = written_cases.HINTS.get(case["name"], "")
-    came = {"name": case["name"], "status": status, "out": shown(world.out), "served": served, "told": told}
-    return {**came, "asked": [shown(request) for request in world.asked]} if world.asked else came
+    asked = [shown(request) for request in world.asked]
+    return {"name": case["name"], "status": status, "out": shown(world.out), "served": served, "told": told, "asked": asked}
 
 
 def cut_outcome(case):

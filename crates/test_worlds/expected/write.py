@@ -42,8 +42,8 @@ def cases():
     yield from map(run_cases.replay_case, scripted_grants.REPLAYS + generated_histories.runs() + stored_histories.runs())
 
 
-def lines_of(values):
-    return "".join(json.dumps(value, ensure_ascii=False, separators=(",", ":")) + "\n" for value in values)
+def lines_of(values, sort_keys=False):
+    return "".join(json.dumps(value, ensure_ascii=False, separators=(",", ":"), sort_keys=sort_keys) + "\n" for value in values)
 
 
 def is_plain_replay(case):
@@ -76,7 +76,7 @@ def main():
     counts = "".join(f"{len(printed)} bytes\n" for _, printed in replays)
     folder = Path(__file__).resolve().parent.parent
     (folder / "stdin").write_text(lines_of(table) + "histories\n" + replayed, encoding="utf-8")
-    (folder / "stdout").write_text(lines_of(map(outcome, table)) + counts, encoding="utf-8")
+    (folder / "stdout").write_text(lines_of(map(outcome, table), sort_keys=True) + counts, encoding="utf-8")
 
 
 if __name__ == "__main__":
