@@ -2,7 +2,7 @@ use Rattle.std.proofs.Common.{◌≡◌, ◌<◌, ◌^◌, List, [], ◌∷◌, 
 use mathlib.Core.Option.{some}
 use lib.ListN.{get_elem?}
 use Rattle.histories.specs.History.{places}
-use Rattle.test_foundations.proofs.shared_adding.a_sum_is_told_where_every_add_is_refused.Goals as goal
+use Rattle.test_desks.proofs.shared_adding.a_sum_is_told_where_every_add_is_refused.Goals as goal
 
 at_last : {X : Type 0} (l : List X) (x : X) → get_elem? (l ++ x ∷ []) (length l) ≡ some x
 at_last [] x = refl
