@@ -1,21 +1,17 @@
-//! Reads four tables and prints what the libraries give of each line. A line of standard input is the word of its table, a space, and what the table says
+//! Reads three tables and prints what the libraries give of each line. A line of standard input is the word of its table, a space, and what the table says
 //! of it:
 //!
 //! - `field`: the text of a structured field (`fields`);
 //! - `signature`: a message that is verified or signed (`signatures`);
-//! - `mark`: a message whose signature's mark is taken or written (`marks`);
-//! - `object`: a JSON text and who reads it (`objects`).
+//! - `mark`: a message whose signature's mark is taken or written (`marks`).
 //!
-//! The lines and what must be printed stand in `expected/`, from where `expected/write.py` writes them: the first two tables as texts, the third by hand with
-//! signatures of another language, and the last by the rules of docs/ in that language, apart from this code.
+//! The lines and what must be printed stand in `expected/`, from where `expected/write.py` writes them: the first two tables as texts, and the third by hand with
+//! signatures of another language.
 #![tactic(auto)]
 
 mod fields;
 mod marks;
 mod messages;
-mod objects;
-mod repeated;
-mod shown;
 mod signatures;
 
 use bytes_and_lists::memory::Mem;
@@ -28,7 +24,6 @@ enum Table {
     Fields,
     Signatures,
     Marks,
-    Objects,
 }
 
 impl Table {
@@ -37,7 +32,6 @@ impl Table {
             "field" => Some(Table::Fields),
             "signature" => Some(Table::Signatures),
             "mark" => Some(Table::Marks),
-            "object" => Some(Table::Objects),
             _ => None,
         }
     }
@@ -47,7 +41,6 @@ impl Table {
             Table::Fields => fields::answer(alloc, text),
             Table::Signatures => signatures::answer(alloc, text),
             Table::Marks => marks::answer(alloc, text),
-            Table::Objects => Ok(objects::answer(alloc, text)?),
         }
     }
 }
