@@ -7,11 +7,7 @@ use test_adding::serve::{sum_of_workers, told_sum};
 fn all_calls_are_in_the_sum(rt: HostRuntime) {
     for (workers, refuses_each, want) in [(1, 0, 1000), (4, 0, 4000), (1, 3, 667), (4, 3, 2667)] {
         let sums = sum_of_workers(&rt, rt.alloc(), workers, 1000, refuses_each);
-        assert_eq!(rt;
-            sums.map(|s| s.total),
-            Some(want),
-            "{workers} workers, refusing each {refuses_each}"
-        );
+        assert!(rt; matches!(&sums, Some(sums) if sums.total == want));
     }
 }
 
@@ -25,5 +21,5 @@ fn a_sum_is_told_where_every_add_is_refused(rt: HostRuntime) {
         panic!(rt; "no pass");
     };
     let told = told_sum(&rt, &shared, pass);
-    assert_eq!(rt; told.sum, 5);
+    assert!(rt; told.sum == 5);
 }
