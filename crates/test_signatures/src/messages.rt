@@ -47,17 +47,21 @@ impl<'a> Parts<'a> {
     }
 }
 
+fn field_of(alloc: Global, part: &str) -> Result<Field, Mem> {
+    let (name, value) = part.split_once(": ").unwrap_or((part, ""));
+    Ok(Field {
+        name: Bytes::from_slice(alloc, name.as_bytes())?,
+        value: Bytes::from_slice(alloc, value.as_bytes())?,
+    })
+}
+
 fn fields_in(alloc: Global, parts: &mut Parts) -> Result<Fields, Mem> {
     let mut fields = Fields::new(alloc);
     for _ in 0..64 {
         let Some(part) = parts.next() else {
             return Ok(fields);
         };
-        let (name, value) = part.split_once(": ").unwrap_or((part, ""));
-        fields.push(Field {
-            name: Bytes::from_slice(alloc, name.as_bytes())?,
-            value: Bytes::from_slice(alloc, value.as_bytes())?,
-        })?;
+        fields.push(field_of(alloc, part)?)?;
     }
     Ok(fields)
 }
@@ -75,17 +79,23 @@ pub fn message_in(alloc: Global, parts: &mut Parts) -> Result<(Bytes, Message), 
     Ok((base, message))
 }
 
+// The secret stands in base64.
+fn add_key(alloc: Global, ring: &mut Keyring, id: &str, secret: &str) -> Result<(), Mem> {
+    let Ok(secret) = STANDARD.decode(alloc, secret.as_bytes()) else {
+        return Err(Mem);
+    };
+    ring.add(
+        &Bytes::from_slice(alloc, id.as_bytes())?,
+        &Bytes::from_vec(secret),
+    )?;
+    Ok(())
+}
+
 /// The ring of these keys.
 pub fn ring(alloc: Global) -> Result<Keyring, Mem> {
     let mut ring = Keyring::new(alloc);
     for (id, secret) in KEYS {
-        let Ok(secret) = STANDARD.decode(alloc, secret.as_bytes()) else {
-            return Err(Mem);
-        };
-        ring.add(
-            &Bytes::from_slice(alloc, id.as_bytes())?,
-            &Bytes::from_vec(secret),
-        )?;
+        add_key(alloc, &mut ring, id, secret)?;
     }
     Ok(ring)
 }
@@ -94,16 +104,22 @@ pub fn text_of(alloc: Global, bytes: &[u8]) -> Result<String, Mem> {
     Ok(String::from_str(alloc, std::str::from_utf8(bytes).unwrap_or("no text"))?)
 }
 
+// Appends the field, on a line of its own.
+fn push_field(alloc: Global, out: &mut String, field: &Field) -> Result<(), Mem> {
+    if !out.is_empty() {
+        out.push('\n')?;
+    }
+    out.push_str(text_of(alloc, field.name.as_slice())?.as_str())?;
+    out.push_str(": ")?;
+    out.push_str(text_of(alloc, field.value.as_slice())?.as_str())?;
+    Ok(())
+}
+
 /// The fields from a place on, one a line.
 pub fn fields_from(alloc: Global, fields: &Fields, from: usize) -> Result<String, Mem> {
     let mut out = String::new(alloc);
     for field in fields.as_slice().iter().skip(from) {
-        if !out.is_empty() {
-            out.push('\n')?;
-        }
-        out.push_str(text_of(alloc, field.name.as_slice())?.as_str())?;
-        out.push_str(": ")?;
-        out.push_str(text_of(alloc, field.value.as_slice())?.as_str())?;
+        push_field(alloc, &mut out, field)?;
     }
     Ok(out)
 }

@@ -40,7 +40,7 @@ fn based(alloc: Global, parts: &mut Parts) -> Result<String, Mem> {
     let list = list_in(alloc, parts.bytes(alloc)?.as_slice());
     let (base, message) = message_in(alloc, parts)?;
     let Some(list) = list else {
-        return Ok(format!(in alloc; "no list")?);
+        return Ok(String::from_str(alloc, "no list")?);
     };
     match base_of(alloc, &message, &base, &list) {
         Ok(text) => {
@@ -50,7 +50,7 @@ fn based(alloc: Global, parts: &mut Parts) -> Result<String, Mem> {
             let text = text_of(alloc, text.as_slice())?;
             Ok(format!(in alloc; "{text}\n{code}")?)
         }
-        Err(BaseFault::Unsupported) => Ok(format!(in alloc; "Unsupported")?),
+        Err(BaseFault::Unsupported) => Ok(String::from_str(alloc, "Unsupported")?),
         Err(BaseFault::OutOfMemory) => Err(Mem),
     }
 }
@@ -59,7 +59,7 @@ fn signed(alloc: Global, parts: &mut Parts) -> Result<String, Mem> {
     let created = parts.next().unwrap_or("").parse::<u64>().unwrap_or(0);
     let (base, mut message) = message_in(alloc, parts)?;
     if created > 253_402_300_799 {
-        return Ok(format!(in alloc; "no moment")?);
+        return Ok(String::from_str(alloc, "no moment")?);
     }
     let before = message.fields.len();
     let id = Bytes::from_slice(alloc, b"c1")?;
@@ -67,7 +67,7 @@ fn signed(alloc: Global, parts: &mut Parts) -> Result<String, Mem> {
     let tag = Bytes::from_slice(alloc, b"gnap")?;
     match sign(alloc, &mut message, &base, &id, &secret, created, &tag) {
         Ok(()) => fields_from(alloc, &message.fields, before),
-        Err(SignFault::HasSignature) => Ok(format!(in alloc; "HasSignature")?),
+        Err(SignFault::HasSignature) => Ok(String::from_str(alloc, "HasSignature")?),
         Err(SignFault::OutOfMemory) => Err(Mem),
     }
 }
@@ -79,6 +79,6 @@ pub fn answer(alloc: Global, line: &str) -> Result<String, Mem> {
         Some("verify") => verified(alloc, &mut parts),
         Some("base") => based(alloc, &mut parts),
         Some("sign") => signed(alloc, &mut parts),
-        _ => Ok(format!(in alloc; "no such line")?),
+        _ => Ok(String::from_str(alloc, "no such line")?),
     }
 }
