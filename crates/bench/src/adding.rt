@@ -32,10 +32,11 @@ pub fn measure<R: Threads + Wait + Sync + Clock + Print + AllocGlobal>(
             .unwrap_or(u64::MAX)
             .max(1);
         let rate = total.saturating_mul(1_000_000) / micros;
-        match asked {
-            Some(_) => println!(rt; "{workers} workers: {rate} calls a second")?,
-            None => println!(rt; "{workers} workers: {total} calls")?,
-        }
+        let (count, what) = match asked {
+            Some(_) => (rate, "calls a second"),
+            None => (total, "calls"),
+        };
+        println!(rt; "{workers} workers: {count} {what}")?;
     }
     Ok(())
 }

@@ -1,11 +1,11 @@
 //! What it costs to see whether rights cover others, where that costs most.
 //!
-//! Printed is how often they were covered, and where it was asked how often, behind that the nanoseconds of one.
+//! Printed is how often they were covered, and where it was asked how often, behind that the nanoseconds of one, and how many that is a second.
 //!
 //! The granted rights and the wanted ones are 16 each, of 1,024 atoms each. The wanted values are found in the last granted right alone, and all values
 //! are of one length and differ in their last bytes: so in the other granted rights every value is compared with every other to its end.
 
-use crate::timings::nanos_of_one;
+use crate::timings::{end_line, nanos_of_one};
 use access_rights::{Rights, covers, read_rights};
 use json_objects::{member, read_body};
 use std::alloc::{AllocError, Global};
@@ -79,8 +79,6 @@ pub fn measure<R: Clock + Print + AllocGlobal>(rt: &R, asked: Option<u64>) -> io
     let start = Instant::now(rt)?;
     let count = covered(&granted, &wanted, times);
     let nanos = nanos_of_one(start.elapsed(rt)?, times);
-    match asked {
-        Some(_) => println!(rt; "covered {count} of {times}, {nanos} ns each"),
-        None => println!(rt; "covered {count} of {times}"),
-    }
+    print!(rt; "covered {count} of {times}")?;
+    end_line(rt, asked, nanos)
 }

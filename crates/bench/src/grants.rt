@@ -1,9 +1,9 @@
 //! What a grant of a load costs at a desk that nobody shares, beside one worker at a shared core.
 //!
 //! Printed is, for each way, how many replies said that a token is active, that there is none, and that a grant was ended; and where it was asked how many
-//! grants are put through, behind that the nanoseconds of one, the mean.
+//! grants are put through, behind that the nanoseconds of one, the mean, and how many that is a second.
 
-use crate::timings::nanos_of_one;
+use crate::timings::{end_line, nanos_of_one};
 use bytes_and_lists::memory::Mem;
 use desk_load::{Tally, load_setup, put_load, put_load_alone};
 use std::alloc::Global;
@@ -71,12 +71,8 @@ fn report<R: Threads + Wait + Sync + Clock + Print + AllocGlobal>(
     else {
         return println!(rt; "{name}: out of memory");
     };
-    match asked {
-        Some(_) => println!(rt;
-            "{name}: active {active} inactive {inactive} cancelled {done}, {nanos} ns each grant"
-        ),
-        None => println!(rt; "{name}: active {active} inactive {inactive} cancelled {done}"),
-    }
+    print!(rt; "{name}: active {active} inactive {inactive} cancelled {done}")?;
+    end_line(rt, asked, nanos)
 }
 
 /// Puts as many grants through as asked, in each way.

@@ -6,7 +6,7 @@
 
 use crate::connections::{Verifier, requests_read};
 use crate::hashes::Hashes;
-use crate::timings::nanos_of_one;
+use crate::timings::{end_line, nanos_of_one};
 use bytes_and_lists::bytes::Bytes;
 use bytes_and_lists::memory::Mem;
 use gnap_io::memory_devices::MemSource;
@@ -106,13 +106,8 @@ fn report<R: Clock + Print + AllocGlobal>(
     let start = Instant::now(rt)?;
     let count = subject.count(rt.alloc(), step, times, &mut connection);
     let nanos = nanos_of_one(start.elapsed(rt)?, times);
-    let per_second = 1_000_000_000 / nanos.max(1);
-    match asked {
-        Some(_) => println!(rt;
-            "{name}: {count} of {times}, {nanos} ns each, {per_second} a second"
-        ),
-        None => println!(rt; "{name}: {count} of {times}"),
-    }
+    print!(rt; "{name}: {count} of {times}")?;
+    end_line(rt, asked, nanos)
 }
 
 /// Does each step as often as asked, with what the lines tell.
