@@ -6,8 +6,8 @@
 For n of 1,000 and MANY, 65,500 where it isn't given: a file of n grant requests that ask for a user code and are live to its end, and behind them 32 calls of one kind: a further grant
 request with a user code, a look at a handle that none has, a search for a code that one has, a decision. A call's instructions are what the whole file takes
 more than its grant requests alone, by 32, counted by valgrind. Printed are both numbers and their ratio. The last line is a file of grant requests whose
-random words are all equal. With 65,500 it takes half an hour. The program is
-crates/gnap/out/gnap, or the one that GNAP names; not the script ./gnap, since valgrind doesn't follow that to the program.
+random words are all equal. The files are counted side by side, on all processors. The program is crates/gnap/out/gnap, or the one that GNAP names; not
+the script ./gnap, since valgrind doesn't follow that to the program.
 """
 
 import base64
@@ -18,6 +18,7 @@ import re
 import subprocess
 import sys
 import tempfile
+from concurrent.futures import ThreadPoolExecutor
 
 SETUP = {
     "base": "https://as.example",
@@ -71,10 +72,9 @@ def calls(kind, words):
 
 
 def instructions(program, folder, lines, wanted):
-    path = os.path.join(folder, "calls.jsonl")
-    with open(path, "w") as out:
+    with tempfile.NamedTemporaryFile("w", dir=folder, suffix=".jsonl", delete=False) as out:
         out.write("".join([line(SETUP)] + lines))
-    counted = ["valgrind", "--tool=cachegrind", "--cache-sim=no", "--cachegrind-out-file=/dev/null", program, "replay", path]
+    counted = ["valgrind", "--tool=cachegrind", "--cache-sim=no", "--cachegrind-out-file=/dev/null", program, "replay", out.name]
     done = subprocess.run(counted, capture_output=True, check=True, text=True)
     replies = done.stdout.splitlines()
     if len(replies) != len(lines) or not all(wanted in reply for reply in replies[-CALLS:]):
@@ -90,18 +90,23 @@ def main():
     random.seed(1)
     program = os.environ.get("GNAP", "crates/gnap/out/gnap")
     many = int(sys.argv[1]) if len(sys.argv) > 1 else 65_500
-    with tempfile.TemporaryDirectory() as folder:
-        costs = {kind: [] for kind in WANTED}
-        for rounds in (1_000, many):
+    with tempfile.TemporaryDirectory() as folder, ThreadPoolExecutor(os.cpu_count()) as pool:
+
+        def counted(lines, wanted):
+            return pool.submit(instructions, program, folder, lines, wanted)
+
+        runs = {kind: [] for kind in WANTED}
+        for rounds in (many, 1_000):
             words = [random.getrandbits(64) for _ in range(rounds)]
             begun = [begin(word) for word in words]
-            alone = instructions(program, folder, begun, WANTED["begin"])
+            alone = counted(begun, WANTED["begin"])
             for kind, wanted in WANTED.items():
-                whole = instructions(program, folder, begun + calls(kind, words), wanted)
-                costs[kind].append((whole - alone) / CALLS)
-        for kind, (few, more) in costs.items():
+                runs[kind].append((counted(begun + calls(kind, words), wanted), alone))
+        equal = [counted([begin(7)] * rounds, WANTED["begin"]) for rounds in (1_000, 2_000)]
+        for kind, pairs in runs.items():
+            more, few = ((whole.result() - alone.result()) / CALLS for whole, alone in pairs)
             print(f"{kind}: {few:,.0f} instructions over 1,000 live rounds, {more:,.0f} over {many:,}, {more / few:.2f} times", flush=True)
-        few, more = (instructions(program, folder, [begin(7)] * rounds, WANTED["begin"]) for rounds in (1_000, 2_000))
+        few, more = (run.result() for run in equal)
         print(f"words that are all equal: {few:,} instructions for 1,000 grant requests, {more:,} for 2,000, {more / few:.2f} times", flush=True)
 
 

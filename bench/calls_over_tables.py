@@ -5,9 +5,9 @@
 
 For n of 1,000, 10,000 and 65,000: a file of n grant requests, all live to its end, and 2n introspections that name the tokens in a mixed order. Each file
 is replayed five times, and the best time counts. An introspection's time is what the whole file takes more than its grant requests alone, by 2n; a grant
-request's is what those take more than an empty file, by n. Then a file of 200,000 lines is replayed once, and the memory of the full state of 65,536
-grants is compared with the bytes of the texts that it must keep, for a right in full as in RFC 9635's examples and for a name. The program is ./gnap, or
-the one that GNAP names.
+request's is what those take more than an empty file, by n. The sweep at which 65,000 grants end, with a token each, is what a file of as many takes more
+with one call behind them all. Then a file of 200,000 lines is replayed once, and the memory of the full state of 65,536 grants is compared with the bytes
+of the texts that it must keep, for a right in full as in RFC 9635's examples and for a name. The program is ./gnap, or the one that GNAP names.
 """
 
 import base64
@@ -56,30 +56,30 @@ def grant_request(right):
     return line({"at": 1000, "body": {"access_token": {"access": [right]}, "client": "c1"}, "call": "begin", "key": "c1"})
 
 
-def introspection(serial):
+def introspection(serial, at=1000):
     value = base64.urlsafe_b64encode(serial.to_bytes(8, "big") + bytes(16)).decode()
-    return line({"at": 1000, "body": {"access_token": value, "resource_server": "r1"}, "call": "introspect", "key": "r1"})
+    return line({"at": at, "body": {"access_token": value, "resource_server": "r1"}, "call": "introspect", "key": "r1"})
 
 
-def file_of(grants, introspections):
-    """A step that has no factor in common with the grants' number mixes the order."""
+def file_of(grants, introspections, behind):
+    """A step that has no factor in common with the grants' number mixes the order. The lines behind come at last."""
     lines = [line(SETUP)] + [grant_request(NAME)] * grants
     lines += [introspection(1 + VALUES * (i * 48_611 % grants)) for i in range(introspections)]
-    return "".join(lines)
+    return "".join(lines + behind)
 
 
-def replayed(program, folder, grants, introspections, times):
+def replayed(program, folder, grants, introspections, times, behind=()):
     """The best time, in seconds, once every reply was as it has to be."""
     path = os.path.join(folder, "calls.jsonl")
     with open(path, "w") as out:
-        out.write(file_of(grants, introspections))
+        out.write(file_of(grants, introspections, list(behind)))
     best = None
     for _ in range(times):
         start = time.perf_counter()
         done = subprocess.run([program, "replay", path], stdout=subprocess.PIPE, check=True)
         took = time.perf_counter() - start
         best = took if best is None else min(best, took)
-        if done.stdout.count(b'"active":true') != introspections or done.stdout.count(b"\n") != grants + introspections:
+        if done.stdout.count(b'"active":true') != introspections or done.stdout.count(b"\n") != grants + introspections + len(behind):
             raise SystemExit("not the replies")
     return best
 
@@ -111,6 +111,9 @@ def main():
             request = (alone - empty) / grants * 1e6
             introspected = (whole - alone) / (2 * grants) * 1e6
             print(f"{grants:6} grants live: a grant request {request:.1f} µs, an introspection {introspected:.1f} µs", flush=True)
+        live = replayed(program, folder, 65_000, 0, 9)
+        swept = replayed(program, folder, 65_000, 0, 9, [introspection(1, at=10**9)]) - live
+        print(f"the sweep at which 65,000 grants end: {swept * 1e3:.0f} ms", flush=True)
         took = replayed(program, folder, 65_000, 135_000, 1)
         print(f"200,000 lines: {took:.1f} s", flush=True)
         for name, right in (("a right in full", IN_FULL), ("a name", NAME)):

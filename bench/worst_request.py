@@ -9,7 +9,7 @@ the first byte that is read to the last that is written. An ordinary one is a si
 
 The cases fill what the server reads of a head, 16,384 bytes, with many names in `Signature-Input` or `Signature`, with items or with covered fields; or they
 have many field lines, a long target, empty lines, or a body of 65,536 bytes with many members. None has a signature that is right, though an id of a key is no
-secret. The last case, `signed-members`, is no stranger's: a client signs that body.
+secret. The last two cases, `signed-members` and `signed-right`, are no stranger's: a client signs those bodies.
 
 Printed are the bytes, the status of the reply, the instructions, and their ratio to the ordinary request. The program is crates/gnap/out/gnap, or the one that
 GNAP names; valgrind doesn't follow the script ./gnap to the program.
@@ -110,6 +110,12 @@ def members_body():
     return filled(BEGIN[:-1] + b",", (f'"{name}":1' for name in names(3)), ",", b"}", MOST_BODY)
 
 
+def right_body():
+    """A grant request of as many bytes as are read, for one right with members that it has no field for."""
+    front = b'{"client":"c1","access_token":{"access":[{"type":"photos",'
+    return filled(front, (f'"{name}":1' for name in names(3)), ",", b"}]}}", MOST_BODY)
+
+
 def unsigned(request):
     """The request with another signature, which is wrong."""
     before, mark, code = request.partition(b"Signature: sig1=:")
@@ -138,6 +144,8 @@ CASES = {
     "params-alike": lambda: with_input(listed() + ";", names(2, "a" * 13, LETTERS_AND_DIGITS), ";"),
     "items": lambda: many_items("a"),
     "items-params": lambda: many_items("a;a"),
+    "strings": lambda: many_items('""'),
+    "strings-params": lambda: many_items('"";a'),
     "covered-absent": covering_absent_fields,
     "covered-fields": covering_fields,
     "covered-long": covering_long_field,
@@ -150,6 +158,7 @@ CASES = {
     "connection": lambda: filled(b"POST /gnap HTTP/1.1\r\nConnection: ", itertools.repeat("a"), ",", b"\r\n\r\n"),
     "body-members": lambda: unsigned(signed_post("/gnap", "c1", members_body(), nonce=fresh_nonce())),
     "signed-members": lambda: signed_post("/gnap", "c1", members_body(), nonce=fresh_nonce()),
+    "signed-right": lambda: signed_post("/gnap", "c1", right_body(), nonce=fresh_nonce()),
 }
 
 

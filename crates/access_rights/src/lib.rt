@@ -4,6 +4,7 @@
 //! the JSON value, or that memory ran out; a printer gives the JSON value that stands for what it is handed. Nothing here keeps a state.
 #![tactic(auto)]
 
+mod further;
 pub mod inclusion;
 mod masks;
 pub mod printing;

@@ -7,14 +7,14 @@ ghost use Rattle.json_objects.specs.Bodies.{IsBody, AreBodies};
 ghost use Rattle.json_objects.specs.Reading.{Gives, each};
 ghost use Rattle.json_objects.specs.Texts.{IsUtf8Or, AreUtf8};
 ghost use Rattle.access_rights.specs.declared.reading.RightsFault.TheVariants.{OutOfMemory};
-ghost use Rattle.access_rights.specs.Fits.{is_own, IsFurther, FitsObject, Fits};
-ghost use Rattle.access_rights.specs.Reading.{any_text, sized, type_of, dimension_of, identifier_of, others, further_of, extent, right_object_of, right_of, rights_of};
+ghost use Rattle.access_rights.specs.Fits.{FitsObject, Fits};
+ghost use Rattle.access_rights.specs.Reading.{any_text, sized, type_of, dimension_of, identifier_of, extent, right_object_of, right_of, rights_of};
 
+use crate::further::further_of;
 use bytes_and_lists::bytes::Bytes;
 use bytes_and_lists::memory::Mem;
 use bytes_and_lists::seq::Seq;
 use gnap_model::rights::{Right, RightObject, Rights, Texts};
-use json_objects::compact_text;
 use serde_json::{Map, Value};
 use std::alloc::Global;
 use thiserror::Error;
@@ -116,40 +116,6 @@ fn identifier_of(alloc: Global, right: &Value) -> Result<Option<Bytes>, RightsFa
         return Ok(None);
     };
     Ok(Some(any_text(alloc, member)?))
-}
-
-#[tactic(auto, unfolding(crate::specs::Fits::is_own))]
-fn is_own(name: &str) -> bool
-    ensures { result ≡ is_own name.now }
-{
-    name == "type"
-        || name == "actions"
-        || name == "locations"
-        || name == "datatypes"
-        || name == "privileges"
-        || name == "identifier"
-}
-
-fn others(alloc: Global, members: &Map<String, Value>) -> Result<Map<String, Value>, Mem>
-    ensures { IfOk result (λ m. members_view m.entries
-        ≡ others (members_view members.now.entries)) }
-{
-    let mut found = Map::new(alloc);
-    for (key, member) in members.iter() {
-        if !is_own(key.as_str()) {
-            serde_json::put(&mut found, alloc, key.as_str(), member.clone()?)?;
-        }
-    }
-    Ok(found)
-}
-
-fn further_of(alloc: Global, members: &Map<String, Value>) -> Result<Bytes, Mem>
-    requires { IsBody (object (members_view members.now.entries)) }
-    ensures value { IfOk result (λ b. b ≡ further_of (members_view members.now.entries)) }
-    ensures fits { IfOk result IsFurther }
-{
-    let others = Value::Object(others(alloc, members)?);
-    Ok(Bytes::from_vec(others.to_vec(alloc)?))
 }
 
 fn extent(dimension: &Option<Texts>) -> usize

@@ -74,7 +74,7 @@ stopped_at line_ends.Whole ended taken told is counts = absurd cc
 stopped_at line_ends.Last ended taken told is counts = absurd cc
 stopped_at line_ends.Long ended taken told is counts = absurd cc
 stopped_at line_ends.Full ended taken told is counts = let at : TooLong ≡ ended = cc in subst (λ (e : Ended). EndsAt e taken told) at counts
-stopped_at line_ends.Failed ended taken told is counts = let at : Failed ≡ ended = cc in subst (λ (e : Ended). EndsAt e taken told) at tt
+stopped_at line_ends.Failed ended taken told is counts = let at : Failed ≡ ended = cc in subst (λ (e : Ended). EndsAt e taken told) at counts
 stopped_at line_ends.Memory ended taken told is counts = let at : Memory ≡ ended = cc in subst (λ (e : Ended). EndsAt e taken told) at tt
 
 pub last_counts : (end : LineEnd) (taken : ℕ) → is_last end ≡ true → CountsTaken end taken → taken < 1073741824

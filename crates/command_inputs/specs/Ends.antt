@@ -23,14 +23,14 @@ abbrev pub CountsWrites : Ended → ℕ → ℕ → Type 0
 CountsWrites WriteFault faults faults_now = Rose faults faults_now
 CountsWrites _ faults faults_now = faults_now ≡ faults
 
--- So many bytes were taken of the input: all that it had, and fewer than may be, where the command was carried out; as many as may be where it
--- ended by that.
+-- So many bytes were taken of the input: all that it had, and fewer than may be, where the command was carried out; fewer than may be where a read
+-- failed; as many as may be where it ended by that.
 abbrev pub EndsAt : Ended → ℕ → Told → Type 0
 EndsAt Done taken told = (taken < 1073741824) × IsAtEnd told
 EndsAt Refused taken told = (taken < 1073741824) × IsAtEnd told
+EndsAt Failed taken told = taken < 1073741824
 EndsAt TooLong taken told = taken ≡ 1073741824
 EndsAt (NoSetup why) taken told = Unit {0}
-EndsAt Failed taken told = Unit {0}
 EndsAt WriteFault taken told = Unit {0}
 EndsAt Memory taken told = Unit {0}
 

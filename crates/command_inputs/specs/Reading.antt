@@ -64,8 +64,9 @@ abbrev pub CountsFault : LineEnd → ℕ → ℕ → Type 0
 CountsFault Failed faults faults_now = Rose faults faults_now
 CountsFault _ faults faults_now = faults_now ≡ faults
 
--- As many bytes were taken as may be where the line ended by that, and fewer where the input ended.
+-- As many bytes were taken as may be where the line ended by that, and fewer where the input ended or a read failed.
 abbrev pub CountsTaken : LineEnd → ℕ → Type 0
 CountsTaken Full taken = taken ≡ 1073741824
 CountsTaken Last taken = taken < 1073741824
+CountsTaken Failed taken = taken < 1073741824
 CountsTaken _ taken = Unit {0}

@@ -21,5 +21,5 @@ abbrev pub Refills : Refill → Told → Told → ℕ → ℕ → LineReader →
 Refills More before after faults faults_now old new = Comes before after old new × (faults_now ≡ faults)
 Refills End before after faults faults_now old new = Takes [] before after × IsAtEnd after × ComesNone old new × (faults_now ≡ faults) × (old.taken < 1073741824)
 Refills Full before after faults faults_now old new = (after ≡ before) × ComesNone old new × (faults_now ≡ faults) × (old.taken ≡ 1073741824)
-Refills Failed before after faults faults_now old new = (after ≡ before) × ComesNone old new × Rose faults faults_now
+Refills Failed before after faults faults_now old new = (after ≡ before) × ComesNone old new × Rose faults faults_now × (old.taken < 1073741824)
 Refills Memory before after faults faults_now old new = (after ≡ before) × ComesNone old new × (faults_now ≡ faults)

@@ -1,6 +1,6 @@
 -- What holds of each command.
 use Rattle.std.proofs.Common.{◌≡◌, ◌⊎◌, ℕ, List, [], refl, sym, subst, inl, inr}
-use Rattle.std.specs.Prelude.{Option, Some}
+use Rattle.std.specs.Prelude.{Option}
 use Rattle.gnap_io.specs.Outside.{Told}
 use Rattle.gnap_io.specs.Worlds.{WorldState}
 use Rattle.gnap_io.specs.declared.world.Opening.{Opening}
@@ -11,18 +11,9 @@ use Rattle.command_inputs.specs.declared.ended.Ended.TheVariants.{Done, NoSetup,
 use Rattle.command_inputs.specs.Ends.{status_of}
 use Rattle.command_words.specs.declared.command.Command.{Command}
 use Rattle.command_words.specs.declared.command.Command.TheVariants.{Replay, Field, Sign, Verify, Serve, Rs, Client, Hash, Load}
-use Rattle.gnap_tool.specs.declared.purpose.Purpose.{Purpose}
-use Rattle.gnap_tool.specs.declared.purpose.Purpose.TheVariants as purposes
 use Rattle.gnap_tool.specs.Openings.{openings_of, quota_of, input_place}
-use Rattle.gnap_tool.specs.Runs.{CarriesOut, input_of}
+use Rattle.gnap_tool.specs.Runs.{CarriesOut}
 use Rattle.world_uses.specs.Uses.{UsesWorld}
-
--- the place of a purpose's input is the first
-pub first_input : (purpose : Purpose) (place : ℕ) → input_of purpose ≡ Some place → place ≡ 0
-first_input purposes.Replay place is = cc
-first_input (purposes.Field kind) place is = cc
-first_input (purposes.Sign setup key created _) place is = absurd cc
-first_input (purposes.Verify setup now) place is = absurd cc
 
 -- where memory ran out before anything was opened
 pub starved_carries : (command : Command) (text : List ℕ → Option (List ℕ)) (world : WorldState) (out : Told) → CarriesOut command text world world out out Memory

@@ -17,7 +17,7 @@ use Rattle.serving.specs.ServiceEnds.{has_failed, IsUsedUp, IsEndOfService}
 use Rattle.command_inputs.specs.declared.ended.Ended.{Ended}
 use Rattle.command_inputs.specs.declared.ended.Ended.TheVariants.{Done, Failed, Memory}
 use Rattle.gnap_tool.specs.Runs.{ended_service}
-use Rattle.world_uses.specs.Uses.{NothingFailed, UsesWorld, new_openings}
+use Rattle.world_uses.specs.Uses.{NothingFailed, AllButLast, UsesWorld, new_openings}
 
 failed_gear : (gear : GearState) → has_failed gear ≡ true → gear.faults ≢ 0
 failed_gear gear is zero = let none : nat_lt 0 0 ≡ true = subst (λ n. nat_lt 0 n ≡ true) zero is in absurd cc
@@ -63,6 +63,7 @@ module _ (address : List ℕ) (n quota : ℕ) (before after : WorldState) (gears
     took = λ place is file found. absurd cc;
     limited = λ is. absurd (elim how [ inl done ↦ (let bad = sym done ∙ is in cc) | inr memory ↦ (let bad = sym memory ∙ is in cc) ]);
     to_end = λ is. subst (All (λ (file : Served). IsAtEnd file.told)) (sym no_files) (All-nil (λ (file : Served). IsAtEnd file.told));
+    configs = λ is. subst (AllButLast (λ (file : Served). IsAtEnd file.told)) (sym no_files) tt;
   }
 
   broken : Any (λ (gear : GearState). gear.faults ≢ 0) gears → UsesWorld (Gears address n quota ∷ []) None before after Failed
@@ -77,6 +78,7 @@ module _ (address : List ℕ) (n quota : ℕ) (before after : WorldState) (gears
     took = λ place is file found. absurd cc;
     limited = λ is. absurd cc;
     to_end = λ is. absurd cc;
+    configs = λ is. absurd cc;
   }
 
 -- what is so where serving went well is so where the command ended well by it
@@ -91,6 +93,6 @@ pub gears_used : (address : List ℕ) (n quota : ℕ) (before after : WorldState
 gears_used address n quota before after gears (Ok done) back many ended =
     whole address n quota before after gears back many Done (used_unfailed gears ended) (λ is. absurd cc) (inl refl)
 gears_used address n quota before after gears (Err faults.Failed) back many ended =
-    broken address n quota before after gears back many (failed_gears gears (Any-from_list_any has_failed gears ended))
+    broken address n quota before after gears back many (failed_gears gears (Any-from_list_any has_failed gears ended.0))
 gears_used address n quota before after gears (Err faults.OutOfMemory) back many ended =
     whole address n quota before after gears back many Memory (unused_unfailed gears ended) (λ is. absurd cc) (inr refl)

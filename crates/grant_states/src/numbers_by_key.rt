@@ -1,9 +1,10 @@
 //! Numbers that are found by keys.
-ghost use Rattle.std.specs.Prelude.{◌≡◌, ◌+◌, ◌<◌, ◌≤◌, [], length, OnOk};
+ghost use Rattle.std.specs.Prelude.{◌≡◌, ◌+◌, ◌<◌, ◌≤◌, [], None, length, get_or, vec_len, vec_capacity, IfSome, OnOk};
+ghost use Rattle.std.specs.List.Sorted.{IsNonDecreasingBy};
 ghost use Rattle.std.specs.Fn.{CalledAt};
 ghost use Rattle.std.specs.List.Retain.{IsFiltered};
 ghost use Rattle.gnap_tables.proofs.Lists.{HasItem};
-ghost use Rattle.grant_states.specs.Listed.{under};
+ghost use Rattle.grant_states.specs.Listed.{under, key_of};
 ghost use Rattle.grant_states.specs.declared.numbers_by_key.Listed.{Listed};
 
 use bytes_and_lists::memory::Mem;
@@ -35,6 +36,38 @@ impl Model for NumbersByKey {
     ghost view = { λ s. record { listed = s.listed.items; spare = vec_capacity s.listed - vec_len s.listed } };
 
     ghost invariant = { λ s. IsNonDecreasingBy key_of s.listed.items };
+}
+
+// Where a number stands under a key.
+fn place_under(listed: &[Listed], key: u64, number: u64) -> Option<usize>
+    requires { IsNonDecreasingBy key_of listed.now }
+    ensures found { IfSome result (λ at. (at < length listed.now) × ((d : Listed) → get_or listed.now at d ≡ under key number)) }
+    ensures missing { result ≡ None → HasItem listed.now (under key number) → ⊥ }
+{
+    let mut at = listed.partition_point(|one| one.key < key);
+    while at < listed.len() && listed[at].key == key {
+        if listed[at].number == number {
+            return Some(at);
+        }
+        at += 1;
+    }
+    None
+}
+
+// Takes out what is listed under a key.
+fn take_run(listed: &mut Vec<Listed>, key: u64)
+    requires { IsNonDecreasingBy key_of listed.old.items }
+    ensures order { IsNonDecreasingBy key_of listed.new.items }
+    ensures gone { (one : Listed) → HasItem listed.new.items one → one.key ≡ key → ⊥ }
+    ensures kept { (one : Listed) → HasItem listed.old.items one → (one.key ≡ key → ⊥) → HasItem listed.new.items one }
+    ensures only { (one : Listed) → HasItem listed.new.items one → HasItem listed.old.items one }
+    ensures fewer { vec_len listed.new ≤ vec_len listed.old }
+    ensures capacity { vec_capacity listed.new ≡ vec_capacity listed.old }
+{
+    let first = listed.as_slice().partition_point(|one| one.key < key);
+    while first < listed.len() && listed[first].key == key {
+        let _gone = listed.remove(first);
+    }
 }
 
 impl NumbersByKey {
@@ -84,6 +117,28 @@ impl NumbersByKey {
         let Ok(()) = self.listed.insert(at, Listed { key, number }) else {
             unreachable!()
         };
+    }
+
+    /// Takes a number out from under a key, once, where it is listed there. Takes no memory. It reads what is listed under the key, as far as the number.
+    pub fn unlist(&mut self, key: u64, number: u64)
+        ensures taken { HasItem self.old.listed (under key number) → length self.new.listed + 1 ≡ length self.old.listed }
+        ensures kept { (one : Listed) → HasItem self.old.listed one → (one ≡ under key number → ⊥) → HasItem self.new.listed one }
+        ensures only { (one : Listed) → HasItem self.new.listed one → HasItem self.old.listed one }
+        ensures spare { self.old.spare ≤ self.new.spare }
+    {
+        if let Some(at) = place_under(self.listed.as_slice(), key, number) {
+            let _gone = self.listed.remove(at);
+        }
+    }
+
+    /// Takes all numbers out from under a key. Takes no memory.
+    pub fn unlist_all(&mut self, key: u64)
+        ensures gone { (one : Listed) → HasItem self.new.listed one → one.key ≡ key → ⊥ }
+        ensures kept { (one : Listed) → HasItem self.old.listed one → (one.key ≡ key → ⊥) → HasItem self.new.listed one }
+        ensures only { (one : Listed) → HasItem self.new.listed one → HasItem self.old.listed one }
+        ensures spare { self.old.spare ≤ self.new.spare }
+    {
+        take_run(&mut self.listed, key);
     }
 
     /// What is listed under a key.

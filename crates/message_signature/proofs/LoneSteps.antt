@@ -1,23 +1,25 @@
 -- The signature with a tag, by what was found of the members of the two fields.
 use Rattle.std.proofs.Common.{◌≡◌, ℕ, Bool, true, false, cond, List, [], ◌∷◌, Option, Some, None, Result, Ok, Err, refl, sym, ap, subst, ◌∙◌}
 use Rattle.std.specs.Prelude.{codes}
+use Rattle.std.specs.List.{list_all}
 use Rattle.std.specs.Option.{option_map}
 use Rattle.bytes_and_lists.specs.declared.message.Message.{Message}
 use Rattle.structured_fields.specs.declared.bare.Bare.{Bare}
 use Rattle.structured_fields.specs.declared.bare.Bare.TheVariants.{Integer, Decimal, Str, Token, Binary, Boolean, Date, Display}
+use Rattle.structured_fields.specs.declared.item.Item.{Item}
 use Rattle.structured_fields.specs.declared.item.InnerList.{InnerList}
 use Rattle.structured_fields.specs.declared.item.Member.{Member}
 use Rattle.structured_fields.specs.declared.item.Member.TheVariants.{Item as Single, Inner}
 use Rattle.structured_fields.specs.Named.{value_at}
-use Rattle.structured_fields.specs.Skipping.{front_of, holds_string, matches_among, single_in}
-use Rattle.structured_fields.specs.Reading.{dictionary_of, entry_value_at}
+use Rattle.structured_fields.specs.Skipping.{holds_string, matches_among, bare_found, holds_text, strings_in}
+use Rattle.structured_fields.specs.Reading.{dictionary_of}
 use Rattle.structured_fields.proofs.Fronts.{some_is}
 use Rattle.message_signature.specs.declared.fault.SigFault.{SigFault}
-use Rattle.message_signature.specs.declared.fault.SigFault.TheVariants.{NoField, NotAField, NoTag, OutOfMemory}
+use Rattle.message_signature.specs.declared.fault.SigFault.TheVariants.{NoField, NotAField, NoTag, Malformed, OutOfMemory}
 use Rattle.message_signature.specs.Components.{field_value}
 use Rattle.message_signature.specs.Faults.{◌>>=◌, need, Fails}
 use Rattle.message_signature.specs.Lone.{read_tagged, bytes_in, formed}
-use Rattle.message_signature.specs.Verified.{Signature, is_text, with_tag, signature_under, tagged_in, tagged, judged, verified}
+use Rattle.message_signature.specs.Verified.{Signature, is_text, is_any_string, is_well_formed, with_tag, signature_under, tagged_in, tagged, judged, verified}
 use Rattle.message_signature.specs.Marked.{id_and_mark, judged_with_mark}
 
 abbrev Entry : Type 0
@@ -75,32 +77,73 @@ module _ (tag : List ℕ) where
           let first : is_text tag (value_at list.params (codes "tag")) ≡ false = same_text tag (value_at list.params (codes "tag")) ∙ t in
           rw first (again h)
 
--- the member behind the label of the one that is marked is this list
-pub once_is : (tag value label : List ℕ) (d : List Entry) (list : InnerList) (m : Member) (rest : List ℕ) → front_of (entry_value_at value) ≡ Some (Inner list) → entry_value_at value ≡ Some (m, rest)
-    → matches_among (codes "tag") tag d ≡ (label, m) ∷ [] → matches_among (codes "tag") tag d ≡ (label, Inner list) ∷ []
-once_is tag value label d list m rest is read one =
-    let twice : front_of (entry_value_at value) ≡ Some m = ap front_of read in
-    let same : m ≡ Inner list = some_is m (Inner list) (sym twice ∙ is) in
-    one ∙ ap (λ (x : Member). (label, x) ∷ []) same
+  -- what is marked is an inner list
+  pub never_single : (d : List Entry) (label : List ℕ) (item : Item) → matching d ≡ (label, Single item) ∷ [] → ⊥
+  never_single [] label item h = absurd cc
+  never_single ((name, Single other) ∷ d) label item h = never_single d label item h
+  never_single ((name, Inner list) ∷ d) label item h = by (holds list) h (never_single d label item)
+    where
+      by : (b : Bool) → cond b ((name, Inner list) ∷ matching d) (matching d) ≡ (label, Single item) ∷ [] → (matching d ≡ (label, Single item) ∷ [] → ⊥) → ⊥
+      by true h again =
+          let held : Entry = (name, Inner list) in
+          let only : Entry = (label, Single item) in
+          let same : held ≡ only = cc in
+          let members : Inner list ≡ Single item = ap (λ (e : Entry). e.1) same in
+          absurd cc
+      by false h again = again h
+
+-- the member that is this list of Strings
+pub strings_are : (m : Member) (list : InnerList) → Some list ≡ strings_in m → m ≡ Inner list
+strings_are (Single item) list h = absurd cc
+strings_are (Inner other) list h = by (list_all holds_text other.items) h
+  where
+    by : (b : Bool) → Some list ≡ cond b (Some other) None → Inner other ≡ Inner list
+    by true h = ap (λ (l : InnerList). Inner l) (sym (some_is list other h))
+    by false h = absurd cc
+
+pub once_is : (tag label : List ℕ) (d : List Entry) (list : InnerList) (m : Member) → m ≡ Inner list → matches_among (codes "tag") tag d ≡ (label, m) ∷ [] → matches_among (codes "tag") tag d ≡ (label, Inner list) ∷ []
+once_is tag label d list m is one = one ∙ ap (λ (x : Member). (label, x) ∷ []) is
+
+-- a list of other items hasn't its form
+same_strings : (items : List Item) → list_all (λ i. is_any_string i.bare) items ≡ list_all holds_text items
+same_strings [] = refl
+same_strings (item ∷ items) = rw (one item.bare item.params, same_strings items) refl
+  where
+    one : (v : Bare) (params : List (List ℕ × Bare)) → is_any_string v ≡ holds_text (record { bare = v; params = params })
+    one (Str t) params = refl
+    one (Integer n) params = refl
+    one (Decimal n) params = refl
+    one (Token t) params = refl
+    one (Binary b) params = refl
+    one (Boolean b) params = refl
+    one (Date n) params = refl
+    one (Display t) params = refl
+
+pub no_strings : (list : InnerList) → None ≡ strings_in (Inner list) → is_well_formed list ≡ false
+no_strings list h = by (list_all holds_text list.items) refl h
+  where
+    by : (b : Bool) → list_all holds_text list.items ≡ b → None ≡ cond b (Some list) None → is_well_formed list ≡ false
+    by true e h = absurd cc
+    by false e h = rw (same_strings list.items ∙ e) refl
 
 -- ---- the bytes under a label
 
-pub bytes_of_single : (label : List ℕ) (d : List Entry) → bytes_in (single_in (value_at d label)) ≡ signature_under label d
+pub bytes_of_single : (label : List ℕ) (d : List Entry) → bytes_in (bare_found (value_at d label)) ≡ signature_under label d
 bytes_of_single label d = by (value_at d label) refl
   where
-    by : (o : Option Member) → value_at d label ≡ o → bytes_in (single_in o) ≡ signature_under label d
+    by : (o : Option Member) → value_at d label ≡ o → bytes_in (bare_found o) ≡ signature_under label d
     by None e = rw e refl
     by (Some (Single i)) e = rw e refl
     by (Some (Inner l)) e = rw e refl
 
 -- what is read of the field, where it is a dictionary, and where it is none
-pub bytes_read : (label : List ℕ) (r : Option (List Entry)) (bare : Option Bare) → option_map (λ d. single_in (value_at d label)) r ≡ Some bare → need NotAField (option_map (signature_under label) r) ≡ Ok (bytes_in bare)
+pub bytes_read : (label : List ℕ) (r : Option (List Entry)) (bare : Option Bare) → option_map (λ d. bare_found (value_at d label)) r ≡ Some bare → need NotAField (option_map (signature_under label) r) ≡ Ok (bytes_in bare)
 bytes_read label None bare h = absurd cc
 bytes_read label (Some d) bare h =
-    let same : single_in (value_at d label) ≡ bare = some_is (single_in (value_at d label)) bare h in
+    let same : bare_found (value_at d label) ≡ bare = some_is (bare_found (value_at d label)) bare h in
     ap (λ (o : Option (List ℕ)). Ok o) (sym (bytes_of_single label d)) ∙ ap (λ (o : Option Bare). Ok (bytes_in o)) same
 
-pub no_bytes : (label : List ℕ) (r : Option (List Entry)) → option_map (λ d. single_in (value_at d label)) r ≡ None → need NotAField (option_map (signature_under label) r) ≡ Err NotAField
+pub no_bytes : (label : List ℕ) (r : Option (List Entry)) → option_map (λ d. bare_found (value_at d label)) r ≡ None → need NotAField (option_map (signature_under label) r) ≡ Err NotAField
 no_bytes label None h = refl
 no_bytes label (Some d) h = absurd cc
 
@@ -142,6 +185,11 @@ module _ (input signature tag : List ℕ) where
     pub once_fails : (label : List ℕ) (list : InnerList) (o : Option (List ℕ)) (e : SigFault) → need NotAField (option_map (signature_under label) (dictionary_of signature)) ≡ Ok o
         → matches_among (codes "tag") tag d ≡ (label, Inner list) ∷ [] → Fails e (formed label list o) → Fails e (read_tagged input signature tag)
     once_fails label list o e h one f = subst (Fails e) (sym (tagged_once label list o h one)) f
+
+    pub malformed_once : (label : List ℕ) (m : Member) (o : Option (List ℕ)) → need NotAField (option_map (signature_under label) (dictionary_of signature)) ≡ Ok o
+        → matches_among (codes "tag") tag d ≡ (label, m) ∷ [] → None ≡ strings_in m → read_tagged input signature tag ≡ Err Malformed
+    malformed_once label (Single item) o h one none = absurd (never_single tag d label item one)
+    malformed_once label (Inner list) o h one none = tagged_once label list o h one ∙ rw (no_strings list none) refl
 
 -- ---- by the fields of a message
 

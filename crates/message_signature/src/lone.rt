@@ -2,9 +2,8 @@
 ghost use Rattle.std.specs.Prelude.{◌≡◌, ℕ, List, Some, Ok, codes, IfOk, IfErr, IfSome};
 ghost use Rattle.std.specs.Option.{option_map};
 ghost use Rattle.structured_fields.specs.declared.item.Member.{Member as MemberValue};
-ghost use Rattle.structured_fields.specs.declared.item.Member.TheVariants.{Inner as InnerValue};
 ghost use Rattle.structured_fields.specs.Reading.{dictionary_of, entry_value_at};
-ghost use Rattle.structured_fields.specs.Skipping.{front_of, Tells};
+ghost use Rattle.structured_fields.specs.Skipping.{Tells, strings_in};
 ghost use Rattle.message_signature.specs.declared.fault.SigFault.TheVariants.{NotAField};
 ghost use Rattle.message_signature.specs.Faults.{Fails, Gives, need};
 ghost use Rattle.message_signature.specs.Lone.{bytes_in, formed, lone_seen, read_tagged};
@@ -17,7 +16,7 @@ use bytes_and_lists::memory::Mem;
 use bytes_and_lists::message::Message;
 use std::alloc::Global;
 use structured_fields::{
-    Bare, FieldFault, InnerList, Matched, Member, matching_list, member_behind, single_under,
+    Bare, FieldFault, InnerList, Matched, matching_list, single_under, strings_behind,
 };
 
 /// A signature of a message: the covered components with its parameters, and its bytes.
@@ -57,14 +56,14 @@ fn bytes_under(alloc: Global, signature: &[u8], label: &[u8]) -> Result<Option<B
     }
 }
 
-// The inner list at the front of a text behind a label.
+// The inner list of Strings that is the member at the front of a text behind a label.
 fn list_behind(alloc: Global, value: &[u8]) -> Result<Option<InnerList>, Mem>
-    ensures { IfOk result (λ o. IfSome o (λ list. front_of (entry_value_at value.now) ≡ Some (InnerValue list))) }
+    ensures { (m : MemberValue) (rest : List ℕ) → entry_value_at value.now ≡ Some (m, rest) → IfOk result (λ o. o ≡ strings_in m) }
 {
-    match member_behind(alloc, value) {
-        Ok(Member::Inner(list)) => Ok(Some(list)),
+    match strings_behind(alloc, value) {
+        Ok(list) => Ok(list),
         Err(FieldFault::OutOfMemory) => Err(Mem),
-        _ => Ok(None),
+        Err(FieldFault::NotInGrammar) => Ok(None),
     }
 }
 
@@ -97,7 +96,7 @@ fn lone_in(
         Matched::Once(at) => {
             let bytes = bytes_under(alloc, signature, at.key)?;
             let Some(list) = list_behind(alloc, at.value)? else {
-                return Ok(None);
+                return Err(SigFault::Malformed);
             };
             let one = formed(list, bytes)?;
             Ok(Some(one))

@@ -1,5 +1,5 @@
 -- One gear that served all that its door gave.
-use Rattle.std.proofs.Common.{◌≡◌, ◌∙◌, ℕ, List, [], ◌∷◌, map, length, refl, sym, ap, subst, arith, Bool, true, false}
+use Rattle.std.proofs.Common.{◌≡◌, ◌∙◌, ℕ, List, [], ◌∷◌, map, length, refl, sym, ap, subst, arith, Bool, true, false, inl}
 use Rattle.std.specs.Prelude.{slice_index_or, slice_set, Result, Ok, Err, All}
 use Rattle.std.proofs.lemmas.List.Elements.{All-nil, All-push}
 use Rattle.gnap_io.specs.Gears.{GearState, IsUnused, AreFull}
@@ -9,7 +9,7 @@ use Rattle.gnap_io.specs.declared.world.Opening.TheVariants as opening
 use Rattle.gnap_io.specs.declared.world.WorldFault.{WorldFault}
 use Rattle.gnap_io.specs.declared.world.WorldFault.TheVariants as faults
 use Rattle.serving.specs.Workers.{HasServedAll}
-use Rattle.serving.specs.ServiceEnds.{has_failed, IsUsedUp, HaveServedJust}
+use Rattle.serving.specs.ServiceEnds.{has_failed, IsUsedUp, IsEndOfDoor, HaveServedJust}
 use Rattle.serving.proofs.UsedUp.{used_up}
 use Rattle.serving.proofs.ServiceLemmas.{served_just}
 use Rattle.resource_server.specs.declared.setup.RsSetup.{RsSetup}
@@ -81,7 +81,8 @@ module _ {K : Type 0} (guards : GuardsKeeping K) (setup : RsSetup) (kept kept_no
 
   pub served_failed : {D : Type 0} → ServesOneGear guards setup kept link gears true kept_now
       → (let r : Result D WorldFault = Err faults.Failed in IsRsService guards setup listen server quota before after kept kept_now r)
-  served_failed one = served (Err faults.Failed) link one.gear kept_now (state_is one.gear one.one) one.over (rw (sym one.failed_is) refl)
+  served_failed one = served (Err faults.Failed) link one.gear kept_now (state_is one.gear one.one) one.over
+      (rw (sym one.failed_is) refl, All-push IsEndOfDoor [] one.gear (All-nil IsEndOfDoor) (inl (sym one.failed_is)))
 
   pub served_well : {D : Type 0} (done : D) → ServesOneGear guards setup kept link gears false kept_now
       → (let r : Result D WorldFault = Ok done in IsRsService guards setup listen server quota before after kept kept_now r)

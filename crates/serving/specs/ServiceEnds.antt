@@ -1,5 +1,5 @@
 -- How the serving of gears ends.
-use Rattle.std.specs.Prelude.{◌≡◌, ℕ, nat_lt, Bool, true, List, All, length, Result, Ok, Err}
+use Rattle.std.specs.Prelude.{◌≡◌, ◌⊎◌, ℕ, nat_lt, Bool, true, List, All, length, Result, Ok, Err}
 use Rattle.std.specs.List.{list_any}
 use Rattle.gnap_io.specs.Gears.{GearState, IsUnused}
 use Rattle.gnap_io.specs.declared.world.WorldFault.{WorldFault}
@@ -14,10 +14,14 @@ pub record IsUsedUp (gear : GearState) : Type 0 where
   pub left : gear.left ≡ 0
   pub unfailed : gear.faults ≡ 0
 
--- How it ended: each door gave all its connections; or one failed; or memory ran out before the first connection.
+-- the door failed, or gave all its connections
+abbrev pub IsEndOfDoor : GearState → Type 0
+IsEndOfDoor gear = (has_failed gear ≡ true) ⊎ IsUsedUp gear
+
+-- How it ended: each door gave all its connections; or one failed, and each that didn't gave all of them; or memory ran out before the first connection.
 abbrev pub IsEndOfService : {Done : Type 0} → List GearState → Result Done WorldFault → Type 0
 IsEndOfService gears (Ok done) = All IsUsedUp gears
-IsEndOfService gears (Err Failed) = list_any has_failed gears ≡ true
+IsEndOfService gears (Err Failed) = (list_any has_failed gears ≡ true) × All IsEndOfDoor gears
 IsEndOfService gears (Err OutOfMemory) = All IsUnused gears
 
 -- each gear served just so many connections

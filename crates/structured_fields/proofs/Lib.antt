@@ -18,4 +18,5 @@ pub mod Ranges
 pub mod Read
 pub mod Behind
 pub mod SkippedEntries
+pub mod StringLists
 pub mod Written

@@ -13,7 +13,7 @@ use Rattle.structured_fields.specs.declared.item.Item.{Item}
 use Rattle.structured_fields.specs.declared.item.Member.{Member}
 use Rattle.structured_fields.specs.declared.item.Member.TheVariants.{Item as Single, Inner}
 use Rattle.structured_fields.specs.Named.{value_at, with_value}
-use Rattle.structured_fields.specs.Skipping.{single_of, single_in, is_match, member_matched, entry_matched, matches_among, IsUnder}
+use Rattle.structured_fields.specs.Skipping.{single_of, bare_found, is_match, member_matched, entry_matched, matches_among, IsUnder}
 use Rattle.structured_fields.specs.Reading.{◌>>=◌, Fails, Gives, begins, bare_at, params_at, item_at, inner_at, member_at, key_at, entry_value_at, entry_at, next_at, members_from, with_entry, dictionary_of}
 use Rattle.structured_fields.proofs.Entries.{turned, value_set, value_after}
 use Rattle.structured_fields.proofs.Fronts.{mapped, bind_some, some_is}
@@ -231,20 +231,20 @@ pub ruleset single_entry_steps = (entry_given, entry_true)
 
 module _ (text key : List ℕ) where
   abbrev found_in : Entries → Option Bare
-  found_in d = single_in (value_at d key)
+  found_in d = bare_found (value_at d key)
 
-  pub single_absent : (d : Entries) → dictionary_of text ≡ Some d → IsUnder None (value_at d key) → option_map (λ d. single_in (value_at d key)) (dictionary_of text) ≡ Some None
-  single_absent d reads none = ap (option_map found_in) reads ∙ ap (λ (o : Option Member). Some (single_in o)) none
+  pub single_absent : (d : Entries) → dictionary_of text ≡ Some d → IsUnder None (value_at d key) → option_map (λ d. bare_found (value_at d key)) (dictionary_of text) ≡ Some None
+  single_absent d reads none = ap (option_map found_in) reads ∙ ap (λ (o : Option Member). Some (bare_found o)) none
 
-  pub single_fails : (e : FieldFault) → Fails e (dictionary_of text) → Fails e (option_map (λ d. single_in (value_at d key)) (dictionary_of text))
+  pub single_fails : (e : FieldFault) → Fails e (dictionary_of text) → Fails e (option_map (λ d. bare_found (value_at d key)) (dictionary_of text))
   single_fails e h = fails_map found_in e (dictionary_of text) h
 
   pub single_given : (r : Result (Option Bare) FieldFault) (value : List ℕ) (d : Entries) → dictionary_of text ≡ Some d → IsUnder (Some value) (value_at d key)
       → ((m : Member) (rest : List ℕ) → entry_value_at value ≡ Some (m, rest) → IfOk r (λ o. o ≡ single_of m))
       → ((m : Member) (rest : List ℕ) → entry_value_at value ≡ Some (m, rest) → r ≡ Err NotInGrammar → ⊥)
-      → Gives (λ o. o) r (option_map (λ d. single_in (value_at d key)) (dictionary_of text))
+      → Gives (λ o. o) r (option_map (λ d. bare_found (value_at d key)) (dictionary_of text))
   single_given (Ok o) value d reads there ok err =
       let is : Option Bare → Option (Option Bare) = λ x. Some x in
-      ap (option_map found_in) reads ∙ ap (λ (x : Option Member). Some (single_in x)) there.3 ∙ ap is (sym (ok there.0 there.1 there.2))
+      ap (option_map found_in) reads ∙ ap (λ (x : Option Member). Some (bare_found x)) there.3 ∙ ap is (sym (ok there.0 there.1 there.2))
   single_given (Err OutOfMemory) value d reads there ok err = tt
   single_given (Err NotInGrammar) value d reads there ok err = absurd (err there.0 there.1 there.2 refl)

@@ -1,8 +1,10 @@
 -- What is skipped in a text, and which members of a dictionary have a parameter with a given String.
-use Rattle.std.specs.Prelude.{◌≡◌, ℕ, Bool, false, if◌then◌else◌, List, [], ◌∷◌, filter, Option, Some, None, option_map}
+use Rattle.std.specs.Prelude.{◌≡◌, ℕ, Bool, true, false, if◌then◌else◌, List, [], ◌∷◌, filter, Option, Some, None, option_map}
+use Rattle.std.specs.List.{list_all}
 use Rattle.std.specs.Str.{bytes_eq}
 use Rattle.structured_fields.specs.declared.bare.Bare.{Bare}
 use Rattle.structured_fields.specs.declared.bare.Bare.TheVariants.{Integer, Decimal, Str, Token, Binary, Boolean, Date, Display}
+use Rattle.structured_fields.specs.declared.item.Item.{Item}
 use Rattle.structured_fields.specs.declared.item.InnerList.{InnerList}
 use Rattle.structured_fields.specs.declared.item.Member.{Member}
 use Rattle.structured_fields.specs.declared.item.Member.TheVariants.{Item as Single, Inner}
@@ -59,10 +61,6 @@ member_matched name s m = (is_match name s m.0, m.1)
 abbrev pub entry_matched : List ℕ → List ℕ → (List ℕ × Member) × List ℕ → (List ℕ × Bool) × List ℕ
 entry_matched name s e = ((e.0.0, is_match name s e.0.1), e.1)
 
--- what was read, without what stands behind it
-abbrev pub front_of : {A : Type 0} → Option (A × List ℕ) → Option A
-front_of read = option_map (λ x. x.0) read
-
 -- the entries of a dictionary whose members are such
 abbrev pub matches_among : List ℕ → List ℕ → List (List ℕ × Member) → List (List ℕ × Member)
 matches_among name s d = filter (λ e. is_match name s e.1) d
@@ -73,6 +71,31 @@ Tells name s Nowhere d = matches_among name s d ≡ []
 Tells name s (Once at) d = (m : Member) × (rest : List ℕ) × (entry_value_at at.value.now ≡ Some (m, rest)) × (matches_among name s d ≡ (at.key.now, m) ∷ [])
 Tells name s Unsettled d = Unit {0}
 
+-- ---- an inner list of Strings
+
+-- the item is a String, whatever its parameters are
+abbrev pub holds_text : Item → Bool
+holds_text item = by item.bare
+  where
+    by : Bare → Bool
+    by (Str t) = true
+    by (Integer n) = false
+    by (Decimal n) = false
+    by (Token t) = false
+    by (Binary b) = false
+    by (Boolean b) = false
+    by (Date n) = false
+    by (Display t) = false
+
+-- what is made of items, where all of them are Strings
+abbrev pub only_strings : {A : Type 0} → List Item → A → Option A
+only_strings items made = if list_all holds_text items then Some made else None
+
+-- the inner list that the member is, where its items are Strings
+abbrev pub strings_in : Member → Option InnerList
+strings_in (Inner list) = only_strings list.items list
+strings_in (Single item) = None
+
 -- ---- the bare item under a key
 
 -- the bare item of a member that is an item
@@ -80,9 +103,9 @@ abbrev pub single_of : Member → Option Bare
 single_of (Single item) = Some item.bare
 single_of (Inner list) = None
 
-abbrev pub single_in : Option Member → Option Bare
-single_in None = None
-single_in (Some m) = single_of m
+abbrev pub bare_found : Option Member → Option Bare
+bare_found None = None
+bare_found (Some m) = single_of m
 
 -- the text is that of this member, or there is none
 abbrev pub IsUnder : Option (List ℕ) → Option Member → Type 0

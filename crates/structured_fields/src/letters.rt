@@ -25,7 +25,11 @@ pub(crate) fn is_token_start(c: u8) -> bool
 fn is_token_byte(c: u8) -> bool
     ensures { result ≡ is_token_byte c }
 {
-    c.is_ascii_alphanumeric() || b"!#$%&'*+-.^_`|~:/".contains(&c)
+    c.is_ascii_alphanumeric()
+        || matches!(
+            c,
+            b'!' | b'#'..=b'\'' | b'*' | b'+' | b'-' | b'.' | b'^'..=b'`' | b'|' | b'~' | b':' | b'/'
+        )
 }
 
 pub(crate) fn is_string_byte(c: u8) -> bool

@@ -21,15 +21,17 @@ mod name_notes;
 mod named;
 mod reading;
 mod skipping;
+mod string_lists;
 mod writing;
 
 pub use bare::Bare;
 pub use fault::FieldFault;
 pub use item::{Dictionary, InnerList, Item, Items, List, Member, Params};
 pub use letters::trimmed;
-pub use lookup::{Keyed, Matched, matching_list, member_behind, single_under};
+pub use lookup::{Keyed, Matched, matching_list, single_under};
 pub use named::Named;
 pub use reading::{read_dictionary, read_item, read_list};
+pub use string_lists::strings_behind;
 pub use writing::{
     append_inner, append_item, write_dictionary, write_inner, write_item, write_list,
 };

@@ -6,13 +6,11 @@ ghost use Rattle.structured_fields.specs.declared.fault.FieldFault.TheVariants.{
 ghost use Rattle.structured_fields.specs.declared.item.Member.{Member as MemberValue};
 ghost use Rattle.structured_fields.specs.Reading.{Fails, Gives, key_at, member_at, entry_value_at, entry_at, members_from, with_entry, dictionary_of};
 ghost use Rattle.structured_fields.specs.Named.{value_at, with_value};
-ghost use Rattle.structured_fields.specs.Skipping.{front_of, is_match, entry_matched, Tells, IsUnder, single_of, single_in};
+ghost use Rattle.structured_fields.specs.Skipping.{is_match, entry_matched, Tells, IsUnder, single_of, bare_found};
 
 use crate::bare::Bare;
 use crate::bare_reading::bare_of;
 use crate::fault::FieldFault;
-use crate::item::Member;
-use crate::item_reading::entry_value_in;
 use crate::letters::{begins, strip, without_spaces};
 use crate::reading::next_in;
 use crate::skipping::{entry_value_matched, key_in};
@@ -136,16 +134,6 @@ pub fn matching_list<'a>(
     matching_in(alloc, bytes, name, s)
 }
 
-/// The member at the front of a text behind a key (RFC 9651, section 4.2.2).
-///
-/// Errors: NotInGrammar exactly where no member is there. OutOfMemory may come in place of any answer.
-pub fn member_behind(alloc: Global, value: &[u8]) -> Result<Member, FieldFault>
-    ensures { Gives (λ m. m) result (front_of (entry_value_at value.now)) }
-{
-    let (member, _) = entry_value_in(alloc, value)?;
-    Ok(member)
-}
-
 // ---- the bare item under a key
 
 fn under_with_skipped<'a>(
@@ -222,7 +210,7 @@ fn single_behind(alloc: Global, value: &[u8]) -> Result<Option<Bare>, FieldFault
 ///
 /// Errors: NotInGrammar exactly where the text is no dictionary. OutOfMemory may come in place of any answer.
 pub fn single_under(alloc: Global, text: &[u8], key: &[u8]) -> Result<Option<Bare>, FieldFault>
-    ensures { Gives (λ o. o) result (option_map (λ d. single_in (value_at d key.now)) (dictionary_of text.now)) }
+    ensures { Gives (λ o. o) result (option_map (λ d. bare_found (value_at d key.now)) (dictionary_of text.now)) }
 {
     let found = under(alloc, text, key)?;
     match found {

@@ -1,3 +1,4 @@
+pub mod ApprovedTokens
 pub mod FoundInteractions
 pub mod ModifyingPlans
 pub mod OpeningPlans

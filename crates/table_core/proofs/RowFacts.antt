@@ -1,4 +1,4 @@
--- What the rows of a legal history have: numbers and serials that fit the code and are below the next ones, few asks, few wrong references.
+-- What the rows of a legal history have: numbers and serials that fit the code and are below the next ones, few asks, few wrong references, approved grants.
 use Rattle.std.proofs.Common.{ℕ, ◌≡◌, ◌<◌, ◌≤◌, ◌^◌, Bool, true, false, List, [], ◌∷◌, ◌++◌, length, get_or, reverse, ◌==◌, refl, sym, ap, subst, inl, inr, arith}
 use Rattle.std.specs.Prelude.{not, if◌then◌else◌}
 use Rattle.std.specs.Option.{option_or}
@@ -34,7 +34,10 @@ use Rattle.gnap_tables.proofs.Lists.{HasItem}
 use Rattle.table_laws.proofs.RowLimits.{rows_within}
 use Rattle.table_laws.proofs.SerialsBelowNext.{item-reverse, item_in, rows_below, few_serials}
 use Rattle.table_laws.proofs.TablesThroughCalls.{legal_notes}
+use Rattle.gnap_laws.proofs.LiveTokens.{PendingRetires}
+use Rattle.token_manager.specs.Tokens.{AreOfApproved}
 use Rattle.table_core.specs.CallEffects.{HasFewAsked}
+use Rattle.table_core.proofs.ApprovedTokens.{past_pending, of_approved}
 
 -- ---- each row is that of a grant that was opened
 
@@ -159,6 +162,7 @@ pub record KeepsRoom (kept : Kept) : Type 0 where
   pub serials : All (λ (row : TokenRow). row.serial < kept.first) kept.tables.tokens
   pub wrongs : All (λ (row : GrantRow). HasFewWrongs row) kept.tables.grants
   pub asks : All (λ (row : GrantRow). HasFewAsked row) kept.tables.grants
+  pub approved : AreOfApproved kept.tables.grants kept.tables.tokens
 
 pub room_of : (rules : Setup) (h : List Event) (now : ℕ) → Legal grant_law rules h → length h < 2 ^ 58 → latest_of h 0 ≤ now → KeepsRoom (kept_of (notes_of h) now)
 room_of rules h now legal short later =
@@ -175,4 +179,5 @@ room_of rules h now legal short later =
       serials = rows_below trail now are.sound;
       wrongs = (rows_within rules h now legal later).wrongs;
       asks = asks_few trail now (subst AllTermsFit (trail-back h) (past_fits rules (reverse h) past));
+      approved = of_approved trail now (subst PendingRetires (trail-back h) (past_pending rules (reverse h) past)) are.whole.grants;
     }

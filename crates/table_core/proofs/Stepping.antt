@@ -67,6 +67,7 @@ step_room rules grants after tokens issued next first latest later moment h stan
       doors = omega (arith, below, same_doors);
       wrongs = room.wrongs;
       asks = room.asks;
+      approved = room.approved;
     }
 
 pub step_ok : (rules : Setup) (grants after : StoredGrants) (tokens issued : StoredTokens) (moved_tables : Tables) (next first latest later moment : ℕ) (draw : List ℕ) (call : Call) (answered : Answered) (h : List Event)

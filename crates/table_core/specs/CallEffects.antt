@@ -15,7 +15,7 @@ use Rattle.gnap_tables.specs.StandsFor.{Kept}
 use Rattle.table_laws.specs.Laws.{HasFewWrongs}
 use Rattle.grant_rules.specs.declared.supply.Supply.{Supply as EntrySupply}
 use Rattle.grant_states.specs.Grants.{StoredGrants}
-use Rattle.token_manager.specs.Tokens.{StoredTokens}
+use Rattle.token_manager.specs.Tokens.{StoredTokens, AreOfApproved}
 use Rattle.table_core.specs.declared.answered.Answered.{Answered}
 
 abbrev pub tables_in : List GrantRow → List TokenRow → Tables
@@ -43,7 +43,8 @@ AnswersCall rules next supply call old new answered =
 abbrev pub HasFewAsked : GrantRow → Type 0
 HasFewAsked row = length row.asks ≤ ask_limit
 
--- What a call may rest on: numbers and serials from these on are free, a round has fewer wrong references than end its grant, and few tokens are asked for.
+-- What a call may rest on: numbers and serials from these on are free, a round has fewer wrong references than end its grant, few tokens are asked for, and a
+-- token that isn't retired is of an approved grant.
 pub record HasRoom (next first : ℕ) (grants : StoredGrants) (tokens : StoredTokens) : Type 0 where
   pub next_small : next < 2 ^ 63
   pub first_small : first < 2 ^ 63
@@ -52,3 +53,4 @@ pub record HasRoom (next first : ℕ) (grants : StoredGrants) (tokens : StoredTo
   pub doors : grants.doors_below ≤ first
   pub wrongs : All (λ (row : GrantRow). HasFewWrongs row) grants.rows
   pub asks : All (λ (row : GrantRow). HasFewAsked row) grants.rows
+  pub approved : AreOfApproved grants.rows tokens.rows

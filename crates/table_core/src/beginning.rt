@@ -12,9 +12,10 @@ ghost use Rattle.table_core.specs.Entries.{tables};
 ghost use Rattle.table_core.specs.Plans.{Plans};
 
 use crate::asking::ask;
-use crate::entering::{Entering, Plan, TableChange, refused};
+use crate::entering::{Entering, Plan, TableChange};
 use crate::issuing::grant;
 use crate::kept_terms::KeptTerms;
+use crate::refusing::refused;
 use crate::stored::stored_terms;
 use bytes_and_lists::bytes::Bytes;
 use bytes_and_lists::memory::Mem;

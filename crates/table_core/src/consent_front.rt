@@ -6,7 +6,8 @@ ghost use Rattle.table_core.specs.Entries.{tables};
 ghost use Rattle.table_core.specs.Plans.{Plans};
 ghost use Rattle.table_core.specs.Fronts.{interaction_of, show_round, show_handle};
 
-use crate::entering::{Entering, Plan, refused, told};
+use crate::entering::{Entering, Plan};
+use crate::refusing::{refused, told};
 use bytes_and_lists::bytes::Bytes;
 use bytes_and_lists::memory::{Duplicate, Mem};
 use gnap_model::calls::Reply;

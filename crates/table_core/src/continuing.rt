@@ -12,8 +12,9 @@ ghost use Rattle.table_core.specs.Entries.{tables};
 ghost use Rattle.table_core.specs.Plans.{Plans};
 ghost use Rattle.table_core.specs.Continued.{wrong_rows};
 
-use crate::entering::{Entering, Plan, Renewal, TableChange, refused};
+use crate::entering::{Entering, Plan, Renewal, TableChange};
 use crate::issuing::grant;
+use crate::refusing::refused;
 use bytes_and_lists::bytes::Bytes;
 use bytes_and_lists::memory::{Duplicate, Mem};
 use bytes_and_lists::seq::Seq;

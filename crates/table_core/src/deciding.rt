@@ -8,7 +8,8 @@ ghost use Rattle.table_core.specs.Entries.{tables};
 ghost use Rattle.table_core.specs.Plans.{Plans};
 ghost use Rattle.table_core.specs.Fronts.{interaction_of, take_decision};
 
-use crate::entering::{Entering, Plan, TableChange, refused};
+use crate::entering::{Entering, Plan, TableChange};
+use crate::refusing::refused;
 use bytes_and_lists::memory::{Duplicate, Mem};
 use gnap_model::calls::{FinishOut, Reply};
 use gnap_model::objects::{DecideRequest, ErrorCode};

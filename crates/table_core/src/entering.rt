@@ -1,12 +1,9 @@
 //! What the entry of a call has, and what a call comes to before anything changes.
-ghost use Rattle.std.specs.Prelude.{◌≡◌};
-ghost use Rattle.gnap_model.specs.Actions.Action.{Refuse};
-ghost use Rattle.table_core.specs.Plans.{Plans, nothing_with};
+ghost use Rattle.token_manager.specs.Tokens.{AreOfApproved};
 
 use crate::kept_terms::KeptTerms;
 use bytes_and_lists::seq::Seq;
 use gnap_model::calls::Reply;
-use gnap_model::objects::ErrorCode;
 use gnap_tables::rows::{GrantRow, KeptRound, TokenRow};
 use grant_rules::drawing::Supply;
 use grant_states::{Change, GrantTable};
@@ -24,6 +21,7 @@ pub struct Entering<'a> {
     pub next: u64,
     /// What the entry draws on.
     pub supply: Supply<'a>,
+    pub ghost approved: { AreOfApproved grants.now.rows tokens.now.rows },
 }
 
 /// Rows of tokens that are to be issued.
@@ -102,22 +100,4 @@ pub struct Plan {
     pub drawn: u64,
     /// What is to be done with the tables.
     pub change: TableChange,
-}
-
-/// A reply that changes nothing.
-pub fn told(reply: Reply) -> Plan
-    ensures { result ≡ nothing_with reply }
-{
-    Plan {
-        reply,
-        drawn: 0,
-        change: TableChange::Nothing,
-    }
-}
-
-/// An error reply that changes nothing (RFC 9635, section 3.6).
-pub fn refused(entering: &Entering, code: ErrorCode) -> Plan
-    ensures { Plans entering.now (Refuse code) result }
-{
-    told(Reply::Error { code })
 }

@@ -18,6 +18,7 @@ pub mod issuing;
 pub mod kept_terms;
 pub mod modifying;
 pub mod planning;
+pub mod refusing;
 pub mod revoking;
 pub mod rotating;
 pub mod row_core;

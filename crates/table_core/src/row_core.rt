@@ -47,7 +47,7 @@ fn advance(grants: &mut GrantTable, tokens: &mut TokenTable, latest: u64, moment
 {
     if latest < moment {
         grants.sweep(moment);
-        tokens.sweep(grants);
+        tokens.sweep(grants, moment);
     }
 }
 

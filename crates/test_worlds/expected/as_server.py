@@ -117,7 +117,9 @@ class Connection:
         self.text = world.connection(gear["connections"][place])
         self.room = listed("rooms", ROOM)
         self.bad_writes = listed("bad_writes", [])
-        self.unread = bool(listed("bad_reads", []))
+        bad_reads = listed("bad_reads", [])
+        self.unread = 1 in bad_reads
+        assert not any(bad_reads) or len(self.text) <= GATHERED, "a first read brings it all, and a second one would bring the end"
         self.writes = 0
         self.written = b""
 
@@ -180,3 +182,16 @@ def served(world, service, gear):
         worker.serve(connection)
         connections.append(connection.written)
     return connections, len(gear["connections"]) + 1 in gear.get("bad_accepts", [])
+
+
+def served_in_order(world, service, gears):
+    """What is written to each connection that each of several workers takes, where the first ones of all come first, then the second ones, and so on."""
+    workers = [Worker(service, gear) for gear in gears]
+    written = [[] for _ in gears]
+    for place in range(max(len(gear["connections"]) for gear in gears)):
+        for worker, gear, texts in zip(workers, gears, written):
+            if place < len(gear["connections"]):
+                connection = Connection(world, gear, place)
+                worker.serve(connection)
+                texts.append(connection.written)
+    return written

@@ -196,6 +196,9 @@ def serve(world, config, listen, workers, quota, pairs=None, service=as_server.S
     if listen != "a" or len(gears) != workers or any(len(gear["connections"]) > quota for gear in gears):
         raise Stop(4)
     served_by = service(setup) if servers is None else derived_side.DerivingService(setup, servers)
+    if world.case.get("in_order"):
+        world.served = as_server.served_in_order(world, served_by, gears)
+        return 0
     answers = [as_server.served(world, served_by, gear) for gear in gears]
     world.served = [connections for connections, _ in answers]
     return 4 if any(failed for _, failed in answers) else 0
@@ -281,8 +284,8 @@ def outcome(case):
     status = run(world)
     served = [[shown(text) for text in connections] for connections in world.served]
     told = written_cases.HINTS.get(case["name"], "")
-    came = {"name": case["name"], "status": status, "out": shown(world.out), "served": served, "told": told}
-    return {**came, "asked": [shown(request) for request in world.asked]} if world.asked else came
+    asked = [shown(request) for request in world.asked]
+    return {"name": case["name"], "status": status, "out": shown(world.out), "served": served, "told": told, "asked": asked}
 
 
 def cut_outcome(case):

@@ -10,6 +10,7 @@ from pathlib import Path
 import client_cases
 import derived_cases
 import edge_cases
+import failing_calls
 import generated_histories
 import http_cases
 import line_cases
@@ -34,15 +35,15 @@ from worlds import outcome
 def cases():
     for module in (
         http_cases, edge_cases, outside_cases, rights_cases, line_cases, mark_cases, rotation_cases, marked_histories, rotated_histories, written_cases,
-        client_cases, resource_cases, set_cases, derived_cases,
+        client_cases, resource_cases, set_cases, derived_cases, failing_calls,
     ):
         yield from module.cases()
     yield from run_cases.cases(scripted_grants.RUNS + scripted_interactions.RUNS)
     yield from map(run_cases.replay_case, scripted_grants.REPLAYS + generated_histories.runs() + stored_histories.runs())
 
 
-def lines_of(values):
-    return "".join(json.dumps(value, ensure_ascii=False, separators=(",", ":")) + "\n" for value in values)
+def lines_of(values, sort_keys=False):
+    return "".join(json.dumps(value, ensure_ascii=False, separators=(",", ":"), sort_keys=sort_keys) + "\n" for value in values)
 
 
 def is_plain_replay(case):
@@ -75,7 +76,7 @@ def main():
     counts = "".join(f"{len(printed)} bytes\n" for _, printed in replays)
     folder = Path(__file__).resolve().parent.parent
     (folder / "stdin").write_text(lines_of(table) + "histories\n" + replayed, encoding="utf-8")
-    (folder / "stdout").write_text(lines_of(map(outcome, table)) + counts, encoding="utf-8")
+    (folder / "stdout").write_text(lines_of(map(outcome, table), sort_keys=True) + counts, encoding="utf-8")
 
 
 if __name__ == "__main__":

@@ -1,7 +1,8 @@
 //! Bytes as texts with a character for each.
-use crate::case::Case;
+use crate::case::{Case, number, pair, text};
 use crate::fault::Fault;
 use bytes_and_lists::bytes::Bytes;
+use serde_json::Value;
 use sha2::{Digest, Sha256};
 use std::alloc::Global;
 
@@ -20,26 +21,24 @@ fn add_text(bytes: &mut Bytes, text: &str) -> Result<(), Fault> {
 }
 
 // Adds the bytes of the run for which a character stands.
-fn add_run(bytes: &mut Bytes, runs: &[(String, u64)], symbol: char) -> Result<(), Fault> {
+fn add_run(bytes: &mut Bytes, runs: &[Value], symbol: char) -> Result<(), Fault> {
     let run = (symbol as usize)
         .checked_sub(256)
         .and_then(|place| runs.get(place));
-    let Some((text, times)) = run else {
-        return Err(Fault::NotACase);
-    };
-    for _ in 0..*times {
-        add_text(bytes, text.as_str())?;
+    let (part, times) = pair(run.ok_or(Fault::NotACase)?)?;
+    for _ in 0..number(times)? {
+        add_text(bytes, text(part)?)?;
     }
     Ok(())
 }
 
 /// The bytes for which a text of the case stands.
-pub(crate) fn bytes_of(alloc: Global, case: &Case, text: &str) -> Result<Bytes, Fault> {
+pub(crate) fn bytes_of(alloc: Global, case: &Case<'_>, value: &Value) -> Result<Bytes, Fault> {
     let mut bytes = Bytes::new(alloc);
-    for symbol in text.chars() {
+    for symbol in text(value)?.chars() {
         match u8::try_from(symbol as u32) {
             Ok(byte) => bytes.push(byte)?,
-            Err(_) => add_run(&mut bytes, case.runs.as_slice(), symbol)?,
+            Err(_) => add_run(&mut bytes, case.runs, symbol)?,
         }
     }
     Ok(bytes)

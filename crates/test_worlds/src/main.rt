@@ -11,11 +11,11 @@ mod both_cores;
 mod case;
 mod fault;
 mod latin;
+mod ordered_gears;
 mod outcome;
 mod world;
 
 use crate::both_cores::History;
-use crate::case::Case;
 use crate::fault::Fault;
 use crate::outcome::outcome_line;
 use bytes_and_lists::memory::Mem;
@@ -32,16 +32,6 @@ enum Part {
     Histories(History),
 }
 
-// What came of a world.
-fn world_line<R: Threads + Wait + Sync>(
-    rt: &R,
-    alloc: Global,
-    line: &str,
-) -> Result<String, Fault> {
-    let case: Case = serde_json::from_str(alloc, line)?;
-    outcome_line(rt, alloc, &case)
-}
-
 impl Part {
     // Takes a line, and gives what is told of it; nothing where more lines belong to it.
     fn take<R: Threads + Wait + Sync>(
@@ -55,7 +45,7 @@ impl Part {
                 *self = Part::Histories(History::new(alloc));
                 Ok(None)
             }
-            Part::Worlds => Ok(Some(world_line(rt, alloc, line.as_str())?)),
+            Part::Worlds => Ok(Some(outcome_line(rt, alloc, line.as_str())?)),
             Part::Histories(history) if line.is_empty() => {
                 let whole = mem::replace(history, History::new(alloc));
                 Ok(Some(whole.compared(alloc)?))

@@ -1,156 +1,259 @@
 //! What came of a case, as a line of JSON.
-use crate::case::Case;
+use crate::case::{Case, GearCase, numbers, text};
 use crate::fault::Fault;
 use crate::latin::{bytes_of, text_of};
+use crate::ordered_gears::{OrderedGear, served_in_order};
 use crate::world::world;
+use gnap_io::gear::Door;
 use gnap_io::memory_devices::MemSink;
 use gnap_io::memory_gear::MemGear;
 use gnap_io::memory_link::MemLink;
+use gnap_io::memory_world::MemWorld;
 use gnap_tool::run;
-use serde::Serialize;
+use serde_json::{Value, json};
 use std::alloc::Global;
 use std::sync::Wait;
+use std::sync::atomic::AtomicU64;
 use std::thread::Threads;
 
 // How many bytes can be written to standard output, and to standard error.
 const ROOM: usize = 1_048_576;
 
-/// What came of a case.
-#[derive(Drop, Serialize)]
-pub struct Outcome {
-    name: String,
+// The status of `as` where a door failed.
+const DOOR_FAILED: u8 = 4;
+
+// A run that has ended, with the world and both outputs as it left them.
+#[derive(Drop)]
+struct EndedRun {
     status: u8,
-    /// What was written to standard output.
-    out: String,
-    /// For each gear that was taken back, what was written to each of its connections that were served.
-    served: Vec<Vec<String>>,
-    /// What was written to standard error, where the case asks for it.
-    told: String,
-    /// The requests that were sent over the link.
-    #[serde(skip_serializing_if = "Vec::is_empty")]
-    asked: Vec<String>,
+    world: MemWorld,
+    out: MemSink,
+    err: MemSink,
 }
 
-/// What came of a case for each beginning of its connections' bytes.
-#[derive(Drop, Serialize)]
-pub struct CutOutcome {
-    name: String,
-    /// How many bytes there were, from the first number to the second; the status; and what was written to the first connection.
-    cut: Vec<(usize, usize, u8, String)>,
+// What came of a case for some beginnings of its connections' bytes.
+#[derive(Drop)]
+struct Stretch {
+    /// The beginnings have so many bytes, from the first number to the last.
+    first: usize,
+    last: usize,
+    status: u8,
+    /// What was written to the first connection; it is empty where none was served.
+    text: String,
 }
 
-fn written(alloc: Global, gear: &MemGear) -> Result<Vec<String>, Fault> {
+// What was written to each connection of a gear that was served.
+fn written(alloc: Global, gear: &MemGear) -> Result<Value, Fault> {
     let mut texts = Vec::new(alloc);
     for conn in gear.served() {
-        texts.push(text_of(alloc, conn.written())?)?;
+        texts.push(Value::String(text_of(alloc, conn.written())?))?;
     }
-    Ok(texts)
+    Ok(Value::Array(texts))
 }
 
-fn asked(alloc: Global, link: Option<&MemLink>) -> Result<Vec<String>, Fault> {
+fn served(alloc: Global, gears: &[MemGear]) -> Result<Vec<Value>, Fault> {
+    let mut served = Vec::new(alloc);
+    for gear in gears {
+        served.push(written(alloc, gear)?)?;
+    }
+    Ok(served)
+}
+
+fn ordered_served(alloc: Global, gears: &[OrderedGear<'_>]) -> Result<Vec<Value>, Fault> {
+    let mut served = Vec::new(alloc);
+    for ordered in gears {
+        served.push(written(alloc, &ordered.gear)?)?;
+    }
+    Ok(served)
+}
+
+fn told(alloc: Global, case: &Case<'_>, err: &MemSink) -> Result<String, Fault> {
+    if case.tells {
+        text_of(alloc, err.written())
+    } else {
+        Ok(String::new(alloc))
+    }
+}
+
+fn asked(alloc: Global, link: Option<&MemLink>) -> Result<Vec<Value>, Fault> {
     let mut texts = Vec::new(alloc);
     if let Some(link) = link {
         for (request, _) in link.asked() {
-            texts.push(text_of(alloc, request.as_slice())?)?;
+            texts.push(Value::String(text_of(alloc, request.as_slice())?))?;
         }
     }
     Ok(texts)
+}
+
+impl EndedRun {
+    // What came of the case: the status; what was written to standard output; for each gear that was taken back, what was written to each of its connections
+    // that were served; what was written to standard error, where the case asks for it; and the requests that were sent over the link.
+    fn outcome(&self, alloc: Global, case: &Case<'_>) -> Result<Value, Fault> {
+        Ok(json!(in alloc; {
+            "name": case.name,
+            "status": self.status,
+            "out": text_of(alloc, self.out.written())?,
+            "served": served(alloc, self.world.stopped_gears())?,
+            "told": told(alloc, case, &self.err)?,
+            "asked": asked(alloc, self.world.closed_link())?
+        })?)
+    }
+}
+
+fn owned(alloc: Global, word: &Value) -> Result<String, Fault> {
+    Ok(String::from_str(alloc, text(word)?)?)
+}
+
+fn words(alloc: Global, case: &Case<'_>) -> Result<Vec<String>, Fault> {
+    let mut words = Vec::new(alloc);
+    for word in case.words {
+        words.push(owned(alloc, word)?)?;
+    }
+    Ok(words)
 }
 
 fn run_case<R: Threads + Wait + Sync>(
     rt: &R,
     alloc: Global,
-    case: &Case,
+    case: &Case<'_>,
     most: usize,
-) -> Result<Outcome, Fault> {
-    let mut world = world(alloc, case, most)?;
-    let mut out = MemSink::new(alloc, ROOM, case.bad_writes.clone()?)?;
+) -> Result<EndedRun, Fault> {
+    let mut out = MemSink::new(alloc, ROOM, numbers(alloc, case.bad_writes)?)?;
     let mut err = MemSink::new(alloc, ROOM, Vec::new(alloc))?;
-    let status = run(
-        rt,
-        alloc,
-        case.words.as_slice(),
-        &mut world,
-        &mut out,
-        &mut err,
-    );
-    let mut served = Vec::new(alloc);
-    for gear in world.stopped_gears() {
-        served.push(written(alloc, gear)?)?;
-    }
-    Ok(Outcome {
-        name: case.name.clone()?,
+    let words = words(alloc, case)?;
+    let mut world = world(alloc, case, most)?;
+    let status = run(rt, alloc, words.as_slice(), &mut world, &mut out, &mut err);
+    Ok(EndedRun {
         status,
-        out: text_of(alloc, out.written())?,
-        served,
-        told: if case.tells {
-            text_of(alloc, err.written())?
-        } else {
-            String::new(alloc)
-        },
-        asked: asked(alloc, world.closed_link())?,
+        world,
+        out,
+        err,
     })
 }
 
+// The status of `as` at these gears.
+fn status_at(gears: &[OrderedGear<'_>]) -> u8 {
+    for ordered in gears {
+        if ordered.has_failed() {
+            return DOOR_FAILED;
+        }
+    }
+    0
+}
+
+fn outcome_in_order<R: Threads + Wait + Sync>(
+    rt: &R,
+    alloc: Global,
+    case: &Case<'_>,
+) -> Result<Value, Fault> {
+    let count = AtomicU64::new(0);
+    let gears = served_in_order(rt, alloc, case, &count)?;
+    Ok(json!(in alloc; {
+        "name": case.name,
+        "status": status_at(gears.as_slice()),
+        "out": "",
+        "served": ordered_served(alloc, gears.as_slice())?,
+        "told": "",
+        "asked": []
+    })?)
+}
+
 // How many bytes the longest connection has.
-fn longest(alloc: Global, case: &Case) -> Result<usize, Fault> {
+fn longest(alloc: Global, case: &Case<'_>) -> Result<usize, Fault> {
     let mut longest = 0;
-    for gear in &case.gears {
-        for text in &gear.connections {
-            longest = bytes_of(alloc, case, text.as_str())?.len().max(longest);
+    for gear in case.gears {
+        for bytes in GearCase::read(gear)?.connections {
+            longest = bytes_of(alloc, case, bytes)?.len().max(longest);
         }
     }
     Ok(longest)
 }
 
-// What was written to the first connection.
-fn first_written(outcome: Outcome) -> Option<String> {
-    outcome.served.into_iter().flatten().next()
-}
-
-// Adds what came of so many bytes, to what came of one less where it is the same.
-fn add(
-    cut: &mut Vec<(usize, usize, u8, String)>,
-    count: usize,
-    status: u8,
-    text: String,
-) -> Result<(), Fault> {
-    if let Some(last) = cut.last_mut() {
-        if last.2 == status && last.3 == text {
-            last.1 = count;
-            return Ok(());
-        }
+impl Stretch {
+    fn value(&self, alloc: Global) -> Result<Value, Fault> {
+        Ok(json!(in alloc; [self.first, self.last, self.status, self.text.as_str()])?)
     }
-    cut.push((count, count, status, text))?;
-    Ok(())
 }
 
-fn run_beginnings<R: Threads + Wait + Sync>(
+// What was written to the first connection; it is empty where none was served.
+fn first_written(alloc: Global, world: &MemWorld) -> Result<String, Fault> {
+    let first = world
+        .stopped_gears()
+        .first()
+        .and_then(|gear| gear.served().first());
+    match first {
+        None => Ok(String::new(alloc)),
+        Some(conn) => text_of(alloc, conn.written()),
+    }
+}
+
+// What came of a case whose connections have at most so many of their bytes.
+fn cut_after<R: Threads + Wait + Sync>(
     rt: &R,
     alloc: Global,
-    case: &Case,
-) -> Result<CutOutcome, Fault> {
-    let mut cut = Vec::new(alloc);
-    for count in 0..=longest(alloc, case)? {
-        let outcome = run_case(rt, alloc, case, count)?;
-        let status = outcome.status;
-        let text = first_written(outcome).unwrap_or(String::new(alloc));
-        add(&mut cut, count, status, text)?;
-    }
-    Ok(CutOutcome {
-        name: case.name.clone()?,
-        cut,
+    case: &Case<'_>,
+    most: usize,
+) -> Result<Stretch, Fault> {
+    let ended = run_case(rt, alloc, case, most)?;
+    Ok(Stretch {
+        first: most,
+        last: most,
+        status: ended.status,
+        text: first_written(alloc, &ended.world)?,
     })
 }
 
-/// Runs the case, and tells what came of it.
+// Adds what came of one byte more, to the last stretch where it is the same.
+fn add(stretches: &mut Vec<Stretch>, next: Stretch) -> Result<(), Fault> {
+    if let Some(last) = stretches.last_mut() {
+        if last.status == next.status && last.text == next.text {
+            last.last = next.last;
+            return Ok(());
+        }
+    }
+    stretches.push(next)?;
+    Ok(())
+}
+
+fn stretches<R: Threads + Wait + Sync>(
+    rt: &R,
+    alloc: Global,
+    case: &Case<'_>,
+) -> Result<Vec<Stretch>, Fault> {
+    let mut stretches = Vec::new(alloc);
+    for most in 0..=longest(alloc, case)? {
+        add(&mut stretches, cut_after(rt, alloc, case, most)?)?;
+    }
+    Ok(stretches)
+}
+
+fn values(alloc: Global, stretches: &[Stretch]) -> Result<Vec<Value>, Fault> {
+    let mut values = Vec::new(alloc);
+    for stretch in stretches {
+        values.push(stretch.value(alloc)?)?;
+    }
+    Ok(values)
+}
+
+fn shown<R: Threads + Wait + Sync>(rt: &R, alloc: Global, case: &Case<'_>) -> Result<Value, Fault> {
+    if case.cut {
+        let stretches = stretches(rt, alloc, case)?;
+        let cut = values(alloc, stretches.as_slice())?;
+        return Ok(json!(in alloc; {"cut": cut, "name": case.name})?);
+    }
+    if case.in_order {
+        return outcome_in_order(rt, alloc, case);
+    }
+    run_case(rt, alloc, case, usize::MAX)?.outcome(alloc, case)
+}
+
+/// Runs the case of the line, and tells what came of it.
 pub(crate) fn outcome_line<R: Threads + Wait + Sync>(
     rt: &R,
     alloc: Global,
-    case: &Case,
+    line: &str,
 ) -> Result<String, Fault> {
-    if case.cut {
-        return Ok(serde_json::to_string(alloc, &run_beginnings(rt, alloc, case)?)?);
-    }
-    Ok(serde_json::to_string(alloc, &run_case(rt, alloc, case, usize::MAX)?)?)
+    let line = Value::from_str(alloc, line)?;
+    let case = Case::read(&line)?;
+    Ok(shown(rt, alloc, &case)?.to_string(alloc)?)
 }

@@ -1,34 +1,34 @@
 -- Rows of tokens, as they are stored.
 use Rattle.std.proofs.Common.{ℕ, ◌≡◌, ◌⊎◌, ◌<◌, ◌≤◌, ◌+◌, ◌-◌, ◌^◌, Bool, true, false, cond, List, [], ◌∷◌, ◌++◌, length, get_or, map, refl, sym, ◌∙◌, ap, subst, inl, inr, arith, Option, Some, None}
-use Rattle.std.specs.Prelude.{slice_get, is_some, nat_lt, not, ◌&&◌, ◌||◌, filter, ◌==◌, if◌then◌else◌, option_map}
+use Rattle.std.specs.Prelude.{slice_get, is_some, nat_le, nat_lt, not, ◌&&◌, ◌||◌, filter, ◌==◌, if◌then◌else◌, option_map}
 use Rattle.std.specs.Option.{option_and_then}
 use Rattle.std.specs.List.{All, AllPairs, remove, count_by, list_any}
 use Rattle.std.proofs.Math.ListN.{set}
 use Rattle.std.proofs.lemmas.List.{length-map, get_or-map, map-set, map-append}
 use Rattle.std.proofs.lemmas.List.Elements.{All-filter, All-push, All-set}
-use Rattle.std.proofs.lemmas.List.Folds.{list_any-append}
+use Rattle.std.proofs.lemmas.List.Folds.{list_any-append, list_any_none}
+use Rattle.std.proofs.lemmas.List.Filters.{sum_by-filter_both}
 use Rattle.std.proofs.lemmas.List.Kept.{AllPairs-filter}
 use Rattle.std.proofs.lemmas.List.Quantifiers.{all_pairs_push}
-use Rattle.std.proofs.lemmas.List.Sums.{length-filter, count_by-le-length}
+use Rattle.std.proofs.lemmas.List.Sums.{length-filter, AllPass-from_list_all, get_or-le-sum_by, sum_by_push, sum_by-remove, sum_by-set}
 use Rattle.std.proofs.lemmas.Option.{slice_get-map}
 use Rattle.std.proofs.lemmas.Bool.{cases_lt, eqb-true}
 use Rattle.std.proofs.lemmas.Bool.Decides.{nat_tests}
 use Rattle.std.proofs.lemmas.Slice.Eq.{bytes_eq-Decides}
 use Rattle.gnap_model.specs.Common.{Text, same_text, some_if}
-use Rattle.gnap_model.specs.Values.{value_text}
 use Rattle.gnap_tables.specs.declared.rows.GrantRow.{GrantRow}
 use Rattle.gnap_tables.specs.declared.rows.TokenRow.{TokenRow}
 use Rattle.gnap_tables.specs.Tables.{change_token, drop_token, with_retirement}
-use Rattle.gnap_tables.specs.RowSearches.{newest, row_by_manage, is_live_row, live_rows}
+use Rattle.gnap_tables.specs.RowSearches.{newest, row_by_manage, is_approved_grant, is_live_row, live_rows}
 use Rattle.gnap_tables.specs.ActionsByRows.{rows_of_others}
 use Rattle.gnap_tables.proofs.Lists.{HasItem, filter_is, filter_map_same, all_kept}
 use Rattle.ordered_search.specs.Order.{IsAscending, IsPlaceOf}
 use Rattle.grant_states.specs.declared.numbers_by_key.Listed.{Listed}
 use Rattle.grant_states.specs.Listed.{under, where_some}
 use Rattle.token_manager.specs.declared.token_table.TokenPlace.{TokenPlace}
-use Rattle.token_manager.specs.Tokens.{IsTokenRow, AreTokenRows, row_by_value, token_in, IsTokenPlace, AreTokenPlaces, AreListed, is_among, Marks, is_live_place, is_live_elsewhere}
+use Rattle.token_manager.specs.Tokens.{IsTokenRow, AreTokenRows, row_by_value, token_in, IsTokenPlace, AreTokenPlaces, AreListed, is_this, is_among, Marks, lasts_at, is_lasting, is_lasting_elsewhere, one_if, is_of_approved, AreOfApproved}
 use Rattle.grant_states.proofs.Decoding.{Tells, no_number}
-use Rattle.grant_states.proofs.Items.{any_newest, item_all, item_in, item_of_map, get_at, get_past, newest_none}
+use Rattle.grant_states.proofs.Items.{any_newest, item_all, item_append, item_of_filter, item_in, item_of_map, get_at, get_past, newest_none}
 use Rattle.grant_states.proofs.Placed.{ascending_keys, at_place, one_key, placed, placed_key, eqb-self}
 use Rattle.grant_states.proofs.Changed.{changed_at, changed_past, removed_at, all_left, map-filter}
 
@@ -246,10 +246,6 @@ none_removed slice places rows at serial same view are place other = all_left (�
 abbrev pub AreInOrder : List TokenPlace → Type 0
 AreInOrder places = AllPairs (λ (a b : TokenPlace). a.serial < b.serial) places
 
--- the place is the grant's and has this serial
-abbrev pub is_this : ℕ → ℕ → TokenPlace → Bool
-is_this grant serial place = (grant == place.grant) && (serial == place.serial)
-
 filter-filter : {A : Type 0} (p q : A → Bool) (xs : List A) → filter p (filter q xs) ≡ filter (λ x. p x && q x) xs
 filter-filter p q [] = refl
 filter-filter {A} p q (x ∷ xs) = at (q x) (p x) refl (filter-filter p q xs)
@@ -261,8 +257,8 @@ filter-filter {A} p q (x ∷ xs) = at (q x) (p x) refl (filter-filter p q xs)
     at false true e rest = rest
     at false false e rest = rest
 
-filter_agrees : (t u : TokenPlace → Bool) (places : List TokenPlace) → ((p : TokenPlace) → HasItem places p → t p ≡ u p) → filter t places ≡ filter u places
-filter_agrees t u places same = filter_is t places ∙ filter_map_same _ _ places (λ p h. ap (λ b. some_if b p) (same p h)) ∙ sym (filter_is u places)
+filter_agrees : {A : Type 0} (t u : A → Bool) (xs : List A) → ((x : A) → HasItem xs x → t x ≡ u x) → filter t xs ≡ filter u xs
+filter_agrees t u xs same = filter_is t xs ∙ filter_map_same _ _ xs (λ x h. ap (λ b. some_if b x) (same x h)) ∙ sym (filter_is u xs)
 
 -- where none passes, none is taken out
 pub all_stay : (t : TokenPlace → Bool) (places : List TokenPlace) → ((p : TokenPlace) → HasItem places p → t p ≡ true → ⊥) → places ≡ filter (λ (p : TokenPlace). not (t p)) places
@@ -365,6 +361,32 @@ listed_removed owned places at serial old are listed inside is mine =
     subst (AreListed owned) (sym (removed_at (λ (p : TokenPlace). p.serial) places at serial old (place_pairs places are) inside (ap (λ (p : TokenPlace). p.serial) (sym is) ∙ mine)))
     (listed_left (λ (p : TokenPlace). not (serial == p.serial)) owned places listed)
 
+-- what is taken out with its serial leaves the others listed
+pub listed_without : (before after : List Listed) (places : List TokenPlace) (at : ℕ) (gone : TokenPlace) → AreTokenPlaces places → at < length places → gone ≡ get_or places at gone → AreListed before (remove places at)
+    → ((one : Listed) → HasItem before one → (one ≡ under gone.grant gone.serial → ⊥) → HasItem after one) → AreListed after (remove places at)
+listed_without before after places at gone are inside is listed kept k d lt =
+    let p : TokenPlace = get_or (remove places at) k d in
+    kept (under p.grant p.serial) (listed k d lt) (λ same. apart (subst (λ (ps : List TokenPlace). HasItem ps p) left (item_in (remove places at) k d lt)) (ap (λ (one : Listed). one.number) same))
+  where
+    left : remove places at ≡ filter (λ (p : TokenPlace). not (gone.serial == p.serial)) places
+    left = removed_at (λ (p : TokenPlace). p.serial) places at gone.serial gone (place_pairs places are) inside (ap (λ (p : TokenPlace). p.serial) (sym is))
+
+    apart : HasItem (filter (λ (p : TokenPlace). not (gone.serial == p.serial)) places) (get_or (remove places at) k d) → (get_or (remove places at) k d).serial ≡ gone.serial → ⊥
+    apart h same =
+        let other = (item_of_filter (λ (p : TokenPlace). not (gone.serial == p.serial)) places (get_or (remove places at) k d) h).1 in
+        let own : (gone.serial == (get_or (remove places at) k d).serial) ≡ true = subst (λ n. (gone.serial == n) ≡ true) (sym same) (eqb-self gone.serial) in
+        let k : false ≡ true = sym (ap not own) ∙ other in cc k
+
+-- what is left of other grants stays listed where what is under the grant is taken out
+pub listed_elsewhere : (before after : List Listed) (places : List TokenPlace) (grant : ℕ) → AreListed before (filter (λ (p : TokenPlace). not (grant == p.grant)) places)
+    → ((one : Listed) → HasItem before one → (one.key ≡ grant → ⊥) → HasItem after one) → AreListed after (filter (λ (p : TokenPlace). not (grant == p.grant)) places)
+listed_elsewhere before after places grant listed kept k d lt =
+    let p : TokenPlace = get_or (filter (λ (p : TokenPlace). not (grant == p.grant)) places) k d in
+    kept (under p.grant p.serial) (listed k d lt) (λ same.
+    let other = (item_of_filter (λ (q : TokenPlace). not (grant == q.grant)) places p (item_in (filter (λ (q : TokenPlace). not (grant == q.grant)) places) k d lt)).1 in
+    let own : (grant == p.grant) ≡ true = subst (λ n. (grant == n) ≡ true) (sym same) (eqb-self grant) in
+    let k : false ≡ true = sym (ap not own) ∙ other in cc k)
+
 pub listed_marked : (owned : List Listed) (places : List TokenPlace) (at serial : ℕ) (old new : TokenPlace) → AreListed owned places → at < length places → old ≡ get_or places at old → Marks serial old new
     → AreListed owned (set places at new)
 listed_marked owned places at serial old new listed inside is marks =
@@ -413,27 +435,150 @@ place_pushed places new are is row above =
 count-map : {A B : Type 0} (f : A → B) (t : A → Bool) (u : B → Bool) (xs : List A) → ((x : A) → HasItem xs x → t x ≡ u (f x)) → count_by t xs ≡ length (filter u (map f xs))
 count-map {A} {B} f t u xs same = sym (length-filter t xs) ∙ sym (length-map (filter t xs) f) ∙ ap (length {A = B}) (map-filter f t u xs same)
 
-pub live_counted : (places : List TokenPlace) (rows : List TokenRow) (grants : List GrantRow) (now : ℕ) → map token_in places ≡ rows → count_by (is_live_place now grants) places ≡ length (live_rows now grants rows)
-live_counted places rows grants now view =
-    count-map token_in (is_live_place now grants) (λ (row : TokenRow). is_live_row now grants row) places (λ x h. refl) ∙ ap (λ (rs : List TokenRow). length (live_rows now grants rs)) view
+pub lasting_counted : (places : List TokenPlace) (rows : List TokenRow) (moment : ℕ) → map token_in places ≡ rows → count_by (is_lasting moment) places ≡ length (filter (lasts_at moment) rows)
+lasting_counted places rows moment view =
+    count-map token_in (is_lasting moment) (lasts_at moment) places (λ x h. refl) ∙ ap (λ (rs : List TokenRow). length (filter (lasts_at moment) rs)) view
 
-pub others_counted : (places : List TokenPlace) (rows : List TokenRow) (grants : List GrantRow) (number now : ℕ) → map token_in places ≡ rows → AreTokenPlaces places
-    → count_by (is_live_elsewhere now grants number) places ≡ length (rows_of_others number (live_rows now grants rows))
-others_counted places rows grants number now view are =
-    count-map token_in (is_live_elsewhere now grants number) (λ (row : TokenRow). not (row.grant == number) && is_live_row now grants row) places
-    (λ p h. ap (λ n. not (n == number) && is_live_row now grants p.row.value) (item_all IsTokenPlace places p are.each h).grant)
-    ∙ ap (length {A = TokenRow}) (sym (filter-filter (λ (row : TokenRow). not (row.grant == number)) (λ (row : TokenRow). is_live_row now grants row) (map token_in places)))
-    ∙ ap (λ (rs : List TokenRow). length (rows_of_others number (live_rows now grants rs))) view
+lasts_live : (now : ℕ) (grants : List GrantRow) (row : TokenRow) → is_of_approved grants row ≡ true → lasts_at now row ≡ is_live_row now grants row
+lasts_live now grants row approved = by row.retired (nat_lt now row.until) (is_approved_grant row.grant grants) approved
+  where
+    by : (r u a : Bool) → (r || a) ≡ true → (not r && u) ≡ (not r && u && a)
+    by true u a h = refl
+    by false true a h = sym h
+    by false false a h = refl
 
--- no more are counted than there are
-pub live_few : (rows : List TokenRow) (grants : List GrantRow) (now : ℕ) → length (live_rows now grants rows) ≤ length rows
-live_few rows grants now = let c = length-filter (λ (row : TokenRow). is_live_row now grants row) rows in let l = count_by-le-length (λ (row : TokenRow). is_live_row now grants row) rows in omega (arith, c, l)
+-- Where each row that isn't retired is of an approved grant, the rows that last are the live ones.
+pub lasting_live : (now : ℕ) (grants : List GrantRow) (rows : List TokenRow) → AreOfApproved grants rows → filter (lasts_at now) rows ≡ live_rows now grants rows
+lasting_live now grants rows approved = filter_agrees (lasts_at now) (λ (row : TokenRow). is_live_row now grants row) rows
+    (λ r h. lasts_live now grants r (item_all (λ (row : TokenRow). is_of_approved grants row ≡ true) rows r (AllPass-from_list_all (is_of_approved grants) rows approved) h))
 
-pub others_few : (rows : List TokenRow) (grants : List GrantRow) (number now : ℕ) → length (rows_of_others number (live_rows now grants rows)) ≤ length rows
-others_few rows grants number now =
-    let live = live_few rows grants now in
-    let c = length-filter (λ (row : TokenRow). not (row.grant == number)) (live_rows now grants rows) in
-    let l = count_by-le-length (λ (row : TokenRow). not (row.grant == number)) (live_rows now grants rows) in omega (arith, live, c, l)
+pub elsewhere_counted : (places : List TokenPlace) (rows : List TokenRow) (number moment : ℕ) → map token_in places ≡ rows → AreTokenPlaces places
+    → count_by (is_lasting_elsewhere moment number) places ≡ length (rows_of_others number (filter (lasts_at moment) rows))
+elsewhere_counted places rows number moment view are =
+    count-map token_in (is_lasting_elsewhere moment number) (λ (row : TokenRow). not (row.grant == number) && lasts_at moment row) places
+    (λ p h. ap (λ n. not (n == number) && is_lasting moment p) (item_all IsTokenPlace places p are.each h).grant)
+    ∙ ap (length {A = TokenRow}) (sym (filter-filter (λ (row : TokenRow). not (row.grant == number)) (lasts_at moment) (map token_in places)))
+    ∙ ap (λ (rs : List TokenRow). length (rows_of_others number (filter (lasts_at moment) rs))) view
+
+-- ---- how many last after a change
+
+pub lasting_pushed : (places : List TokenPlace) (new : TokenPlace) (moment lasting one : ℕ) → lasting ≡ count_by (is_lasting moment) places → one ≡ one_if (is_lasting moment new)
+    → lasting + one ≡ count_by (is_lasting moment) (places ++ new ∷ [])
+lasting_pushed places new moment lasting one all is = let more = sum_by_push (λ (p : TokenPlace). one_if (is_lasting moment p)) places new in omega (arith, all, is, more)
+
+pub lasting_removed : (places : List TokenPlace) (at moment lasting one : ℕ) (old : TokenPlace) → at < length places → old ≡ get_or places at old → lasting ≡ count_by (is_lasting moment) places
+    → one ≡ one_if (is_lasting moment old) → (one ≤ lasting) × (lasting - one ≡ count_by (is_lasting moment) (remove places at))
+lasting_removed places at moment lasting one old inside there all is =
+    let f : TokenPlace → ℕ = λ (p : TokenPlace). one_if (is_lasting moment p) in
+    let parts = sum_by-remove f places at old inside in
+    let same : f old ≡ f (get_or places at old) = ap f there in (omega (arith, parts, same, all, is), omega (arith, parts, same, all, is))
+
+pub lasting_set : (places : List TokenPlace) (at moment lasting before after : ℕ) (old new : TokenPlace) → at < length places → old ≡ get_or places at old → lasting ≡ count_by (is_lasting moment) places
+    → before ≡ one_if (is_lasting moment old) → after ≡ one_if (is_lasting moment new) → (before ≤ lasting) × (lasting - before + after ≡ count_by (is_lasting moment) (set places at new))
+lasting_set places at moment lasting before after old new inside there all was is =
+    let f : TokenPlace → ℕ = λ (p : TokenPlace). one_if (is_lasting moment p) in
+    let parts = sum_by-set f places at new old inside in
+    let low = get_or-le-sum_by f places at old inside in
+    let same : f old ≡ f (get_or places at old) = ap f there in (omega (arith, low, same, all, was), omega (arith, parts, low, same, all, was, is))
+
+-- ---- the rows of a grant that last
+
+-- those that pass a test, and the others
+both_parts : (test : TokenPlace → Bool) (moment : ℕ) (places : List TokenPlace)
+    → count_by (is_lasting moment) (filter test places) + count_by (is_lasting moment) (filter (λ (p : TokenPlace). not (test p)) places) ≡ count_by (is_lasting moment) places
+both_parts test moment places = sum_by-filter_both test (λ (p : TokenPlace). not (test p)) (λ p. refl) (λ (p : TokenPlace). one_if (is_lasting moment p)) places
+
+pub own_counted : (places : List TokenPlace) (at grant serial moment one : ℕ) (old : TokenPlace) → AreInOrder places → at < length places → old ≡ get_or places at old → old.serial ≡ serial → old.grant ≡ grant
+    → one ≡ one_if (is_lasting moment old) → one ≡ count_by (is_lasting moment) (filter (is_this grant serial) places)
+own_counted places at grant serial moment one old order inside is mine its counted =
+    let less = lasting_removed places at moment (count_by (is_lasting moment) places) one old inside is refl counted in
+    let few = less.0 in
+    let rest = less.1 in
+    let left = ap (count_by (is_lasting moment)) (taken_out places at grant serial old order inside is mine its) in
+    let parts = both_parts (is_this grant serial) moment places in omega (arith, few, rest, left, parts)
+
+pub none_own : (places : List TokenPlace) (grant serial moment : ℕ) → places ≡ filter (λ (p : TokenPlace). not (is_this grant serial p)) places
+    → 0 ≡ count_by (is_lasting moment) (filter (is_this grant serial) places)
+none_own places grant serial moment all =
+    let same = ap (count_by (is_lasting moment)) all in
+    let parts = both_parts (is_this grant serial) moment places in omega (arith, same, parts)
+
+none_has : (owned : List Listed) (n : ℕ) → ((one : Listed) → HasItem owned one → one.number < n) → list_any (λ (one : Listed). one.number == n) owned ≡ false
+none_has owned n below = list_any_none (λ (one : Listed). one.number == n) owned (λ k d inside. apart (get_or owned k d).number (below (get_or owned k d) (item_in owned k d inside)))
+  where
+    apart : (m : ℕ) → m < n → (m == n) ≡ false
+    apart m lt = by (m == n) refl
+      where
+        by : (b : Bool) → (m == n) ≡ b → b ≡ false
+        by true e = let same = eqb-true m n e in absurd (omega (arith, same, lt))
+        by false e = refl
+
+-- what is left is less by those of one serial more, which is greater than the others
+pub one_less : (places : List TokenPlace) (grant moment left own : ℕ) (owned : List Listed) (one : Listed) → ((former : Listed) → HasItem owned former → former.number < one.number)
+    → left ≡ count_by (is_lasting moment) (filter (λ (p : TokenPlace). not (is_among grant owned p)) places) → own ≡ count_by (is_lasting moment) (filter (is_this grant one.number) places)
+    → (own ≤ left) × (left - own ≡ count_by (is_lasting moment) (filter (λ (p : TokenPlace). not (is_among grant (owned ++ one ∷ []) p)) places))
+one_less places grant moment left own owned one above all counted =
+    let parts = both_parts (is_this grant one.number) moment (filter (λ (p : TokenPlace). not (is_among grant owned p)) places) in
+    let mine = ap (count_by (is_lasting moment)) (filter-filter (is_this grant one.number) (λ (p : TokenPlace). not (is_among grant owned p)) places ∙ filter_agrees _ (is_this grant one.number) places (λ p h. apart p (grant == p.grant) (one.number == p.serial) refl)) in
+    let rest = ap (count_by (is_lasting moment)) (one_more places grant owned one) in (omega (arith, parts, mine, all, counted), omega (arith, parts, mine, rest, all, counted))
+  where
+    apart : (p : TokenPlace) (g s : Bool) → (one.number == p.serial) ≡ s → ((g && s) && not (g && list_any (λ (o : Listed). o.number == p.serial) owned)) ≡ (g && s)
+    apart p true true e = ap not (subst (λ n. list_any (λ (o : Listed). o.number == n) owned ≡ false) (eqb-true one.number p.serial e) (none_has owned one.number above))
+    apart p true false e = refl
+    apart p false s e = refl
+
+-- the greatest number so far is below one that isn't within it
+pub above_former : (former : Option ℕ) (n m : ℕ) → where_some (nat_le m) former ≡ true → false ≡ where_some (nat_le n) former → m < n
+above_former None n m low e = cc low
+above_former (Some f) n m low e = grind (arith, nat_tests, low, e)
+
+-- what has the last number at most
+pub within_last : (owned : List Listed) (last : Listed) → ((one : Listed) → HasItem owned one → one.number < last.number) → (one : Listed) → HasItem (owned ++ last ∷ []) one → nat_le one.number last.number ≡ true
+within_last owned last below one h = low (elim (item_append owned (last ∷ []) one h) [
+  | inl a ↦ let less = below one a in omega (arith, less)
+  | inr b ↦ elim b [
+    | inl e ↦ let same = ap (λ (o : Listed). o.number) e in omega (arith, same)
+    | inr n ↦ absurd n
+  ]
+])
+  where
+    low : one.number ≤ last.number → nat_le one.number last.number ≡ true
+    low le = by (nat_le one.number last.number) refl
+      where
+        by : (b : Bool) → nat_le one.number last.number ≡ b → b ≡ true
+        by true e = refl
+        by false e = absurd (grind (arith, nat_tests, e, le))
+
+-- what stays of all, without those of a grant, are the lasting rows of others
+pub others_left : (places : List TokenPlace) (rows : List TokenRow) (number moment left : ℕ) → map token_in places ≡ rows → AreTokenPlaces places
+    → left ≡ count_by (is_lasting moment) (filter (λ (p : TokenPlace). not (number == p.grant)) places) → left ≡ length (rows_of_others number (filter (lasts_at moment) rows))
+others_left places rows number moment left view are counted =
+    counted
+    ∙ lasting_counted (filter (λ (p : TokenPlace). not (number == p.grant)) places) (filter (λ (row : TokenRow). not (number == row.grant)) (map token_in places)) moment
+    (kept_places (λ (p : TokenPlace). not (number == p.grant)) (λ (row : TokenRow). not (number == row.grant)) places are (λ p is. ap (λ n. not (number == n)) is.grant)).0
+    ∙ ap (length {A = TokenRow}) (filter-filter (lasts_at moment) (λ (row : TokenRow). not (number == row.grant)) (map token_in places)
+    ∙ filter_agrees _ (λ (row : TokenRow). not (row.grant == number) && lasts_at moment row) (map token_in places) (λ r h. turned (lasts_at moment r) (number == r.grant) (r.grant == number) (swapped number r.grant))
+    ∙ sym (filter-filter (λ (row : TokenRow). not (row.grant == number)) (lasts_at moment) (map token_in places)))
+    ∙ ap (λ (rs : List TokenRow). length (rows_of_others number (filter (lasts_at moment) rs))) view
+  where
+    swapped : (a b : ℕ) → (a == b) ≡ (b == a)
+    swapped a b = by (a == b) (b == a) refl refl
+      where
+        by : (x y : Bool) → (a == b) ≡ x → (b == a) ≡ y → x ≡ y
+        by true true e f = refl
+        by true false e f = let k : true ≡ false = sym (subst (λ n. (n == a) ≡ true) (eqb-true a b e) (eqb-self a)) ∙ f in cc k
+        by false true e f = let k : true ≡ false = sym (subst (λ n. (n == b) ≡ true) (eqb-true b a f) (eqb-self b)) ∙ e in cc k
+        by false false e f = refl
+
+    turned : (l x y : Bool) → x ≡ y → (l && not x) ≡ (not y && l)
+    turned true true true e = refl
+    turned true true false e = cc e
+    turned true false true e = cc e
+    turned true false false e = refl
+    turned false true true e = refl
+    turned false true false e = refl
+    turned false false true e = cc e
+    turned false false false e = refl
 
 -- so many more pass the limit where they pass what is left of it
 pub limit_moved : (count live more : ℕ) → count ≡ live → more ≤ 16 → nat_lt (65536 - more) count ≡ nat_lt 65536 (live + more)
@@ -444,14 +589,6 @@ limit_moved count live more same few = by (nat_lt (65536 - more) count) (nat_lt 
     by true false e f = absurd (grind (arith, nat_tests, e, f, same, few))
     by false true e f = absurd (grind (arith, nat_tests, e, f, same, few))
     by false false e f = refl
-
--- few rows pass no limit
-pub limit_far : (rows live more : ℕ) → live ≤ rows → rows ≤ 65536 - more → more ≤ 16 → false ≡ nat_lt 65536 (live + more)
-limit_far rows live more le few small = by (nat_lt 65536 (live + more)) refl
-  where
-    by : (b : Bool) → nat_lt 65536 (live + more) ≡ b → false ≡ b
-    by true e = absurd (grind (arith, nat_tests, e, le, few, small))
-    by false e = refl
 
 -- ---- an item with a key
 

@@ -1,13 +1,13 @@
 -- Rows of tokens in the order of their serials, with values that begin with them.
-use Rattle.std.specs.Prelude.{ℕ, ◌≡◌, ◌+◌, ◌-◌, ◌^◌, ◌<◌, ◌==◌, Bool, not, ◌&&◌, List, map, if◌then◌else◌}
-use Rattle.std.specs.List.{All, AllPairs, list_any}
+use Rattle.std.specs.Prelude.{ℕ, ◌≡◌, ◌+◌, ◌-◌, ◌^◌, ◌<◌, ◌==◌, nat_lt, cond, Bool, true, not, ◌&&◌, ◌||◌, List, map, if◌then◌else◌}
+use Rattle.std.specs.List.{All, AllPairs, list_all, list_any}
 use Rattle.std.specs.declared.option.Option.{Option}
 use Rattle.gnap_model.specs.Common.{Text, same_text, some_if}
 use Rattle.gnap_model.specs.Values.{value_text}
 use Rattle.gnap_tables.specs.declared.rows.GrantRow.{GrantRow}
 use Rattle.gnap_tables.specs.declared.rows.TokenRow.{TokenRow}
 use Rattle.gnap_tables.specs.Tables.{with_retirement}
-use Rattle.gnap_tables.specs.RowSearches.{newest, is_live_row}
+use Rattle.gnap_tables.specs.RowSearches.{newest, is_approved_grant}
 use Rattle.gnap_tables.proofs.Lists.{HasItem}
 use Rattle.grant_states.specs.declared.numbers_by_key.Listed.{Listed}
 use Rattle.grant_states.specs.Listed.{under}
@@ -52,6 +52,10 @@ pub record AreTokenPlaces (places : List TokenPlace) : Type 0 where
 abbrev pub AreListed : List Listed → List TokenPlace → Type 0
 AreListed owned places = All (λ (place : TokenPlace). HasItem owned (under place.grant place.serial)) places
 
+-- the place is the grant's and has this serial
+abbrev pub is_this : ℕ → ℕ → TokenPlace → Bool
+is_this grant serial place = (grant == place.grant) && (serial == place.serial)
+
 -- the place is the grant's, and its serial is among these
 abbrev pub is_among : ℕ → List Listed → TokenPlace → Bool
 is_among grant owned place = (grant == place.grant) && list_any (λ (one : Listed). one.number == place.serial) owned
@@ -64,10 +68,28 @@ pub record Marks (serial : ℕ) (old new : TokenPlace) : Type 0 where
   pub serial_kept : new.serial ≡ old.serial
   pub grant_kept : new.grant ≡ old.grant
 
--- the row at a place is live
-abbrev pub is_live_place : ℕ → List GrantRow → TokenPlace → Bool
-is_live_place now grants place = is_live_row now grants place.row.value
+-- ---- rows that last
 
--- the same of a row of another grant than this one
-abbrev pub is_live_elsewhere : ℕ → List GrantRow → ℕ → TokenPlace → Bool
-is_live_elsewhere now grants number place = not (place.grant == number) && is_live_row now grants place.row.value
+-- the row isn't retired, and its end is after this moment
+abbrev pub lasts_at : ℕ → TokenRow → Bool
+lasts_at moment row = not row.retired && nat_lt moment row.until
+
+-- the same of the row at a place
+abbrev pub is_lasting : ℕ → TokenPlace → Bool
+is_lasting moment place = lasts_at moment place.row.value
+
+-- one where it is so, else none
+abbrev pub one_if : Bool → ℕ
+one_if b = cond b 1 0
+
+-- the row at a place lasts, and is of another grant than this one
+abbrev pub is_lasting_elsewhere : ℕ → ℕ → TokenPlace → Bool
+is_lasting_elsewhere moment number place = not (place.grant == number) && is_lasting moment place
+
+-- the row is retired, or its grant is approved
+abbrev pub is_of_approved : List GrantRow → TokenRow → Bool
+is_of_approved grants row = row.retired || is_approved_grant row.grant grants
+
+-- each row that isn't retired is of an approved grant
+abbrev pub AreOfApproved : List GrantRow → List TokenRow → Type 0
+AreOfApproved grants rows = list_all (is_of_approved grants) rows ≡ true

@@ -1,15 +1,18 @@
 //! The rows of tokens.
-ghost use Rattle.std.specs.Prelude.{◌≡◌, ◌+◌, ◌-◌, ◌*◌, ◌^◌, ◌<◌, ◌≤◌, [], ◌∷◌, ◌++◌, length, map, filter, option_map, slice_get, vec_len, vec_capacity, OnOk, not, ◌&&◌, ◌==◌};
+ghost use Rattle.std.specs.Prelude.{◌≡◌, ◌+◌, ◌-◌, ◌*◌, ◌^◌, ◌<◌, ◌≤◌, ◌==◌, nat_le, not, [], ◌∷◌, ◌++◌, length, map, filter};
+ghost use Rattle.std.specs.Prelude.{option_map, slice_get, vec_len, vec_capacity, IfSome, OnOk};
 ghost use Rattle.std.specs.Option.{option_and_then};
 ghost use Rattle.std.specs.List.{All, AllPairs, count_by, list_any};
 ghost use Rattle.gnap_model.specs.Common.{same_text, some_if};
 ghost use Rattle.gnap_tables.specs.declared.rows.TokenRow.{TokenRow};
 ghost use Rattle.gnap_tables.specs.Tables.{sweep_tokens, drop_tokens_of, drop_token, change_token, with_retirement};
-ghost use Rattle.gnap_tables.specs.RowSearches.{row_by_manage, is_live_row, live_rows};
+ghost use Rattle.gnap_tables.specs.RowSearches.{row_by_manage, live_rows};
 ghost use Rattle.gnap_tables.specs.ActionsByRows.{pass_live, rows_of_others};
 ghost use Rattle.ordered_search.specs.Order.{IsAscending};
 ghost use Rattle.grant_states.specs.declared.numbers_by_key.Listed.{Listed};
-ghost use Rattle.token_manager.specs.Tokens.{AreTokenRows, IsTokenRow, row_by_value, token_in, is_live_place, is_live_elsewhere, is_among, Marks};
+ghost use Rattle.grant_states.specs.Listed.{where_some};
+ghost use Rattle.token_manager.specs.Tokens.{AreTokenRows, IsTokenRow, AreOfApproved, row_by_value, token_in, is_this, is_among, Marks};
+ghost use Rattle.token_manager.specs.Tokens.{lasts_at, is_lasting, is_lasting_elsewhere, one_if};
 ghost use Rattle.token_manager.specs.declared.token_table.TokenPlace.{TokenPlace};
 
 use bytes_and_lists::memory::Mem;
@@ -44,17 +47,22 @@ impl Keyed for TokenPlace {
 pub struct TokenTable {
     places: Vec<TokenPlace>,
     serials: NumbersByKey,
+    // The moment of the last sweep, and how many of the rows weren't retired and ended after it.
+    swept: u64,
+    lasting: usize,
 }
 
 impl Model for TokenTable {
-    ghost use Rattle.std.specs.Prelude.{map, ◌-◌, min, vec_len, vec_capacity};
-    ghost use Rattle.token_manager.specs.Tokens.{StoredTokens, AreTokenPlaces, AreListed, token_in};
+    ghost use Rattle.std.specs.Prelude.{◌≡◌, map, ◌-◌, min, vec_len, vec_capacity};
+    ghost use Rattle.std.specs.List.{count_by};
+    ghost use Rattle.token_manager.specs.Tokens.{StoredTokens, AreTokenPlaces, AreListed, token_in, is_lasting};
 
     ghost Value = { StoredTokens };
 
     ghost view = { λ s. record { rows = map token_in s.places.items; spare = min (vec_capacity s.places - vec_len s.places) s.serials.spare } };
 
-    ghost invariant = { λ s. AreTokenPlaces s.places.items × AreListed s.serials.listed s.places.items };
+    ghost invariant = { λ s. AreTokenPlaces s.places.items × AreListed s.serials.listed s.places.items
+        × (s.lasting ≡ count_by (is_lasting s.swept) s.places.items) };
 }
 
 // The row at a place.
@@ -81,37 +89,96 @@ fn with_manage<'a>(row: Option<&'a TokenRow>, value: &[u8]) -> Option<&'a TokenR
     row.filter(|row| row.manage.as_slice() == value)
 }
 
-// The row is live.
-fn is_live(row: &TokenRow, grants: &GrantTable, now: u64) -> bool
-    ensures { result ≡ is_live_row now grants.now.rows row.now }
+// The row isn't retired, and its end is after this moment.
+fn lasts(row: &TokenRow, moment: u64) -> bool
+    ensures { result ≡ lasts_at moment row.now }
 {
-    !row.retired && now < row.until && grants.is_approved(row.grant)
+    !row.retired && moment < row.until
 }
 
-// How many rows are live.
-fn live_count(places: &[TokenPlace], grants: &GrantTable, now: u64) -> usize
-    ensures { result ≡ count_by (is_live_place now grants.now.rows) places.now }
+// One where the row at a place isn't retired and ends after this moment, else none.
+fn one_lasting(place: &TokenPlace, moment: u64) -> usize
+    ensures { result ≡ one_if (is_lasting moment place.now) }
+{
+    if lasts(place.row.as_ref(), moment) {
+        1
+    } else {
+        0
+    }
+}
+
+// How many rows aren't retired and end after this moment.
+fn lasting_count(places: &[TokenPlace], moment: u64) -> usize
+    ensures { result ≡ count_by (is_lasting moment) places.now }
 {
     let mut count = 0;
     for place in places {
-        if is_live(place.row.as_ref(), grants, now) {
+        if lasts(place.row.as_ref(), moment) {
             count += 1;
         }
     }
     count
 }
 
-// How many rows of other grants are live.
-fn live_elsewhere(places: &[TokenPlace], grants: &GrantTable, number: u64, now: u64) -> usize
-    ensures { result ≡ count_by (is_live_elsewhere now grants.now.rows number) places.now }
+// How many of them are of other grants, by a pass over all.
+fn lasting_elsewhere(places: &[TokenPlace], number: u64, moment: u64) -> usize
+    ensures { result ≡ count_by (is_lasting_elsewhere moment number) places.now }
 {
     let mut count = 0;
     for place in places {
-        if place.grant != number && is_live(place.row.as_ref(), grants, now) {
+        if place.grant != number && lasts(place.row.as_ref(), moment) {
             count += 1;
         }
     }
     count
+}
+
+// One where the token with this serial is the grant's, isn't retired and ends after this moment, else none.
+fn own_lasting(places: &[TokenPlace], grant: u64, serial: u64, moment: u64) -> usize
+    requires { AllPairs (λ (a b : TokenPlace). a.serial < b.serial) places.now }
+    ensures { result ≡ count_by (is_lasting moment) (filter (is_this grant serial) places.now) }
+{
+    let at = place_of(places, serial);
+    if at < places.len() && places[at].serial == serial && places[at].grant == grant {
+        one_lasting(&places[at], moment)
+    } else {
+        0
+    }
+}
+
+// The number is at most the former one, where there is one.
+fn is_within(number: u64, former: Option<u64>) -> bool
+    ensures { result ≡ where_some (nat_le number) former }
+{
+    match former {
+        Some(greatest) => number <= greatest,
+        None => false,
+    }
+}
+
+// Of so many lasting rows, how many aren't the grant's, whose serials are these. `None` where they don't ascend, since one could then be taken off twice.
+fn lasting_without(
+    places: &[TokenPlace],
+    grant: u64,
+    owned: &[Listed],
+    moment: u64,
+    lasting: usize,
+) -> Option<usize>
+    requires order { AllPairs (λ (a b : TokenPlace). a.serial < b.serial) places.now }
+    requires counted { lasting ≡ count_by (is_lasting moment) places.now }
+    ensures { IfSome result (λ left.
+        left ≡ count_by (is_lasting moment) (filter (λ (place : TokenPlace). not (is_among grant owned.now place)) places.now)) }
+{
+    let mut left = lasting;
+    let mut former: Option<u64> = None;
+    for one in owned {
+        if is_within(one.number, former) {
+            return None;
+        }
+        left -= own_lasting(places, grant, one.number, moment);
+        former = Some(one.number);
+    }
+    Some(left)
 }
 
 // The row is marked as retired, where it has this serial.
@@ -123,29 +190,51 @@ fn mark(place: &mut TokenPlace, serial: u64)
     }
 }
 
-// Takes out the token with this serial, where it is the grant's.
-fn take_out(places: &mut Vec<TokenPlace>, grant: u64, serial: u64)
-    requires { AllPairs (λ (a b : TokenPlace). a.serial < b.serial) places.old.items }
-    ensures items { places.new.items ≡ filter (λ (place : TokenPlace). not ((grant == place.grant) && (serial == place.serial))) places.old.items }
+// Takes out the token with this serial, where it is the grant's. Of the rows so many last at this moment, and after it so many as the result.
+fn take_out(
+    places: &mut Vec<TokenPlace>,
+    grant: u64,
+    serial: u64,
+    moment: u64,
+    lasting: usize,
+) -> usize
+    requires order { AllPairs (λ (a b : TokenPlace). a.serial < b.serial) places.old.items }
+    requires counted { lasting ≡ count_by (is_lasting moment) places.old.items }
+    ensures items { places.new.items ≡ filter (λ (place : TokenPlace). not (is_this grant serial place)) places.old.items }
     ensures fewer { vec_len places.new ≤ vec_len places.old }
     ensures capacity { vec_capacity places.new ≡ vec_capacity places.old }
+    ensures counted { result ≡ count_by (is_lasting moment) places.new.items }
 {
     let at = place_of(places.as_slice(), serial);
     if at < places.len() && places[at].serial == serial && places[at].grant == grant {
+        let one = one_lasting(&places[at], moment);
         let _gone = places.remove(at);
+        lasting - one
+    } else {
+        lasting
     }
 }
 
-// Takes out the tokens with these serials, where they are the grant's.
-fn take_out_all(places: &mut Vec<TokenPlace>, grant: u64, owned: &[Listed])
-    requires { AllPairs (λ (a b : TokenPlace). a.serial < b.serial) places.old.items }
+// Takes out the tokens with these serials, where they are the grant's, and counts the lasting rows as before.
+fn take_out_all(
+    places: &mut Vec<TokenPlace>,
+    grant: u64,
+    owned: &[Listed],
+    moment: u64,
+    lasting: usize,
+) -> usize
+    requires order { AllPairs (λ (a b : TokenPlace). a.serial < b.serial) places.old.items }
+    requires counted { lasting ≡ count_by (is_lasting moment) places.old.items }
     ensures items { places.new.items ≡ filter (λ (place : TokenPlace). not (is_among grant owned.now place)) places.old.items }
     ensures fewer { vec_len places.new ≤ vec_len places.old }
     ensures capacity { vec_capacity places.new ≡ vec_capacity places.old }
+    ensures counted { result ≡ count_by (is_lasting moment) places.new.items }
 {
+    let mut left = lasting;
     for one in owned {
-        take_out(places, grant, one.number);
+        left = take_out(places, grant, one.number, moment, left);
     }
+    left
 }
 
 // The key of the item at a place.
@@ -215,6 +304,8 @@ impl TokenTable {
         TokenTable {
             places: Vec::new(alloc),
             serials: NumbersByKey::new(alloc),
+            swept: 0,
+            lasting: 0,
         }
     }
 
@@ -260,8 +351,11 @@ impl TokenTable {
             grant: row.grant,
             row,
         };
+        let one = one_lasting(&place, self.swept);
         self.serials.list(place.grant, place.serial);
         self.places.push_reserved(place);
+        let _many = self.places.len();
+        self.lasting += one;
     }
 
     /// The row with this value. A step is a comparison of serials.
@@ -308,18 +402,39 @@ impl TokenTable {
         find_managed_from::<Brand>(self, value, Blank::new(1))
     }
 
-    /// The live rows and so many more are more than may be live. They are counted only where there are so many rows.
-    pub fn passes_limit_with(&self, grants: &GrantTable, now: u64, more: usize) -> bool
-        requires { more ≤ 16 }
-        ensures { result ≡ pass_live (live_rows now grants.now.rows self.now.rows) more }
+    // How many rows aren't retired and end after this moment. The table knows it of the moment of the last sweep.
+    fn lasting_at(&self, moment: u64) -> usize
+        ensures { result ≡ length (filter (lasts_at moment) self.now.rows) }
     {
-        if self.places.len() <= LIVE_LIMIT - more {
-            return false;
+        if moment == self.swept {
+            self.lasting
+        } else {
+            lasting_count(self.places.as_slice(), moment)
         }
-        live_count(self.places.as_slice(), grants, now) > LIVE_LIMIT - more
     }
 
-    /// The live rows of other grants than this one and so many more are more than may be live. They are counted only where there are so many rows.
+    /// The live rows and so many more are more than may be live. Rows that aren't retired are of approved grants, so the count of the last sweep tells it.
+    pub fn passes_limit_with(&self, grants: &GrantTable, now: u64, more: usize) -> bool
+        requires more { more ≤ 16 }
+        requires approved { AreOfApproved grants.now.rows self.now.rows }
+        ensures { result ≡ pass_live (live_rows now grants.now.rows self.now.rows) more }
+    {
+        self.lasting_at(now) > LIVE_LIMIT - more
+    }
+
+    // How many rows of other grants aren't retired and end after this moment: those of all, less the grant's own.
+    fn lasting_of_others(&self, number: u64, moment: u64) -> usize
+        ensures { result ≡ length (rows_of_others number (filter (lasts_at moment) self.now.rows)) }
+    {
+        let places = self.places.as_slice();
+        let owned = self.serials.of(number);
+        match lasting_without(places, number, owned, moment, self.lasting_at(moment)) {
+            Some(left) => left,
+            None => lasting_elsewhere(places, number, moment),
+        }
+    }
+
+    /// The live rows of other grants than this one and so many more are more than may be live.
     pub fn others_pass_limit_with(
         &self,
         grants: &GrantTable,
@@ -327,13 +442,11 @@ impl TokenTable {
         now: u64,
         more: usize,
     ) -> bool
-        requires { more ≤ 16 }
+        requires more { more ≤ 16 }
+        requires approved { AreOfApproved grants.now.rows self.now.rows }
         ensures { result ≡ pass_live (rows_of_others number (live_rows now grants.now.rows self.now.rows)) more }
     {
-        if self.places.len() <= LIVE_LIMIT - more {
-            return false;
-        }
-        live_elsewhere(self.places.as_slice(), grants, number, now) > LIVE_LIMIT - more
+        self.lasting_of_others(number, now) > LIVE_LIMIT - more
     }
 
     /// Marks the token with this serial as revoked. Takes no memory.
@@ -343,7 +456,10 @@ impl TokenTable {
     {
         let at = place_of(self.places.as_slice(), serial);
         if at < self.places.len() {
+            let before = one_lasting(&self.places[at], self.swept);
             mark(&mut self.places[at], serial);
+            let after = one_lasting(&self.places[at], self.swept);
+            self.lasting = self.lasting - before + after;
         }
     }
 
@@ -354,7 +470,10 @@ impl TokenTable {
     {
         let at = place_of(self.places.as_slice(), serial);
         if at < self.places.len() && self.places[at].serial == serial {
-            let _gone = self.places.remove(at);
+            let one = one_lasting(&self.places[at], self.swept);
+            let gone = self.places.remove(at);
+            self.serials.unlist(gone.grant, gone.serial);
+            self.lasting -= one;
         }
     }
 
@@ -363,14 +482,23 @@ impl TokenTable {
         ensures rows { self.new.rows ≡ drop_tokens_of grant self.old.rows }
         ensures spare { self.old.spare ≤ self.new.spare }
     {
-        take_out_all(&mut self.places, grant, self.serials.of(grant));
+        self.lasting = take_out_all(
+            &mut self.places,
+            grant,
+            self.serials.of(grant),
+            self.swept,
+            self.lasting,
+        );
+        self.serials.unlist_all(grant);
     }
 
-    /// Takes out the tokens whose grant isn't among these. Takes no memory.
-    pub fn sweep(&mut self, grants: &GrantTable)
+    /// Takes out the tokens whose grant isn't among these, at this moment. Takes no memory.
+    pub fn sweep(&mut self, grants: &GrantTable, moment: u64)
         ensures rows { self.new.rows ≡ sweep_tokens grants.now.rows self.old.rows }
         ensures spare { self.old.spare ≤ self.new.spare }
     {
         self.places.retain(|place| grants.has(place.grant));
+        self.swept = moment;
+        self.lasting = lasting_count(self.places.as_slice(), moment);
     }
 }

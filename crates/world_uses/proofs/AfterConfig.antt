@@ -1,7 +1,7 @@
 -- A command whose first file is its setup.
-use Rattle.std.proofs.Common.{◌≡◌, ◌≢◌, ◌∙◌, ℕ, ◌+◌, ◌<◌, add-one, List, [], ◌∷◌, ◌++◌, length, refl, ap, sym, subst, arith, append_assoc, length-append, ◌⊎◌, inl, inr}
+use Rattle.std.proofs.Common.{◌≡◌, ◌≢◌, ◌∙◌, ℕ, suc, ◌+◌, ◌<◌, ◌≤◌, add-one, List, [], ◌∷◌, ◌++◌, length, refl, ap, sym, subst, arith, append_assoc, length-append, ◌⊎◌, inl, inr}
 use Rattle.std.specs.Prelude.{Option, Some, None, IsSome, IfSome, IsOk, All, Any, drop, slice_get, Result, Ok, Err}
-use Rattle.std.proofs.Math.Seq.{drop-append_seam}
+use Rattle.std.proofs.Math.Seq.{drop-length, drop-append_seam}
 use Rattle.std.proofs.lemmas.List.{get_or-append-add}
 use Rattle.std.proofs.lemmas.List.Elements.{All-append}
 use Rattle.gnap_io.specs.declared.world.Opening.{Opening}
@@ -17,7 +17,8 @@ use Rattle.command_inputs.specs.declared.ended.Ended.TheVariants.{Done, NoSetup,
 use Rattle.command_inputs.specs.Ends.{CountsWrites}
 use Rattle.command_inputs.specs.Configs.{setup_limit, GivesRead}
 use Rattle.world_uses.specs.ConfigFiles.{GivesText, GivesConfig, ended_by}
-use Rattle.world_uses.specs.Uses.{ended_by_fault, Over, Unopened, HasNoConfig, EndsWithoutConfig, Follows, BySetup, HasFailed, NothingFailed, IsCarriedOut, InputTook, UsesWorld, new_openings}
+use Rattle.world_uses.specs.Uses.{ended_by_fault, Over, Unopened, HasNoConfig, EndsWithoutConfig, Follows, BySetup, HasFailed, NothingFailed, IsCarriedOut, InputTook, AllButLast, UsesWorld, new_openings}
+use Rattle.world_uses.proofs.Uses.{no_file_at, one_file_at}
 
 -- ---- how the reading of a setup ends
 
@@ -150,6 +151,11 @@ module _ {X S : Type 0} (view : X → S) (read : List ℕ → Option S) where
     config_unread long ended (inl missing) = inl (missing.0, still_none ended missing.1)
     config_unread long ended (inr is) = inr (is.0, is.1, is.2, λ rest known. gives_unread long ended is.0.told.taken rest (is.3 rest known))
 
+before_last : (files : List Served) → All (λ (f : Served). IsAtEnd f.told) files → AllButLast (λ (f : Served). IsAtEnd f.told) files
+before_last [] all = tt
+before_last (file ∷ []) all = tt
+before_last (file ∷ next ∷ files) all = (all 0 file (omega arith), before_last (next ∷ files) (λ k d lt. all (suc k) d (omega (arith, lt))))
+
 judged : (openings : List Opening) (before after : WorldState) → UsesWorld openings None before after Done → (ended : Ended) → ended ≢ Failed → ended ≢ TooLong
     → UsesWorld openings None before after ended
 judged openings before after uses ended sound unlimited = record {
@@ -160,6 +166,7 @@ judged openings before after uses ended sound unlimited = record {
   took = λ place is file found. absurd cc;
   limited = λ is. absurd (unlimited is);
   to_end = λ is. uses.to_end refl;
+  configs = λ is. before_last (new_files before after) (uses.to_end refl);
 }
 
 -- what the world saw of a file whose text was read, whatever it reads as
@@ -230,32 +237,46 @@ module _ {X S : Type 0} (view : X → S) (read : List ℕ → Option S) (texts :
 
 -- ---- the world
 
-took_stopped : (ended : Ended) (input : Option ℕ) (before after : WorldState) → IsStopped ended → InputTook ended input before after
-took_stopped (NoSetup why) input before after stop = λ place is file found. tt
-took_stopped Failed input before after stop = λ place is file found. tt
-took_stopped Memory input before after stop = λ place is file found. tt
-took_stopped Done input before after stop = absurd stop
-took_stopped WriteFault input before after stop = absurd stop
-took_stopped Refused input before after stop = absurd stop
-took_stopped TooLong input before after stop = absurd stop
+-- where it failed, fewer bytes were taken of each file than of an input may be
+abbrev pub TookFew : Ended → WorldState → WorldState → Type 0
+TookFew ended before after = ended ≡ Failed → (place : ℕ) (file : Served) → slice_get (new_files before after) place ≡ Some file → length file.told.taken < 1073741824
+
+took_stopped : (ended : Ended) (input : Option ℕ) (before after : WorldState) → IsStopped ended → TookFew ended before after → InputTook ended input before after
+took_stopped (NoSetup why) input before after stop few = λ place is file found. tt
+took_stopped Failed input before after stop few = λ place is file found. few refl place file found
+took_stopped Memory input before after stop few = λ place is file found. tt
+took_stopped Done input before after stop few = absurd stop
+took_stopped WriteFault input before after stop few = absurd stop
+took_stopped Refused input before after stop few = absurd stop
+took_stopped TooLong input before after stop few = absurd stop
 
 uses_stopped : (openings more : List Opening) (input : Option ℕ) (before after : WorldState) (ended : Ended) → UsesWorld openings None before after ended → IsStopped ended
-    → UsesWorld (openings ++ more) input before after ended
-uses_stopped openings more input before after ended uses stop = record {
+    → TookFew ended before after → UsesWorld (openings ++ more) input before after ended
+uses_stopped openings more input before after ended uses stop few = record {
   given_back = back-more openings more before after uses.given_back;
   all = λ done. absurd (not_done ended stop done);
   failed = uses.failed;
   sound = uses.sound;
-  took = took_stopped ended input before after stop;
+  took = took_stopped ended input before after stop few;
   limited = λ is. absurd (subst IsStopped is stop);
   to_end = uses.to_end;
+  configs = uses.configs;
 }
 
 -- a command whose first file was no configuration
 module _ {X S : Type 0} (view : X → S) (read : List ℕ → Option S) (text : Option (List ℕ)) (before between : WorldState) (ended : Ended)
     (config : Over text before between (HasNoConfig {X = X} (Err ended)) (GivesConfig view read (Err ended))) where
+  few_taken : Over text before between (HasNoConfig {X = X} (Err ended)) (GivesConfig view read (Err ended)) → TookFew ended before between
+  few_taken (inl missing) failed place file found =
+      absurd (no_file_at (new_files before between) place file (ap (drop (length before.files)) missing.0 ∙ drop-length before.files) found)
+  few_taken (inr is) failed place file found =
+      let rest = some_rest is.0.told in
+      let few : length is.0.told.taken ≤ 1048576 = subst (λ (e : Ended). GivesConfig view read (Err e) is.0.told.taken rest.0) failed (is.3 rest.0 rest.1) in
+      let one : new_files before between ≡ is.0 ∷ [] = ap (drop (length before.files)) is.1 ∙ drop-append_seam before.files (is.0 ∷ []) in
+      subst (λ (f : Served). length f.told.taken < 1073741824) (one_file_at (new_files before between) place is.0 file one found) (omega (arith, few))
+
   pub unread_used : (openings more : List Opening) (input : Option ℕ) → UsesWorld openings None before between ended → UsesWorld (openings ++ more) input before between ended
-  unread_used openings more input uses = uses_stopped openings more input before between ended uses (stopped view read text before between ended config)
+  unread_used openings more input uses = uses_stopped openings more input before between ended uses (stopped view read text before between ended config) (few_taken config)
 
   pub unread_isnt_done : ended ≢ Done
   unread_isnt_done is = not_done ended (stopped view read text before between ended config) (inl is)
@@ -276,6 +297,16 @@ get-behind : (front back : List Served) (place : ℕ) → length front ≡ 1 →
 get-behind [] back place one = absurd (omega (arith, one))
 get-behind (file ∷ []) back place one = rw add-one refl
 get-behind (file ∷ other ∷ front) back place one = absurd (omega (arith, one))
+
+-- a further file before those that are left
+further : (P : Served → Type 0) (file : Served) (back : List Served) → P file → AllButLast P back → AllButLast P (file ∷ back)
+further P file [] holds all = tt
+further P file (next ∷ back) holds all = (holds, all)
+
+before_last_behind : (P : Served → Type 0) (front back : List Served) → All P front → AllButLast P back → AllButLast P (front ++ back)
+before_last_behind P [] back holds all = all
+before_last_behind P (file ∷ front) back holds all =
+    further P file (front ++ back) (holds 0 file (omega arith)) (before_last_behind P front back (λ k d lt. holds (suc k) d (omega (arith, lt))) all)
 
 any_behind : (front back : List Served) → Any (λ (f : Served). f.faults ≢ 0) back → Any (λ (f : Served). f.faults ≢ 0) (front ++ back)
 any_behind front back any =
@@ -341,4 +372,6 @@ module _ (name : List ℕ) (before between after : WorldState) (first : UsesWorl
       limited = λ is. behind_some input (next.limited is);
       to_end = λ is. subst (All (λ (f : Served). IsAtEnd f.told)) (sym all_files)
           (All-append (λ (f : Served). IsAtEnd f.told) (new_files before between) (new_files between after) (first.to_end refl) (next.to_end is));
+      configs = λ is. subst (AllButLast (λ (f : Served). IsAtEnd f.told)) (sym all_files)
+          (before_last_behind (λ (f : Served). IsAtEnd f.told) (new_files before between) (new_files between after) (first.to_end refl) (next.configs is));
     }

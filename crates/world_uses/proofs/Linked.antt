@@ -1,6 +1,6 @@
 -- What a command does to the world while a link is open.
 use Rattle.std.proofs.Common.{◌≡◌, ◌≢◌, ◌∙◌, ℕ, List, [], ◌∷◌, ◌++◌, length, ap, sym, subst, append_assoc, inl, inr}
-use Rattle.std.specs.Prelude.{Option, Some, IsSome, All, Any, drop, slice_get}
+use Rattle.std.specs.Prelude.{Option, IsSome, All, Any, drop, slice_get}
 use Rattle.std.proofs.Math.Seq.{drop-append_seam}
 use Rattle.gnap_io.specs.declared.world.Opening.{Opening}
 use Rattle.gnap_io.specs.declared.world.Opening.TheVariants.{Link}
@@ -11,7 +11,7 @@ use Rattle.gnap_io.specs.Worlds.{WorldState, with_opening, with_link}
 use Rattle.gnap_io.specs.Openings.{gears_in, new_files}
 use Rattle.gnap_io.proofs.OpeningLemmas.{gives-around, back-around}
 use Rattle.command_inputs.specs.declared.ended.Ended.{Ended}
-use Rattle.world_uses.specs.Uses.{Over, Unopened, HasFailed, NothingFailed, UsesWorld, new_openings}
+use Rattle.world_uses.specs.Uses.{Over, Unopened, HasFailed, NothingFailed, AllButLast, UsesWorld, new_openings}
 
 module _ (address : List ℕ) (link : LinkState) (more : List Opening) (input : Option ℕ) (before open_now middle after : WorldState) (ended : Ended)
     (open_is : open_now ≡ with_opening (Link address) before) (inside : UsesWorld more input open_now middle ended) (back : after ≡ with_link link middle) where
@@ -69,11 +69,8 @@ module _ (address : List ℕ) (link : LinkState) (more : List Opening) (input : 
     took = λ place is file found. inside.took place is file (ap (λ (fs : List Served). slice_get fs place) (sym same_files) ∙ found);
     limited = inside.limited;
     to_end = λ is. subst (All (λ (f : Served). IsAtEnd f.told)) (sym same_files) (inside.to_end is);
+    configs = λ is. subst (AllButLast (λ (f : Served). IsAtEnd f.told)) (sym same_files) (inside.configs is);
   }
-
--- the place of an input that is the first file
-pub first_place : (place : ℕ) → Some 0 ≡ Some place → place ≡ 0
-first_place place is = cc
 
 -- what was carried out over a file stands while nothing but the link is taken back
 pub over_back : (text : Option (List ℕ)) (link : LinkState) (before middle after : WorldState) (Unopened : Type 0) (P : List ℕ → List ℕ → Type 0)

@@ -1,9 +1,10 @@
 -- What a command does to the world with one file, and what that says of its status.
-use Rattle.std.proofs.Common.{◌≡◌, ◌≢◌, ◌∙◌, ℕ, List, [], ◌∷◌, ◌++◌, length, refl, ap, sym, subst, arith, ◌⊎◌, inl, inr}
+use Rattle.std.proofs.Common.{◌≡◌, ◌≢◌, ◌∙◌, ℕ, ◌<◌, List, [], ◌∷◌, ◌++◌, length, refl, ap, sym, subst, arith, ◌⊎◌, inl, inr}
 use Rattle.std.specs.Prelude.{true, false, is_some, Option, Some, None, IsSome, All, Any, drop, slice_get}
 use Rattle.std.proofs.Math.Seq.{drop-length, drop-append_seam}
 use Rattle.std.proofs.lemmas.List.Elements.{All-nil, All-push}
 use Rattle.std.proofs.lemmas.List.Quantifiers.{Any-push}
+use Rattle.std.proofs.lemmas.Option.{slice_get_within}
 use Rattle.gnap_io.specs.declared.world.Opening.{Opening}
 use Rattle.gnap_io.specs.declared.world.WorldFault.{WorldFault}
 use Rattle.gnap_io.specs.declared.world.WorldFault.TheVariants as faults
@@ -15,7 +16,7 @@ use Rattle.gnap_io.proofs.OpeningLemmas.{gives-none, gives-file, back-all}
 use Rattle.command_inputs.specs.declared.ended.Ended.{Ended}
 use Rattle.command_inputs.specs.declared.ended.Ended.TheVariants.{Done, NoSetup, Failed, WriteFault, Memory, Refused, TooLong}
 use Rattle.command_inputs.specs.Ends.{CountsReads, Took, status_of}
-use Rattle.world_uses.specs.Uses.{Over, ended_by_fault, HasFailed, NothingFailed, InputTook, AreReadToEnd, UsesWorld, new_openings}
+use Rattle.world_uses.specs.Uses.{Over, ended_by_fault, HasFailed, NothingFailed, InputTook, AreReadToEnd, AllButLast, AreReadBeforeLast, UsesWorld, new_openings}
 
 -- ---- nothing was opened
 
@@ -38,6 +39,20 @@ unopened_sound before after same count = record {
   doors = λ some. absurd (no_gears (new_openings before after) (ap gears_in (openings_none before after same)) some);
 }
 
+-- no file was opened, or just one
+pub no_file_at : (files : List Served) (place : ℕ) (file : Served) → files ≡ [] → slice_get files place ≡ Some file → ⊥
+no_file_at files place file none found =
+    let within : place < 0 = slice_get_within [] place file (ap (λ (fs : List Served). slice_get fs place) (sym none) ∙ found) in
+    absurd (omega (arith, within))
+
+pub one_file_at : (files : List Served) (place : ℕ) (file other : Served) → files ≡ file ∷ [] → slice_get files place ≡ Some other → file ≡ other
+one_file_at files place file other one found =
+    let shown : slice_get (file ∷ []) place ≡ Some other = ap (λ (fs : List Served). slice_get fs place) (sym one) ∙ found in
+    let within : place < length (file ∷ []) = slice_get_within (file ∷ []) place other shown in
+    let first : place ≡ 0 = omega (arith, within) in
+    let both : Some file ≡ Some other = ap (λ n. slice_get (file ∷ []) n) (sym first) ∙ shown in
+    cc
+
 unopened_failed : (openings : List Opening) (input : Option ℕ) (before after : WorldState) → after ≡ record before { faults = after.faults }
     → Rose before.faults after.faults → UsesWorld openings input before after Failed
 unopened_failed openings input before after same rose = record {
@@ -45,9 +60,10 @@ unopened_failed openings input before after same rose = record {
   all = λ done. elim done [ inl is ↦ absurd cc | inr is ↦ absurd cc ];
   failed = λ is. inl rose;
   sound = λ isnt. absurd (isnt refl);
-  took = λ place is file found. tt;
+  took = λ place is file found. absurd (no_file_at (new_files before after) place file (files_none before after same) found);
   limited = λ is. absurd cc;
   to_end = λ is. absurd cc;
+  configs = λ is. absurd cc;
 }
 
 unopened_starved : (openings : List Opening) (input : Option ℕ) (before after : WorldState) → after ≡ record before { faults = after.faults }
@@ -60,6 +76,7 @@ unopened_starved openings input before after same count = record {
   took = λ place is file found. tt;
   limited = λ is. absurd cc;
   to_end = λ is. absurd cc;
+  configs = λ is. absurd cc;
 }
 
 -- the world handed nothing out
@@ -87,6 +104,7 @@ nothing_used world ended how = record {
   took = λ place is file found. absurd cc;
   limited = λ is. absurd (elim how [ inl a ↦ (let bad = sym a ∙ is in cc) | inr (inl b) ↦ (let bad = sym b ∙ is in cc) | inr (inr d) ↦ (let bad = sym d ∙ is in cc) ]);
   to_end = λ is. subst (All (λ (file : Served). IsAtEnd file.told)) (sym (files_none world world refl)) (All-nil (λ (file : Served). IsAtEnd file.told));
+  configs = λ is. subst (AllButLast (λ (file : Served). IsAtEnd file.told)) (sym (files_none world world refl)) tt;
 }
 
 -- ---- a file was opened and given back
@@ -105,8 +123,7 @@ counts_zero TooLong faults isnt counts = counts
 
 module _ (name : List ℕ) (file : Served) (before open_now after : WorldState) (ended : Ended) (open_is : open_now ≡ with_opened (File name) before)
     (back : after ≡ with_returned file open_now) (counts : CountsReads ended 0 file.faults) (input : Option ℕ)
-    (first : (place : ℕ) → input ≡ Some place → place ≡ 0) (took : IsSome input → Took ended file.told)
-    (limited : ended ≡ TooLong → IsSome input) (end : ended ≡ Done → IsAtEnd file.told) where
+    (took : IsSome input → Took ended file.told) (limited : ended ≡ TooLong → IsSome input) (end : ended ≡ Done → IsAtEnd file.told) where
   files_are : after.files ≡ before.files ++ file ∷ []
   files_are = ap (λ (s : WorldState). s.files) back ∙ ap (λ (s : WorldState). s.files ++ file ∷ []) open_is
 
@@ -129,12 +146,7 @@ module _ (name : List ℕ) (file : Served) (before open_now after : WorldState) 
   is_input place is = subst (λ (o : Option ℕ). IsSome o) (sym is) refl
 
   took_at : (files : List Served) (place : ℕ) → files ≡ file ∷ [] → input ≡ Some place → (other : Served) → slice_get files place ≡ Some other → Took ended other.told
-  took_at files place are is other found =
-      let at : place ≡ 0 = first place is in
-      let first_is : slice_get files place ≡ Some file = ap (λ n. slice_get files n) at ∙ ap (λ fs. slice_get fs 0) are in
-      let both : Some file ≡ Some other = sym first_is ∙ found in
-      let same : file ≡ other = cc in
-      subst (λ (f : Served). Took ended f.told) same (took (is_input place is))
+  took_at files place are is other found = subst (λ (f : Served). Took ended f.told) (one_file_at files place file other are found) (took (is_input place is))
 
   pub opened_used : UsesWorld (File name ∷ []) input before after ended
   opened_used = record {
@@ -152,6 +164,7 @@ module _ (name : List ℕ) (file : Served) (before open_now after : WorldState) 
     limited = limited;
     to_end = λ is. subst (All (λ (f : Served). IsAtEnd f.told)) (sym new_file)
         (All-push (λ (f : Served). IsAtEnd f.told) [] file (All-nil (λ (f : Served). IsAtEnd f.told)) (end is));
+    configs = λ is. subst (AllButLast (λ (f : Served). IsAtEnd f.told)) (sym new_file) tt;
   }
 
 -- what was done over it
@@ -208,6 +221,26 @@ to_end_at_0 openings input before after WriteFault uses is = absurd cc
 to_end_at_0 openings input before after Memory uses is = absurd cc
 to_end_at_0 openings input before after Refused uses is = absurd cc
 to_end_at_0 openings input before after TooLong uses is = absurd cc
+
+pub configs_at_7 : (openings : List Opening) (input : Option ℕ) (before after : WorldState) (ended : Ended) → UsesWorld openings input before after ended
+    → status_of ended ≡ 7 → AreReadBeforeLast before after
+configs_at_7 openings input before after Refused uses is = uses.configs refl
+configs_at_7 openings input before after Done uses is = absurd cc
+configs_at_7 openings input before after (NoSetup why) uses is = absurd cc
+configs_at_7 openings input before after Failed uses is = absurd cc
+configs_at_7 openings input before after WriteFault uses is = absurd cc
+configs_at_7 openings input before after Memory uses is = absurd cc
+configs_at_7 openings input before after TooLong uses is = absurd cc
+
+pub short_at_4 : (openings : List Opening) (input : Option ℕ) (before after : WorldState) (ended : Ended) → UsesWorld openings input before after ended
+    → status_of ended ≡ 4 → InputTook Failed input before after
+short_at_4 openings input before after Failed uses is = uses.took
+short_at_4 openings input before after Done uses is = absurd cc
+short_at_4 openings input before after (NoSetup why) uses is = absurd cc
+short_at_4 openings input before after WriteFault uses is = absurd cc
+short_at_4 openings input before after Memory uses is = absurd cc
+short_at_4 openings input before after Refused uses is = absurd cc
+short_at_4 openings input before after TooLong uses is = absurd cc
 
 pub done_at_0 : (ended : Ended) → status_of ended ≡ 0 → ended ≡ Done
 done_at_0 Done is = refl

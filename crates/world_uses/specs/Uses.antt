@@ -100,6 +100,16 @@ IsCarriedOut ended = (ended ≡ Done) ⊎ (ended ≡ Refused)
 abbrev pub AreReadToEnd : WorldState → WorldState → Type 0
 AreReadToEnd before after = All (λ file. IsAtEnd file.told) (new_files before after)
 
+-- each but the last
+abbrev pub AllButLast : {X : Type 0} → (X → Type 0) → List X → Type 0
+AllButLast P [] = Unit {0}
+AllButLast P (x ∷ []) = Unit {0}
+AllButLast P (x ∷ y ∷ more) = P x × AllButLast P (y ∷ more)
+
+-- each file that was opened before another one was read to its end
+abbrev pub AreReadBeforeLast : WorldState → WorldState → Type 0
+AreReadBeforeLast before after = AllButLast (λ (file : Served). IsAtEnd file.told) (new_files before after)
+
 -- What a command that ended so did to the world.
 pub record UsesWorld (openings : List Opening) (input : Option ℕ) (before after : WorldState) (ended : Ended) : Type 0 where
   pub given_back : GivesBack openings before after
@@ -109,3 +119,4 @@ pub record UsesWorld (openings : List Opening) (input : Option ℕ) (before afte
   pub took : InputTook ended input before after
   pub limited : ended ≡ TooLong → IsSome input
   pub to_end : ended ≡ Done → AreReadToEnd before after
+  pub configs : ended ≡ Refused → AreReadBeforeLast before after

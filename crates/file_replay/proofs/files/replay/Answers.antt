@@ -1,7 +1,7 @@
 use Rattle.std.proofs.Common.{[], refl, arith, inl, inr}
 use Rattle.histories.specs.Histories.{legal-nil}
 use Rattle.grant_machine.specs.Gnap.{gnap}
-use Rattle.command_inputs.specs.declared.ended.Ended.TheVariants.{TooLong}
+use Rattle.command_inputs.specs.declared.ended.Ended.TheVariants.{Failed, TooLong}
 use Rattle.command_inputs.specs.declared.line_end.LineEnd.TheVariants as line_ends
 use Rattle.file_replay.proofs.ReplayedFiles.{whole_replayed, last_replayed, long_replayed, failed_replayed, full_replayed, starved_replayed, took_all, alone_at}
 use Rattle.command_inputs.proofs.Inputs.{leaves_taken, leaves_more}
@@ -48,6 +48,11 @@ pub returns-in-Failed-clause-replays : goal.returns-in-Failed-clause-replays
 returns-in-Failed-clause-replays g c = λ rest known.
     failed_replayed _ _ _ _ _ _ _ c.new-reader.ensures.held c.requires.fresh c.new-reader.ensures.taken c.in-Failed.ensures.read
     (c.in-Failed.ensures.short (inr refl) refl) _ (λ setup. c.what_holds.ensures setup [] (legal-nil gnap setup) (omega arith)) rest
+
+pub returns-in-Failed-clause-took : goal.returns-in-Failed-clause-took
+returns-in-Failed-clause-took g c =
+    took_all _ _ _ _ _ _ _ c.new-reader.ensures.held c.requires.fresh c.new-reader.ensures.taken line_ends.Failed c.in-Failed.ensures.read [] _ _ (came-none _ _) Failed
+    c.in-Failed.ensures.full
 
 pub returns-clause-replays : goal.returns-clause-replays
 returns-clause-replays g c = λ rest known.

@@ -5,7 +5,7 @@ use Rattle.gnap_io.specs.declared.world.Opening.{Opening}
 use Rattle.gnap_io.specs.Openings.{Gives}
 use Rattle.command_words.specs.declared.command.Command.{Command}
 use Rattle.command_inputs.specs.declared.ended.Ended.{Ended}
-use Rattle.command_inputs.specs.declared.ended.Ended.TheVariants.{Done, TooLong}
+use Rattle.command_inputs.specs.declared.ended.Ended.TheVariants.{Done, Failed, TooLong}
 use Rattle.serving.specs.ServiceEnds.{HaveServedJust}
 use Rattle.gnap_tool.specs.Openings.{openings_of, quota_of, input_place}
 use Rattle.command_inputs.specs.Ends.{status_of}
@@ -13,7 +13,7 @@ use Rattle.world_uses.specs.Uses.{UsesWorld, InputTook}
 use Rattle.gnap_tool.specs.Completeness.{NothingWentWrong, IsCompleted}
 use Rattle.gnap_tool.proofs.Completing.{completes}
 use Rattle.gnap_tool.proofs.EachCommand.{all_at_0}
-use Rattle.world_uses.proofs.Uses.{failed_at_4, full_at_8, whole_at_0, to_end_at_0, done_at_0}
+use Rattle.world_uses.proofs.Uses.{failed_at_4, full_at_8, whole_at_0, short_at_4, to_end_at_0, configs_at_7, done_at_0}
 use Rattle.gnap_tool.proofs.commands.run.Goals as goal
 
 -- where nothing went wrong in a command, in a world and with a count that are the same
@@ -71,6 +71,22 @@ returns-in-Err-clause-whole g c = λ is command found.
     InputTook Done (input_place k) (g.W.World.state c.args.world.now) (g.W.World.state c.carry_out_with_workers-ended.new.world) in
     subst P same (whole_at_0 _ _ _ _ ended uses
     (elim is [ inl zero ↦ inl (sym c.status_of.ensures ∙ zero) | inr seven ↦ inr (sym c.status_of.ensures ∙ seven) ]))
+
+pub returns-in-Err-clause-short : goal.returns-in-Err-clause-short
+returns-in-Err-clause-short g c = λ is command found.
+    let ended = c.carry_out_with_workers-ended.result in
+    let uses = used_first _ _ _ _ _ ended (ap g.W.World.state c.in-Err.ensures.untouched.0) c.carry_out_with_workers-ended.ensures.world in
+    let both : Some c.in-Err.command ≡ Some command = sym c.in-Err.ensures.left.0 ∙ found in
+    let same : c.in-Err.command ≡ command = cc in
+    let P : Command → Type 0 = λ k.
+    InputTook Failed (input_place k) (g.W.World.state c.args.world.now) (g.W.World.state c.carry_out_with_workers-ended.new.world) in
+    subst P same (short_at_4 _ _ _ _ ended uses (sym c.status_of.ensures ∙ is))
+
+pub returns-in-Err-clause-configs : goal.returns-in-Err-clause-configs
+returns-in-Err-clause-configs g c = λ is.
+    let ended = c.carry_out_with_workers-ended.result in
+    let uses = used_first _ _ _ _ _ ended (ap g.W.World.state c.in-Err.ensures.untouched.0) c.carry_out_with_workers-ended.ensures.world in
+    configs_at_7 _ _ _ _ ended uses (sym c.status_of.ensures ∙ is)
 
 pub returns-in-Err-clause-to_end : goal.returns-in-Err-clause-to_end
 returns-in-Err-clause-to_end g c = λ is.

@@ -2,11 +2,11 @@ use Rattle.std.proofs.Common.{◌≡◌, ◌∙◌, ap, sym, subst, refl, inl, i
 use Rattle.std.specs.Prelude.{Some, IsSome, IfSome}
 use Rattle.serving.specs.ServiceEnds.{HaveServedJust}
 use Rattle.command_words.specs.declared.command.Command.{Command}
-use Rattle.command_inputs.specs.declared.ended.Ended.TheVariants.{Done, Memory, TooLong}
+use Rattle.command_inputs.specs.declared.ended.Ended.TheVariants.{Done, Failed, Memory, TooLong}
 use Rattle.gnap_tool.specs.Openings.{openings_of, quota_of, input_place}
 use Rattle.command_inputs.specs.Ends.{status_of}
 use Rattle.world_uses.specs.Uses.{InputTook}
-use Rattle.world_uses.proofs.Uses.{back-none, unopened_sound, failed_at_4, full_at_8, whole_at_0, to_end_at_0, done_at_0}
+use Rattle.world_uses.proofs.Uses.{back-none, unopened_sound, failed_at_4, full_at_8, whole_at_0, short_at_4, to_end_at_0, configs_at_7, done_at_0}
 use Rattle.gnap_tool.specs.Completeness.{NothingWentWrong, IsCompleted}
 use Rattle.gnap_tool.proofs.Completing.{completes}
 use Rattle.gnap_tool.proofs.EachCommand.{starved_carries}
@@ -52,6 +52,17 @@ returns-in-Err-OutOfMemory-clause-carries g c = λ command found. record { ended
 
 pub returns-in-Err-OutOfMemory-clause-given_back : goal.returns-in-Err-OutOfMemory-clause-given_back
 returns-in-Err-OutOfMemory-clause-given_back g c = λ command found. back-none (openings_of command) _ _ refl
+
+pub returns-in-Some-clause-short : goal.returns-in-Some-clause-short
+returns-in-Some-clause-short g c = λ is command found.
+    let both : Some c.in-Ok.command ≡ Some command = sym c.in-Ok.ensures.read ∙ found in
+    let same : c.in-Ok.command ≡ command = cc in
+    let P : Command → Type 0 = λ k.
+    InputTook Failed (input_place k) (g.W.World.state c.args.world.now) (g.W.World.state c.carry_out.new.world) in
+    subst P same (short_at_4 _ _ _ _ c.in-Some.ended c.in-Some.ensures.world (sym c.status_of.ensures ∙ is))
+
+pub returns-in-Some-clause-configs : goal.returns-in-Some-clause-configs
+returns-in-Some-clause-configs g c = λ is. configs_at_7 _ _ _ _ c.in-Some.ended c.in-Some.ensures.world (sym c.status_of.ensures ∙ is)
 
 pub returns-in-Some-clause-to_end : goal.returns-in-Some-clause-to_end
 returns-in-Some-clause-to_end g c = λ is. to_end_at_0 _ _ _ _ c.in-Some.ended c.in-Some.ensures.world (sym c.status_of.ensures ∙ is)

@@ -2,7 +2,6 @@ use Rattle.std.proofs.Common.{ℕ, ap, subst, inl, refl}
 use Rattle.gnap_io.specs.Outside.{served_of}
 use Rattle.command_inputs.specs.Ends.{CountsReads}
 use Rattle.world_uses.proofs.Uses.{unopened_used, fault_ends, opened_used, opened_over}
-use Rattle.world_uses.proofs.Linked.{first_place}
 use Rattle.gnap_tool.proofs.commands.script_over.Goals as goal
 
 pub returns-in-Err-clause-over : goal.returns-in-Err-clause-over
@@ -23,5 +22,5 @@ returns-in-Ok-clause-world g c =
     let file = served_of (g.W.File.Device.told source) (g.W.File.Device.faults source) in
     let R : ℕ → Type 0 = λ n. CountsReads c.run_script-ended.result n (g.W.File.Device.faults source) in
     opened_used _ file _ _ _ c.run_script-ended.result c.in-Ok.ensures.state c.close_file.ensures.state
-    (subst R c.in-Ok.ensures.file.0 c.run_script-ended.ensures.reads) _ first_place (λ some. c.run_script-ended.ensures.took)
+    (subst R c.in-Ok.ensures.file.0 c.run_script-ended.ensures.reads) _ (λ some. c.run_script-ended.ensures.took)
     (λ is. refl) c.run_script-ended.ensures.end

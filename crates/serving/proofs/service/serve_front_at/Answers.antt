@@ -8,7 +8,7 @@ use Rattle.gnap_io.specs.Gears.{IsUnused}
 use Rattle.gnap_io.specs.Worlds.{WorldState}
 use Rattle.serving.specs.ServiceEnds.{has_failed}
 use Rattle.serving.specs.Services.{not_started}
-use Rattle.serving.proofs.UsedUp.{any_counted, used_up}
+use Rattle.serving.proofs.UsedUp.{any_counted, ends_of_doors, used_up}
 use Rattle.serving.proofs.ServiceLemmas.{unused_few, started_few, taken_back, taken_back_full}
 use Rattle.serving.proofs.service.serve_front_at.Goals as goal
 
@@ -32,12 +32,15 @@ pub returns-then-failed-clause-served : goal.returns-then-failed-clause-served
 returns-then-failed-clause-served g c =
     let st = g.W.Gear.Counted.state in
     let gears = c.serve_gears-gears.result.0.items in
+    let done = c.serve_gears-gears.ensures.done (ap is_ok c.in-Ok.is) in
     taken_back g.C.M.Machine.law (g.F.Front.rules c.args.front.now) (g.F.Front.session c.args.front.now) st c.args.address.now c.args.workers c.args.quota _
     (g.W.World.state c.args.world.now) _ _ gears
     c.in_ok-gears.ensures.state c.stop_gears.ensures.state (c.serve_gears-gears.ensures.many ∙ c.in_ok-gears.ensures.gears.many)
     c.serve_gears-gears.ensures.one c.serve_gears-gears.ensures.out
-    (started_few st c.args.workers c.args.quota c.in_ok-gears.gears.items gears c.in_ok-gears.ensures.gears (c.serve_gears-gears.ensures.done (ap is_ok c.in-Ok.is)))
-    (any_counted st gears ∙ ap (list_any (λ gear. has_failed (st gear))) (sym c.as_slice.ensures.value) ∙ sym c.any_failed-failed.ensures ∙ c.if-failed.true)
+    (started_few st c.args.workers c.args.quota c.in_ok-gears.gears.items gears c.in_ok-gears.ensures.gears done) (
+      any_counted st gears ∙ ap (list_any (λ gear. has_failed (st gear))) (sym c.as_slice.ensures.value) ∙ sym c.any_failed-failed.ensures ∙ c.if-failed.true,
+      ends_of_doors (map st c.in_ok-gears.gears.items) (map st gears) (All-map IsUnused st c.in_ok-gears.gears.items c.in_ok-gears.ensures.gears.unused) done,
+    )
 
 pub returns-else-failed-clause-served : goal.returns-else-failed-clause-served
 returns-else-failed-clause-served g c =

@@ -1,5 +1,4 @@
 use Rattle.std.proofs.Common.{◌∙◌, ℕ, ap, subst, inl}
-use Rattle.std.specs.Prelude.{Err}
 use Rattle.gnap_io.specs.Outside.{served_of}
 use Rattle.command_inputs.specs.Ends.{CountsReads}
 use Rattle.world_uses.specs.ConfigFiles.{ended_by}
@@ -28,7 +27,7 @@ returns-in-Ok-clause-world g c =
     let file = served_of told (g.W.File.Device.faults source) in
     let R : ℕ → Type 0 = λ n. CountsReads (ended_by result) n (g.W.File.Device.faults source) in
     opened_used _ file _ _ _ (ended_by result) c.in-Ok.ensures.state c.close_file.ensures.state
-    (subst R c.in-Ok.ensures.file.0 c.read_config-text.ensures.reads) _ (λ place is. absurd cc) (λ some. absurd cc)
+    (subst R c.in-Ok.ensures.file.0 c.read_config-text.ensures.reads) _ (λ some. absurd cc)
     (λ is. absurd (config_unlimited result told gives is)) (config_to_end result told gives c.read_config-text.ensures.end)
 
 pub returns-in-Ok-clause-text : goal.returns-in-Ok-clause-text

@@ -1,9 +1,10 @@
 use Rattle.std.proofs.Common.{map, ap, sym, subst, ◌∙◌, arith, List}
+use Rattle.std.specs.List.{count_by}
 use Rattle.gnap_tables.specs.Tables.{drop_token}
 use Rattle.token_manager.specs.declared.token_table.TokenPlace.{TokenPlace}
-use Rattle.token_manager.specs.Tokens.{StoredTokens, AreTokenPlaces, AreListed, token_in}
+use Rattle.token_manager.specs.Tokens.{StoredTokens, AreTokenPlaces, AreListed, token_in, is_lasting}
 use Rattle.grant_states.proofs.Items.{same_place}
-use Rattle.token_manager.proofs.TokenLemmas.{ascending_slice, place_removed, none_removed, listed_removed}
+use Rattle.token_manager.proofs.TokenLemmas.{ascending_slice, place_removed, none_removed, listed_removed, listed_without, lasting_removed}
 use Rattle.token_manager.proofs.token_table.TokenTable.retire.Goals as goal
 use Rattle.token_manager.proofs.token_table.TokenTable.retire.Goals.{else-at-len-via-then-at-len+else-index-serial, else-at-len-via-else-at-len}
 
@@ -14,8 +15,12 @@ pub invariant_of-self : goal.invariant_of-self
 invariant_of-self c =
     let held = place_removed c.as_slice.result.now c.self.inside.places.items c.place_of-at.result c.args.serial c.index.result.now c.as_slice.ensures.value c.self.invariant.0 (omega (arith, c.if-at-len.true, c.len.ensures)) c.index.ensures c.if-index-serial.true in (
       subst (λ (ps : List TokenPlace). AreTokenPlaces ps) (sym c.remove-gone.ensures.items) held.1,
-      subst (AreListed c.self.inside.serials.listed) (sym c.remove-gone.ensures.items)
-          (listed_removed c.self.inside.serials.listed c.self.inside.places.items c.place_of-at.result c.args.serial c.index.result.now c.self.invariant.0 c.self.invariant.1 (omega (arith, c.if-at-len.true, c.len.ensures)) c.index.ensures c.if-index-serial.true),
+      subst (AreListed c.unlist.new.self.listed) (sym c.remove-gone.ensures.items)
+          (listed_without c.self.inside.serials.listed c.unlist.new.self.listed c.self.inside.places.items c.place_of-at.result c.remove-gone.result c.self.invariant.0 (omega (arith, c.if-at-len.true, c.len.ensures)) c.remove-gone.ensures.value
+          (listed_removed c.self.inside.serials.listed c.self.inside.places.items c.place_of-at.result c.args.serial c.index.result.now c.self.invariant.0 c.self.invariant.1 (omega (arith, c.if-at-len.true, c.len.ensures)) c.index.ensures c.if-index-serial.true)
+          c.unlist.ensures.kept),
+      (lasting_removed c.self.inside.places.items c.place_of-at.result c.self.inside.swept c.self.inside.lasting c.one_lasting-one.result c.index-then-index-serial.result.now (omega (arith, c.if-at-len.true, c.len.ensures)) c.index-then-index-serial.ensures c.self.invariant.2 c.one_lasting-one.ensures).1
+          ∙ ap (count_by (is_lasting c.self.inside.swept)) (sym c.remove-gone.ensures.items),
     )
 
 pub returns-then-index-serial-clause-rows : goal.returns-then-index-serial-clause-rows
