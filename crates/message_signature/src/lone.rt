@@ -3,7 +3,7 @@ ghost use Rattle.std.specs.Prelude.{◌≡◌, ℕ, List, Some, Ok, codes, IfOk,
 ghost use Rattle.std.specs.Option.{option_map};
 ghost use Rattle.structured_fields.specs.declared.item.Member.{Member as MemberValue};
 ghost use Rattle.structured_fields.specs.Reading.{dictionary_of, entry_value_at};
-ghost use Rattle.structured_fields.specs.Skipping.{Tells, strings_in};
+ghost use Rattle.dictionary_lookup.specs.Skipping.{Tells, strings_in};
 ghost use Rattle.message_signature.specs.declared.fault.SigFault.TheVariants.{NotAField};
 ghost use Rattle.message_signature.specs.Faults.{Fails, Gives, need};
 ghost use Rattle.message_signature.specs.Lone.{bytes_in, formed, lone_seen, read_tagged};
@@ -14,10 +14,9 @@ use crate::tags::{is_well_formed, must, value_of};
 use bytes_and_lists::bytes::Bytes;
 use bytes_and_lists::memory::Mem;
 use bytes_and_lists::message::Message;
+use dictionary_lookup::{Matched, matching_list, single_under, strings_behind};
 use std::alloc::Global;
-use structured_fields::{
-    Bare, FieldFault, InnerList, Matched, matching_list, single_under, strings_behind,
-};
+use structured_fields::{Bare, FieldFault, InnerList};
 
 /// A signature of a message: the covered components with its parameters, and its bytes.
 #[derive(Drop)]

@@ -3,16 +3,17 @@ ghost use Rattle.std.specs.Prelude.{◌≡◌, ℕ, List, IfOk, Some, codes};
 ghost use Rattle.std.specs.Option.{option_copied, option_map};
 ghost use Rattle.std.specs.Str.{bytes_eq};
 ghost use Rattle.structured_fields.specs.Named.{value_at};
+ghost use Rattle.structured_fields.specs.Strings.{is_string};
 ghost use Rattle.structured_fields.specs.declared.bare.Bare.TheVariants.{Integer};
 ghost use Rattle.hmac_key.specs.Hmac.{hmac_sha256};
 ghost use Rattle.message_signature.specs.declared.fault.SigFault.TheVariants.{Unsupported, UnknownKey};
-ghost use Rattle.message_signature.specs.Base.{is_string, signature_base};
+ghost use Rattle.message_signature.specs.Base.{signature_base};
 ghost use Rattle.message_signature.specs.Faults.{Gives, need, must};
 ghost use Rattle.message_signature.specs.Marked.{id_and_mark, judged_with_mark, verified_marked};
 ghost use Rattle.message_signature.specs.Seen.{signature_seen};
 ghost use Rattle.message_signature.specs.Verified.{absent_or, covers_enough, is_in_window, is_not_expired, key_in, has_right_digest, admitted, made_under, judged_over, judged, verified};
 
-use crate::base::{base_of, is_named, is_string};
+use crate::base::{base_of, is_named};
 use crate::components::{field_value, has_body, has_field};
 use crate::fault::{BaseFault, SigFault};
 use crate::lone::lone_signature;
@@ -24,7 +25,7 @@ use bytes_and_lists::message::Message;
 use content_digest::DigestFault;
 use hmac_key::{HmacKey, Keyring, same};
 use std::alloc::Global;
-use structured_fields::{Bare, InnerList};
+use structured_fields::{Bare, InnerList, is_string};
 
 // How many seconds `created` may be before or after now.
 const WINDOW: u64 = 300;
