@@ -15,10 +15,11 @@ use Rattle.structured_fields.specs.Strings.{are_strings, holds_string}
 use Rattle.structured_fields.proofs.Fronts.{some_is}
 use Rattle.message_signature.specs.declared.fault.SigFault.{SigFault}
 use Rattle.message_signature.specs.declared.fault.SigFault.TheVariants.{NoField, NotAField, NoTag, Malformed, OutOfMemory}
+use Rattle.message_signature.specs.declared.tags.SignatureFields.{SignatureFields}
 use Rattle.message_signature.specs.Components.{field_value}
 use Rattle.message_signature.specs.Faults.{◌>>=◌, need, Fails}
 use Rattle.message_signature.specs.Lone.{read_tagged, bytes_in, formed}
-use Rattle.message_signature.specs.Verified.{Signature, is_well_formed, with_tag, signature_under, tagged_in, tagged, judged, verified}
+use Rattle.message_signature.specs.Verified.{Signature, is_well_formed, with_tag, signature_under, signature_fields, tagged_in, tagged, judged, verified}
 use Rattle.message_signature.specs.Marked.{id_and_mark, judged_with_mark}
 
 abbrev Entry : Type 0
@@ -186,6 +187,16 @@ module _ (m : Message) (tag : List ℕ) where
         by None b = refl
         by (Some a) None = refl
         by (Some a) (Some b) = refl
+
+  -- by both dictionaries
+  pub no_fields : (e : SigFault) → Fails e (signature_fields m) → Fails e (tagged m tag)
+  unfolding tagged
+  no_fields OutOfMemory h = tt
+  no_fields e h = rw h refl
+
+  pub by_fields : (fields : SignatureFields) → signature_fields m ≡ Ok fields → tagged m tag ≡ tagged_in tag fields
+  unfolding tagged
+  by_fields fields is = rw is refl
 
 -- ---- what is verified by it
 
