@@ -1,14 +1,15 @@
-//! Histories that are replayed over both cores of the grant machine: what is printed is compared.
+//! A history that is replayed over both cores of the grant machine: what they print is compared.
 
 ghost use Rattle.std.specs.Prelude.{◌≡◌, []};
 ghost use Rattle.gnap_objects.specs.Setups.{IsSetup};
 
 use bytes_and_lists::bytes::Bytes;
 use bytes_and_lists::memory::{Duplicate, Mem};
+use call_replay::replay_lines;
+use command_inputs::LineReader;
 use gnap_history::{Gnap, list_desk};
 use gnap_io::memory_devices::{MemSink, MemSource};
 use gnap_objects::{Setup, read_setup};
-use gnap_tool::{LineReader, replay_lines};
 use histories::machine::Desk;
 use std::alloc::Global;
 use table_core::table_desk;
