@@ -5,8 +5,8 @@
 //! - `signature`: a message that is verified or signed (`signatures`);
 //! - `mark`: a message whose signature's mark is taken or written (`marks`).
 //!
-//! The lines and what must be printed stand in `expected/`, from where `expected/write.py` writes them: the first two tables as texts, and the third by hand with
-//! signatures of another language.
+//! The lines and what must be printed stand in `expected/`, from where `expected/write.py` writes them: the first two tables as texts, and the third by hand
+//! with signatures of another language.
 #![tactic(auto)]
 
 mod fields;
