@@ -7,12 +7,10 @@
 //! A mark is told as its nonce between quotes and its `created`. A message is laid out as in the table of signatures. The marks that are expected were
 //! written by hand beside each message, and the signatures worked out in another language, apart from this code.
 
-use crate::messages::{Parts, fields_from, message_in, ring, text_of};
+use crate::messages::{Parts, added, message_in, refused, ring, text_of};
 use bytes_and_lists::bytes::Bytes;
 use bytes_and_lists::memory::Mem;
-use message_signature::{
-    SigFault, SignFault, SignatureMark, is_nonce, mark_of, sign_marked, verify_marked,
-};
+use message_signature::{SignatureMark, is_nonce, mark_of, sign_marked, verify_marked};
 use std::alloc::Global;
 
 // An Integer has at most 15 digits (RFC 9651, section 3.3.1).
@@ -35,7 +33,7 @@ fn told(alloc: Global, parts: &mut Parts) -> Result<String, Mem> {
 }
 
 fn verified(alloc: Global, parts: &mut Parts) -> Result<String, Mem> {
-    let now = parts.next().unwrap_or("").parse::<u64>().unwrap_or(0);
+    let now = parts.number();
     let tag = parts.bytes(alloc)?;
     let (base, message) = message_in(alloc, parts)?;
     match verify_marked(alloc, &message, &base, &ring(alloc)?, now, &tag) {
@@ -44,13 +42,12 @@ fn verified(alloc: Global, parts: &mut Parts) -> Result<String, Mem> {
             let mark = shown(alloc, mark.as_ref())?;
             Ok(format!(in alloc; "{id}: {mark}")?)
         }
-        Err(SigFault::OutOfMemory) => Err(Mem),
-        Err(fault) => Ok(format!(in alloc; "{fault:?}")?),
+        Err(fault) => refused(alloc, fault),
     }
 }
 
 fn signed(alloc: Global, parts: &mut Parts) -> Result<String, Mem> {
-    let created = parts.next().unwrap_or("").parse::<u64>().unwrap_or(0);
+    let created = parts.number();
     let nonce = parts.bytes(alloc)?;
     let (base, mut message) = message_in(alloc, parts)?;
     if created > GREATEST_INTEGER || !is_nonce(nonce.as_slice()) {
@@ -60,7 +57,7 @@ fn signed(alloc: Global, parts: &mut Parts) -> Result<String, Mem> {
     let id = Bytes::from_slice(alloc, b"c1")?;
     let secret = Bytes::from_slice(alloc, b"secret-key-of-c1")?;
     let tag = Bytes::from_slice(alloc, b"gnap")?;
-    match sign_marked(
+    let outcome = sign_marked(
         alloc,
         &mut message,
         &base,
@@ -69,11 +66,8 @@ fn signed(alloc: Global, parts: &mut Parts) -> Result<String, Mem> {
         created,
         &nonce,
         &tag,
-    ) {
-        Ok(()) => fields_from(alloc, &message.fields, before),
-        Err(SignFault::HasSignature) => Ok(String::from_str(alloc, "HasSignature")?),
-        Err(SignFault::OutOfMemory) => Err(Mem),
-    }
+    );
+    added(alloc, outcome, &message, before)
 }
 
 /// What the mark of a line's message is, or what signing with one gives.

@@ -3,23 +3,16 @@
 use std::alloc::{AllocError, Global};
 
 // Appends the piece, with the place in place of each `#`.
-fn push_piece(out: &mut String, piece: &str, place: &str) -> Result<(), AllocError> {
-    let mut first = true;
-    for part in piece.split('#') {
-        if !first {
-            out.push_str(place)?;
-        }
-        out.push_str(part)?;
-        first = false;
-    }
-    Ok(())
+fn push_piece(alloc: Global, out: &mut String, piece: &str, place: u32) -> Result<(), AllocError> {
+    let place = format!(in alloc; "{place}")?;
+    let piece = piece.replace(alloc, '#', place.as_str())?;
+    out.push_str(piece.as_str())
 }
 
 fn push_run(alloc: Global, out: &mut String, run: &str) -> Result<(), AllocError> {
     let (count, piece) = run.split_once('|').unwrap_or(("1", run));
     for place in 0..count.parse::<u32>().unwrap_or(0) {
-        let place = format!(in alloc; "{place}")?;
-        push_piece(out, piece, place.as_str())?;
+        push_piece(alloc, out, piece, place)?;
     }
     Ok(())
 }

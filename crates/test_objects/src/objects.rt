@@ -1,12 +1,16 @@
 //! The table of JSON texts. A line is the name of a reader of `gnap_objects` and, behind a space, the text; without a space there is no text. Told is what
 //! the reader gives, or its first fault. In a text `<N|piece>` stands for N times the piece, in each of which `#` is its place, counted from 0.
 
+ghost use Rattle.serde_json.specs.View.{view};
+ghost use Rattle.json_objects.specs.Bodies.{IsBody};
+
 use crate::{repeated, shown};
 use gnap_objects::{
     ObjectFault, SetupFault, read_code, read_continue, read_decide, read_grant, read_handle,
     read_introspect, read_rotate, read_setup,
 };
 use json_objects::{BodyFault, read_body};
+use serde_json::Value;
 use std::alloc::{AllocError, Global};
 
 /// Why a reader gave nothing.
@@ -46,14 +50,29 @@ impl From<SetupFault> for Refusal {
     }
 }
 
-fn of_nothing(alloc: Global, reader: &str) -> Result<String, Refusal> {
+// What the readers give that do without a body.
+fn of_body_or_none(alloc: Global, reader: &str, body: Option<&Value>) -> Result<String, Refusal> {
     match reader {
         "continue" => {
-            let read = read_continue(alloc, None)?;
+            let read = read_continue(alloc, body)?;
             Ok(shown::optional(alloc, read.reference.as_ref())?)
         }
-        "rotate" => Ok(shown::optional(alloc, read_rotate(alloc, None)?.as_ref())?),
+        "rotate" => Ok(shown::optional(alloc, read_rotate(alloc, body)?.as_ref())?),
         _ => Err(Refusal::NoObject),
+    }
+}
+
+fn of_body(alloc: Global, reader: &str, body: &Value) -> Result<String, Refusal>
+    requires { IsBody (view body.now) }
+{
+    match reader {
+        "grant" => Ok(shown::request(alloc, &read_grant(alloc, body, false)?)?),
+        "modify" => Ok(shown::request(alloc, &read_grant(alloc, body, true)?)?),
+        "introspect" => Ok(shown::introspection(alloc, &read_introspect(alloc, body)?)?),
+        "look" => Ok(shown::quoted(alloc, read_handle(alloc, body)?.as_slice())?),
+        "find_code" => Ok(shown::quoted(alloc, read_code(alloc, body)?.as_slice())?),
+        "decide" => Ok(shown::decision(alloc, &read_decide(alloc, body)?)?),
+        _ => of_body_or_none(alloc, reader, Some(body)),
     }
 }
 
@@ -61,21 +80,7 @@ fn of_text(alloc: Global, reader: &str, text: &[u8]) -> Result<String, Refusal> 
     if reader == "setup" {
         return Ok(shown::setup(alloc, &read_setup(alloc, text)?)?);
     }
-    let body = read_body(alloc, text)?;
-    match reader {
-        "grant" => Ok(shown::request(alloc, &read_grant(alloc, &body, false)?)?),
-        "modify" => Ok(shown::request(alloc, &read_grant(alloc, &body, true)?)?),
-        "introspect" => Ok(shown::introspection(alloc, &read_introspect(alloc, &body)?)?),
-        "continue" => {
-            let read = read_continue(alloc, Some(&body))?;
-            Ok(shown::optional(alloc, read.reference.as_ref())?)
-        }
-        "rotate" => Ok(shown::optional(alloc, read_rotate(alloc, Some(&body))?.as_ref())?),
-        "look" => Ok(shown::quoted(alloc, read_handle(alloc, &body)?.as_slice())?),
-        "find_code" => Ok(shown::quoted(alloc, read_code(alloc, &body)?.as_slice())?),
-        "decide" => Ok(shown::decision(alloc, &read_decide(alloc, &body)?)?),
-        _ => Err(Refusal::NoObject),
-    }
+    of_body(alloc, reader, &read_body(alloc, text)?)
 }
 
 fn read(alloc: Global, line: &str) -> Result<String, Refusal> {
@@ -84,7 +89,7 @@ fn read(alloc: Global, line: &str) -> Result<String, Refusal> {
             let text = repeated::written_out(alloc, text)?;
             of_text(alloc, reader, text.as_bytes())
         }
-        None => of_nothing(alloc, line),
+        None => of_body_or_none(alloc, line, None),
     }
 }
 

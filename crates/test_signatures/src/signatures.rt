@@ -7,23 +7,22 @@
 //! A message is its base, method, target, body and fields. What is expected was worked out by the tables of RFC 9421 and `docs/SIGNATURES.md` in another
 //! language, apart from this code.
 
-use crate::messages::{Parts, fields_from, message_in, ring, text_of};
+use crate::messages::{Parts, added, message_in, refused, ring, text_of};
 use base64::engine::general_purpose::STANDARD;
 use bytes_and_lists::bytes::Bytes;
 use bytes_and_lists::memory::Mem;
 use hmac_key::hmac;
-use message_signature::{BaseFault, SigFault, SignFault, base_of, sign, verify};
+use message_signature::{BaseFault, base_of, sign, verify};
 use std::alloc::Global;
 use structured_fields::{InnerList, Member, read_list};
 
 fn verified(alloc: Global, parts: &mut Parts) -> Result<String, Mem> {
-    let now = parts.next().unwrap_or("").parse::<u64>().unwrap_or(0);
+    let now = parts.number();
     let (base, message) = message_in(alloc, parts)?;
     let tag = Bytes::from_slice(alloc, b"gnap")?;
     match verify(alloc, &message, &base, &ring(alloc)?, now, &tag) {
         Ok(id) => text_of(alloc, id.as_slice()),
-        Err(SigFault::OutOfMemory) => Err(Mem),
-        Err(fault) => Ok(format!(in alloc; "{fault:?}")?),
+        Err(fault) => refused(alloc, fault),
     }
 }
 
@@ -35,41 +34,42 @@ fn list_in(alloc: Global, text: &[u8]) -> Option<InnerList> {
     }
 }
 
+// A signature base, and its HMAC under the secret of a key.
+fn with_code(alloc: Global, id: &str, base: &[u8]) -> Result<String, Mem> {
+    let ring = ring(alloc)?;
+    let secret = ring.find(id.as_bytes()).unwrap_or(b"");
+    let code = STANDARD.encode(alloc, &hmac(secret, base))?;
+    let mut text = text_of(alloc, base)?;
+    text.push('\n')?;
+    text.push_str(code.as_str())?;
+    Ok(text)
+}
+
 fn based(alloc: Global, parts: &mut Parts) -> Result<String, Mem> {
-    let id = parts.bytes(alloc)?;
-    let list = list_in(alloc, parts.bytes(alloc)?.as_slice());
-    let (base, message) = message_in(alloc, parts)?;
-    let Some(list) = list else {
-        return Ok(format!(in alloc; "no list")?);
+    let id = parts.text();
+    let Some(list) = list_in(alloc, parts.text().as_bytes()) else {
+        return Ok(String::from_str(alloc, "no list")?);
     };
+    let (base, message) = message_in(alloc, parts)?;
     match base_of(alloc, &message, &base, &list) {
-        Ok(text) => {
-            let ring = ring(alloc)?;
-            let secret = ring.find(id.as_slice()).unwrap_or(b"");
-            let code = STANDARD.encode(alloc, &hmac(secret, text.as_slice()))?;
-            let text = text_of(alloc, text.as_slice())?;
-            Ok(format!(in alloc; "{text}\n{code}")?)
-        }
-        Err(BaseFault::Unsupported) => Ok(format!(in alloc; "Unsupported")?),
+        Ok(text) => with_code(alloc, id, text.as_slice()),
+        Err(BaseFault::Unsupported) => Ok(String::from_str(alloc, "Unsupported")?),
         Err(BaseFault::OutOfMemory) => Err(Mem),
     }
 }
 
 fn signed(alloc: Global, parts: &mut Parts) -> Result<String, Mem> {
-    let created = parts.next().unwrap_or("").parse::<u64>().unwrap_or(0);
+    let created = parts.number();
     let (base, mut message) = message_in(alloc, parts)?;
     if created > 253_402_300_799 {
-        return Ok(format!(in alloc; "no moment")?);
+        return Ok(String::from_str(alloc, "no moment")?);
     }
     let before = message.fields.len();
     let id = Bytes::from_slice(alloc, b"c1")?;
     let secret = Bytes::from_slice(alloc, b"secret-key-of-c1")?;
     let tag = Bytes::from_slice(alloc, b"gnap")?;
-    match sign(alloc, &mut message, &base, &id, &secret, created, &tag) {
-        Ok(()) => fields_from(alloc, &message.fields, before),
-        Err(SignFault::HasSignature) => Ok(format!(in alloc; "HasSignature")?),
-        Err(SignFault::OutOfMemory) => Err(Mem),
-    }
+    let outcome = sign(alloc, &mut message, &base, &id, &secret, created, &tag);
+    added(alloc, outcome, &message, before)
 }
 
 /// What verifying, the signature base or signing gives for a line's message.
@@ -79,6 +79,6 @@ pub fn answer(alloc: Global, line: &str) -> Result<String, Mem> {
         Some("verify") => verified(alloc, &mut parts),
         Some("base") => based(alloc, &mut parts),
         Some("sign") => signed(alloc, &mut parts),
-        _ => Ok(format!(in alloc; "no such line")?),
+        _ => Ok(String::from_str(alloc, "no such line")?),
     }
 }

@@ -5,6 +5,7 @@ use bytes_and_lists::bytes::Bytes;
 use bytes_and_lists::memory::Mem;
 use bytes_and_lists::message::{Field, Fields, Message};
 use hmac_key::Keyring;
+use message_signature::{SigFault, SignFault};
 use std::alloc::Global;
 
 // The keys of the table. The last is that of RFC 9421, appendix B.1.5.
@@ -42,9 +43,25 @@ impl<'a> Parts<'a> {
         }
     }
 
-    pub fn bytes(&mut self, alloc: Global) -> Result<Bytes, Mem> {
-        Bytes::from_slice(alloc, self.next().unwrap_or("").as_bytes())
+    pub fn text(&mut self) -> &'a str {
+        self.next().unwrap_or("")
     }
+
+    pub fn bytes(&mut self, alloc: Global) -> Result<Bytes, Mem> {
+        Bytes::from_slice(alloc, self.text().as_bytes())
+    }
+
+    pub fn number(&mut self) -> u64 {
+        self.text().parse::<u64>().unwrap_or(0)
+    }
+}
+
+fn field_of(alloc: Global, part: &str) -> Result<Field, Mem> {
+    let (name, value) = part.split_once(": ").unwrap_or((part, ""));
+    Ok(Field {
+        name: Bytes::from_slice(alloc, name.as_bytes())?,
+        value: Bytes::from_slice(alloc, value.as_bytes())?,
+    })
 }
 
 fn fields_in(alloc: Global, parts: &mut Parts) -> Result<Fields, Mem> {
@@ -53,11 +70,7 @@ fn fields_in(alloc: Global, parts: &mut Parts) -> Result<Fields, Mem> {
         let Some(part) = parts.next() else {
             return Ok(fields);
         };
-        let (name, value) = part.split_once(": ").unwrap_or((part, ""));
-        fields.push(Field {
-            name: Bytes::from_slice(alloc, name.as_bytes())?,
-            value: Bytes::from_slice(alloc, value.as_bytes())?,
-        })?;
+        fields.push(field_of(alloc, part)?)?;
     }
     Ok(fields)
 }
@@ -75,17 +88,23 @@ pub fn message_in(alloc: Global, parts: &mut Parts) -> Result<(Bytes, Message), 
     Ok((base, message))
 }
 
+// The secret stands in base64.
+fn add_key(alloc: Global, ring: &mut Keyring, id: &str, secret: &str) -> Result<(), Mem> {
+    let Ok(secret) = STANDARD.decode(alloc, secret.as_bytes()) else {
+        return Err(Mem);
+    };
+    ring.add(
+        &Bytes::from_slice(alloc, id.as_bytes())?,
+        &Bytes::from_vec(secret),
+    )?;
+    Ok(())
+}
+
 /// The ring of these keys.
 pub fn ring(alloc: Global) -> Result<Keyring, Mem> {
     let mut ring = Keyring::new(alloc);
     for (id, secret) in KEYS {
-        let Ok(secret) = STANDARD.decode(alloc, secret.as_bytes()) else {
-            return Err(Mem);
-        };
-        ring.add(
-            &Bytes::from_slice(alloc, id.as_bytes())?,
-            &Bytes::from_vec(secret),
-        )?;
+        add_key(alloc, &mut ring, id, secret)?;
     }
     Ok(ring)
 }
@@ -94,16 +113,44 @@ pub fn text_of(alloc: Global, bytes: &[u8]) -> Result<String, Mem> {
     Ok(String::from_str(alloc, std::str::from_utf8(bytes).unwrap_or("no text"))?)
 }
 
-/// The fields from a place on, one a line.
-pub fn fields_from(alloc: Global, fields: &Fields, from: usize) -> Result<String, Mem> {
+// Appends the field, on a line of its own.
+fn push_field(alloc: Global, out: &mut String, field: &Field) -> Result<(), Mem> {
+    if !out.is_empty() {
+        out.push('\n')?;
+    }
+    out.push_str(text_of(alloc, field.name.as_slice())?.as_str())?;
+    out.push_str(": ")?;
+    out.push_str(text_of(alloc, field.value.as_slice())?.as_str())?;
+    Ok(())
+}
+
+// The fields from a place on, one a line.
+fn fields_from(alloc: Global, fields: &Fields, from: usize) -> Result<String, Mem> {
     let mut out = String::new(alloc);
     for field in fields.as_slice().iter().skip(from) {
-        if !out.is_empty() {
-            out.push('\n')?;
-        }
-        out.push_str(text_of(alloc, field.name.as_slice())?.as_str())?;
-        out.push_str(": ")?;
-        out.push_str(text_of(alloc, field.value.as_slice())?.as_str())?;
+        push_field(alloc, &mut out, field)?;
     }
     Ok(out)
+}
+
+/// What signing came to: the fields that it added behind so many, or why it added none.
+pub fn added(
+    alloc: Global,
+    outcome: Result<(), SignFault>,
+    message: &Message,
+    before: usize,
+) -> Result<String, Mem> {
+    match outcome {
+        Ok(()) => fields_from(alloc, &message.fields, before),
+        Err(SignFault::HasSignature) => Ok(String::from_str(alloc, "HasSignature")?),
+        Err(SignFault::OutOfMemory) => Err(Mem),
+    }
+}
+
+/// Why a signature doesn't pass.
+pub fn refused(alloc: Global, fault: SigFault) -> Result<String, Mem> {
+    match fault {
+        SigFault::OutOfMemory => Err(Mem),
+        fault => Ok(format!(in alloc; "{fault:?}")?),
+    }
 }

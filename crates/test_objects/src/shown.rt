@@ -20,11 +20,12 @@ pub fn optional(alloc: Global, text: Option<&Bytes>) -> Result<String, AllocErro
     }
 }
 
-// The number of rights, the label, and whether a bearer token is asked for.
-fn ask(alloc: Global, ask: &Ask) -> Result<String, AllocError> {
+// Appends the number of rights, the label, and whether a bearer token is asked for.
+fn push_ask(alloc: Global, text: &mut String, ask: &Ask) -> Result<(), AllocError> {
     let label = optional(alloc, ask.label.as_ref())?;
     let bearer = if ask.bearer { "bearer" } else { "bound" };
-    format!(in alloc; "{} {label} {bearer}", ask.rights.len())
+    let told = format!(in alloc; ": {} {label} {bearer}", ask.rights.len())?;
+    text.push_str(told.as_str())
 }
 
 fn modes(alloc: Global, modes: &Modes) -> Result<String, AllocError> {
@@ -67,8 +68,7 @@ pub fn request(alloc: Global, request: &GrantRequest) -> Result<String, AllocErr
         "client {client} {named}; subject {subject}; user {user}; interact {modes}; {form}"
     )?;
     for asked in request.asks.as_slice() {
-        text.push_str(": ")?;
-        text.push_str(ask(alloc, asked)?.as_str())?;
+        push_ask(alloc, &mut text, asked)?;
     }
     Ok(text)
 }

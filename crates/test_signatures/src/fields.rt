@@ -1,6 +1,7 @@
 //! The table of structured fields. A line is the kind of a field (`item`, `list` or `dictionary`) and, behind one space, its text. Told is the canonical
 //! text, or `not in the grammar`. What is expected was worked out from RFC 9651, section 4, beside this repository.
 
+use crate::messages::text_of;
 use bytes_and_lists::bytes::Bytes;
 use bytes_and_lists::memory::Mem;
 use std::alloc::Global;
@@ -20,14 +21,11 @@ fn canonical(alloc: Global, kind: &str, text: &[u8]) -> Result<Bytes, FieldFault
 /// What a line's field comes to.
 pub fn answer(alloc: Global, line: &str) -> Result<String, Mem> {
     let Some((kind, text)) = line.split_once(' ') else {
-        return Ok(format!(in alloc; "no kind")?);
+        return Ok(String::from_str(alloc, "no kind")?);
     };
     match canonical(alloc, kind, text.as_bytes()) {
-        Ok(out) => match std::str::from_utf8(out.as_slice()) {
-            Ok(printed) => Ok(format!(in alloc; "{printed}")?),
-            Err(_) => Ok(format!(in alloc; "no text")?),
-        },
-        Err(FieldFault::NotInGrammar) => Ok(format!(in alloc; "not in the grammar")?),
+        Ok(out) => text_of(alloc, out.as_slice()),
+        Err(FieldFault::NotInGrammar) => Ok(String::from_str(alloc, "not in the grammar")?),
         Err(FieldFault::OutOfMemory) => Err(Mem),
     }
 }

@@ -1,9 +1,6 @@
-"""Writes ../stdin, four tables, and ../stdout, what must come of each line.
+"""Writes ../stdin, a table of JSON texts, and ../stdout, what each reader gives of them, told here by docs/FORMATS.md, without the program.
 
-fields.txt and signatures.txt hold two of them: each line, and behind it what must come of it in lines that begin with a tab. The third is that
-of marks (signature_marks.py), and the fourth a table of JSON texts; what each reader gives of them is told here by docs/FORMATS.md, without the program.
-
-Run it anew where a rule or a case changes: python3 crates/test_tables/expected/write.py
+Run it anew where a rule or a case changes: python3 crates/test_objects/expected/write.py
 """
 
 import re
@@ -14,7 +11,6 @@ HERE = Path(__file__).resolve().parent
 sys.path.insert(0, str(HERE.parent.parent / "test_worlds" / "expected"))
 
 import json_forms
-import signature_marks
 import object_cases
 from json_forms import Fault, KeyFault, NotJson
 
@@ -113,30 +109,10 @@ def answer(line):
         return str(fault)
 
 
-def held(name):
-    """Each line of a table that is held as a text, with the lines that must come of it."""
-    lines = (HERE / name).read_text(encoding="utf-8").split("\n")[:-1]
-    places = [place for place, line in enumerate(lines) if not line.startswith("\t")]
-    for place, end in zip(places, places[1:] + [len(lines)]):
-        yield lines[place], [line[1:] for line in lines[place + 1:end]]
-
-
-def rows():
-    """Each line of the four tables, with the lines that must come of it."""
-    for table, name in (("field", "fields.txt"), ("signature", "signatures.txt")):
-        for line, answers in held(name):
-            yield f"{table} {line}", answers
-    for line, answers in signature_marks.rows():
-        yield f"mark {line}", answers
-    for line in object_cases.lines():
-        yield f"object {line}", [answer(line)]
-
-
 def main():
-    table = list(rows())
-    lines = [line for line, _ in table]
-    assert len(set(lines)) == len(lines) and all(answers for _, answers in table)
-    for name, written in (("stdin", lines), ("stdout", [line for _, answers in table for line in answers])):
+    lines = list(object_cases.lines())
+    assert len(set(lines)) == len(lines)
+    for name, written in (("stdin", lines), ("stdout", [answer(line) for line in lines])):
         (HERE.parent / name).write_text("".join(line + "\n" for line in written), encoding="utf-8")
 
 
