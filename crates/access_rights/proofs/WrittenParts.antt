@@ -11,25 +11,18 @@ use Rattle.serde_json.specs.View.{view, members_view}
 use Rattle.serde_json.specs.Written.{blank_members, members_outline, WritesValue, WritesItems, WritesMembers}
 use Rattle.serde_json.proofs.Views.{Entry}
 
+behind : (first : Token) (old begun inner new : List Token) → begun ≡ old ++ first ∷ [] → new ≡ begun ++ inner → new ≡ old ++ first ∷ inner
+behind first old begun inner new opened rest = rest ∙ ap (λ ts. ts ++ inner) opened ∙ append_assoc old (first ∷ []) inner
+
 pub array_written : (ds : Items) (d : Data) (old begun new : List Token) → d ≡ array ds → begun ≡ old ++ begin_array ∷ []
     → WritesItems ds begun new → WritesValue d old new
-array_written ds d old begun new seen opened w = subst (λ e. WritesValue e old new) (sym seen) (
-  json.array w.0,
-  w.1 ∙ ap (λ ts. ts ++ tree.items_tokens w.0) opened ∙ append_assoc old _ _,
-  ap (option_map array) w.2,
-  omega (arith, w.3),
-  ap json.array w.4,
-)
+array_written ds d old begun new seen opened w = subst (λ e. WritesValue e old new) (sym seen)
+    (json.array w.0, behind begin_array old begun (tree.items_tokens w.0) new opened w.1, ap (option_map array) w.2, omega (arith, w.3), ap json.array w.4)
 
 pub object_written : (ms : Members) (d : Data) (old begun new : List Token) → d ≡ object ms → begun ≡ old ++ begin_object ∷ []
     → WritesMembers ms begun new → WritesValue d old new
-object_written ms d old begun new seen opened w = subst (λ e. WritesValue e old new) (sym seen) (
-  json.object w.0,
-  w.1 ∙ ap (λ ts. ts ++ tree.members_tokens w.0) opened ∙ append_assoc old _ _,
-  ap (option_map object) w.2,
-  omega (arith, w.3),
-  ap json.object w.4,
-)
+object_written ms d old begun new seen opened w = subst (λ e. WritesValue e old new) (sym seen)
+    (json.object w.0, behind begin_object old begun (tree.members_tokens w.0) new opened w.1, ap (option_map object) w.2, omega (arith, w.3), ap json.object w.4)
 
 pub item_written : (d : Data) (ds : Items) (old mid new : List Token) → WritesValue d old mid → WritesItems ds mid new → WritesItems (item d ds) old new
 item_written d ds old mid new w rest = (
