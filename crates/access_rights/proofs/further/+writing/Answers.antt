@@ -50,7 +50,8 @@ write_items-loop-item-preserved t c =
     let x = c.item-item.result in
     let here : drop l.item-index xs ≡ x ∷ drop (l.item-index + 1) xs = drop_more xs l.item-index x (omega arith) ∙ ap (λ y. y ∷ drop (l.item-index + 1) xs) (sym c.item-item.is) in (
       c.write_value.ensures.before ∙ l.invariant.0,
-      λ end rest. l.invariant.1 end (subst (λ ys. WritesItems (items_view ys) l.out.tokens end) (sym here) (item_written _ _ l.out.tokens _ end c.in_ok-write_value.ensures.ok rest)),
+      λ end rest. l.invariant.1 end (subst (λ ys. WritesItems (items_view ys) l.out.tokens end) (sym here)
+          (item_written _ _ l.out.tokens _ end c.in_ok-write_value.ensures.ok rest)),
     )
 
 pub write_items-returns-clause-ok : goal.write_items-returns-clause-ok
@@ -70,7 +71,8 @@ write_members-loop-key-preserved t c =
     let left = c.next.new.self in
     let named : c.key.new.self.tokens ≡ l.out.tokens ++ key (string_bytes e.0) ∷ [] = search rules in (
       search rules,
-      member_written (λ ms. ms) _ _ _ _ l.invariant.1 e left _ _ c.in-Some.ensures.steps c.iter-key-items.ensures.ordered refl (λ done. put_last done e left) named c.in_ok-write_value.ensures.ok,
+      member_written (λ ms. ms) _ _ _ _ l.invariant.1 e left _ _ c.in-Some.ensures.steps c.iter-key-items.ensures.ordered refl
+          (λ done. put_last done e left) named c.in_ok-write_value.ensures.ok,
     )
 
 pub write_members-returns-clause-ok : goal.write_members-returns-clause-ok

@@ -12,4 +12,5 @@ invariant-write_items-loop-item l =
     × ((end : List Token) → WritesItems (items_view (drop l.item-index l.item-items)) l.out.tokens end → WritesItems (items_view l.item-items) l.initial.out.tokens end)
 
 abbrev pub invariant-write_members-loop-key : goal.invariant-write_members-loop-key
-invariant-write_members-loop-key l = (l.out.before ≡ l.initial.out.before) × EndsMembers (λ ms. ms) l.members.entries l.key-iterator l.initial.out.tokens l.out.tokens
+invariant-write_members-loop-key l =
+    (l.out.before ≡ l.initial.out.before) × EndsMembers (λ ms. ms) l.members.entries l.key-iterator l.initial.out.tokens l.out.tokens

@@ -37,7 +37,8 @@ loop-key-preserved c =
       (
         ends.0 ++ e ∷ [],
         ends.1 ∙ ap (λ es. ends.0 ++ es) step ∙ sym (append_assoc ends.0 (e ∷ []) left),
-        λ ms reads shallow same. ends.2 ms (ap (of_members ms) (sym (others_skip ends.0 e own)) ∙ reads) (omega (arith, shallow, ap members_depth ahead)) (same ∙ ap members_outline (sym ahead)),
+        λ ms reads shallow same. ends.2 ms (ap (of_members ms) (sym (others_skip ends.0 e own)) ∙ reads) (omega (arith, shallow, ap members_depth ahead))
+            (same ∙ ap members_outline (sym ahead)),
       ),
     )
 
