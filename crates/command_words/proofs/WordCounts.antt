@@ -1,6 +1,5 @@
 -- Words that aren't as many as a command takes, and words that are.
-use Rattle.std.proofs.Common.{◌≡◌, ℕ, List, [], ◌∷◌, length, map, Bool, true, false, Option, Some, None, Result, ◌∙◌, refl, ap, sym, subst}
-use Rattle.std.proofs.lemmas.List.{length-map}
+use Rattle.std.proofs.Common.{◌≡◌, ℕ, List, [], ◌∷◌, length, Bool, true, false, Option, Some, None, Result, ◌∙◌, refl, ap, sym, subst}
 use Rattle.std.specs.Prelude.{◌==◌, codes, option_map, if◌then◌else◌}
 use Rattle.std.specs.Option.{option_or}
 use Rattle.std.specs.Str.{bytes_eq}
@@ -12,7 +11,7 @@ use Rattle.command_words.specs.declared.command.Service.TheVariants.{Grants, Der
 use Rattle.command_words.specs.declared.command.ServedSetup.{ServedSetup}
 use Rattle.command_words.specs.declared.wrong_words.WrongWords.{WrongWords}
 use Rattle.command_words.specs.declared.wrong_words.WrongWords.TheVariants.{NoCommand, Count, Word, OutOfMemory}
-use Rattle.command_words.specs.Commands.{AreRead, AreWrong, replay_of, field_of, with_three, with_four, with_five, sign_words, marked_sign_words, five_or_four, verify_words, is_argument, served_setup, service_words, deriving_words, rs_words, cached_rs_words, client_words, hash_of, load_words, counts_of, count_among, command_named}
+use Rattle.command_words.specs.Commands.{AreRead, AreWrong, replay_of, field_of, with_three, with_four, with_five, sign_words, marked_sign_words, sign_of, verify_words, is_argument, served_setup, service_words, deriving_words, as_of, rs_words, cached_rs_words, rs_of, client_words, hash_of, load_words, counts_of, count_among, command_named}
 
 no_replay : (words : List (List ℕ)) → exactly 1 words ≡ None → replay_of words ≡ None
 no_replay [] is = refl
@@ -83,42 +82,26 @@ at : (n least most : ℕ) (words : List (List ℕ)) → ◌≡◌ {A = Option (�
 at n least most words is none =
     subst (λ m. exactly m words ≡ None) (one_count n (length words == n)) (same_counts n n least most words is none)
 
--- five words aren't four, and others aren't five
-no_four : (f : List ℕ → List ℕ → List ℕ → List ℕ → Option Command) (words : List (List ℕ)) → length words ≡ 5 → with_four f words ≡ None
-no_four f [] is = refl
-no_four f (a ∷ []) is = refl
-no_four f (a ∷ b ∷ []) is = refl
-no_four f (a ∷ b ∷ c ∷ []) is = refl
-no_four f (a ∷ b ∷ c ∷ d ∷ []) is = cc
-no_four f (a ∷ b ∷ c ∷ d ∷ e ∷ words) is = refl
-
-no_five : (f : List ℕ → List ℕ → List ℕ → List ℕ → List ℕ → Option Command) (words : List (List ℕ)) → (length words ≡ 5 → ⊥) → with_five f words ≡ None
-no_five f [] other = refl
-no_five f (a ∷ []) other = refl
-no_five f (a ∷ b ∷ []) other = refl
-no_five f (a ∷ b ∷ c ∷ []) other = refl
-no_five f (a ∷ b ∷ c ∷ d ∷ []) other = refl
-no_five f (a ∷ b ∷ c ∷ d ∷ e ∷ []) other = absurd (other refl)
-no_five f (a ∷ b ∷ c ∷ d ∷ e ∷ g ∷ words) other = refl
-
 -- four words, or five
 module _ (five : List ℕ → List ℕ → List ℕ → List ℕ → List ℕ → Option Command) (four : List ℕ → List ℕ → List ℕ → List ℕ → Option Command) where
-  pub by_five : {X : Type 0} (to : X → List ℕ) (result : Result Command WrongWords) (xs : List X) → length xs ≡ 5
-      → AreRead result (map to xs) (with_five five (map to xs)) → AreRead result (map to xs) (five_or_four five four (map to xs))
-  by_five to result xs many read =
-      let plain : with_four four (map to xs) ≡ None = no_four four (map to xs) (length-map xs to ∙ many) in
-      let same : five_or_four five four (map to xs) ≡ with_five five (map to xs) =
-      ap (option_or (with_five five (map to xs))) plain ∙ or_none (with_five five (map to xs)) in
-      subst (AreRead result (map to xs)) (sym same) read
+  abbrev either : List (List ℕ) → Option Command
+  either words = option_or (with_five five words) (with_four four words)
 
-  pub by_four : {X : Type 0} (to : X → List ℕ) (result : Result Command WrongWords) (xs : List X) → (length xs ≡ 5 → ⊥)
-      → AreRead result (map to xs) (with_four four (map to xs)) → AreRead result (map to xs) (five_or_four five four (map to xs))
-  by_four to result xs other read =
-      let none : with_five five (map to xs) ≡ None = no_five five (map to xs) (λ many. other (sym (length-map xs to) ∙ many)) in
-      let same : five_or_four five four (map to xs) ≡ with_four four (map to xs) = ap (λ r. option_or r (with_four four (map to xs))) none in
-      subst (AreRead result (map to xs)) (sym same) read
+  by_five : (result : Result Command WrongWords) (words : List (List ℕ)) (a b c d e : List ℕ) → words ≡ a ∷ b ∷ c ∷ d ∷ e ∷ []
+      → AreRead result words (with_five five words) → AreRead result words (either words)
+  by_five result words a b c d e is read =
+      let plain : with_four four words ≡ None = ap (with_four four) is in
+      let same : either words ≡ with_five five words = ap (option_or (with_five five words)) plain ∙ or_none (with_five five words) in
+      subst (AreRead result words) (sym same) read
 
-  neither : (words : List (List ℕ)) → exactly (count_among 4 5 (length words)) words ≡ None → five_or_four five four words ≡ None
+  by_four : (result : Result Command WrongWords) (words : List (List ℕ))
+      → ((f : List ℕ → List ℕ → List ℕ → List ℕ → List ℕ → Option Command) → with_five f words ≡ None)
+      → AreRead result words (with_four four words) → AreRead result words (either words)
+  by_four result words none read =
+      let same : either words ≡ with_four four words = ap (λ r. option_or r (with_four four words)) (none five) in
+      subst (AreRead result words) (sym same) read
+
+  neither : (words : List (List ℕ)) → exactly (count_among 4 5 (length words)) words ≡ None → either words ≡ None
   neither [] is = refl
   neither (a ∷ []) is = refl
   neither (a ∷ b ∷ []) is = refl
@@ -128,7 +111,7 @@ module _ (five : List ℕ → List ℕ → List ℕ → List ℕ → List ℕ �
   neither (a ∷ b ∷ c ∷ d ∷ e ∷ f ∷ words) is = refl
 
   either_miscount : (least most : ℕ) (words : List (List ℕ)) → ◌≡◌ {A = Option (ℕ × ℕ)} (Some (4, 5)) (Some (least, most))
-      → IsMiscount least most words → five_or_four five four words ≡ None
+      → IsMiscount least most words → either words ≡ None
   either_miscount least most words is none = neither words (same_counts 4 5 least most words is none)
 
 -- words that are wrong for a reading are wrong for what is made of it
@@ -167,6 +150,36 @@ module _ (words : List (List ℕ)) (a b c d e : List ℕ) (are : words ≡ a ∷
       ap (with_five deriving_words) are ∙ ap with_pairs is
       ∙ ap (λ b. if b then Some (Serve (Derivations e) served) else None) argument
 
+-- what five words are read as, and what others are
+pub of_five : (result : Result Command WrongWords) (words : List (List ℕ)) (a b c d e : List ℕ) → words ≡ a ∷ b ∷ c ∷ d ∷ e ∷ []
+    → AreRead result words (with_five marked_sign_words words) → AreRead result words (sign_of words)
+of_five = by_five marked_sign_words sign_words
+
+pub of_four : (result : Result Command WrongWords) (words : List (List ℕ))
+    → ((f : List ℕ → List ℕ → List ℕ → List ℕ → List ℕ → Option Command) → with_five f words ≡ None)
+    → AreRead result words (with_four sign_words words) → AreRead result words (sign_of words)
+of_four = by_four marked_sign_words sign_words
+
+-- the same of an authorization server
+pub as_of_five : (result : Result Command WrongWords) (words : List (List ℕ)) (a b c d e : List ℕ) → words ≡ a ∷ b ∷ c ∷ d ∷ e ∷ []
+    → AreRead result words (with_five deriving_words words) → AreRead result words (as_of words)
+as_of_five = by_five deriving_words (service_words Grants)
+
+pub as_of_four : (result : Result Command WrongWords) (words : List (List ℕ))
+    → ((f : List ℕ → List ℕ → List ℕ → List ℕ → List ℕ → Option Command) → with_five f words ≡ None)
+    → AreRead result words (with_four (service_words Grants) words) → AreRead result words (as_of words)
+as_of_four = by_four deriving_words (service_words Grants)
+
+-- and of a resource server
+pub rs_of_five : (result : Result Command WrongWords) (words : List (List ℕ)) (a b c d e : List ℕ) → words ≡ a ∷ b ∷ c ∷ d ∷ e ∷ []
+    → AreRead result words (with_five cached_rs_words words) → AreRead result words (rs_of words)
+rs_of_five = by_five cached_rs_words rs_words
+
+pub rs_of_four : (result : Result Command WrongWords) (words : List (List ℕ))
+    → ((f : List ℕ → List ℕ → List ℕ → List ℕ → List ℕ → Option Command) → with_five f words ≡ None)
+    → AreRead result words (with_four rs_words words) → AreRead result words (rs_of words)
+rs_of_four = by_four cached_rs_words rs_words
+
 -- how many words there have to be, and what they are read as, by whether the name is each of those
 abbrev number_by : (a b c d e f g h i j : Bool) → Option (ℕ × ℕ)
 number_by a b c d e f g h i j =
@@ -175,8 +188,8 @@ number_by a b c d e f g h i j =
 
 abbrev reading_by : (a b c d e f g h i j : Bool) → List (List ℕ) → Option Command
 reading_by a b c d e f g h i j words =
-    if a then replay_of words else if b then field_of words else if c then five_or_four marked_sign_words sign_words words else if d then with_three verify_words words
-    else if e then five_or_four deriving_words (service_words Grants) words else if f then with_four (service_words Sets) words else if g then five_or_four cached_rs_words rs_words words else if h then with_three client_words words
+    if a then replay_of words else if b then field_of words else if c then sign_of words else if d then with_three verify_words words
+    else if e then as_of words else if f then with_four (service_words Sets) words else if g then rs_of words else if h then with_three client_words words
     else if i then hash_of words else if j then with_three load_words words else None
 
 counted : (a b c d e f g h i j : Bool) (least most : ℕ) (words : List (List ℕ))

@@ -65,11 +65,6 @@ abbrev pub with_five : (List ℕ → List ℕ → List ℕ → List ℕ → List
 with_five f (first ∷ second ∷ third ∷ fourth ∷ fifth ∷ []) = f first second third fourth fifth
 with_five f _ = None
 
--- five words, or four
-abbrev pub five_or_four : (List ℕ → List ℕ → List ℕ → List ℕ → List ℕ → Option Command) → (List ℕ → List ℕ → List ℕ → List ℕ → Option Command)
-    → List (List ℕ) → Option Command
-five_or_four five four words = option_or (with_five five words) (with_four four words)
-
 abbrev pub sign_words : List ℕ → List ℕ → List ℕ → List ℕ → Option Command
 sign_words config key created file =
     if are_arguments (config ∷ key ∷ file ∷ []) then option_map (λ moment. Sign config key moment file None) (moment_of created) else None
@@ -78,6 +73,10 @@ abbrev pub marked_sign_words : List ℕ → List ℕ → List ℕ → List ℕ �
 marked_sign_words config key created file nonce =
     if are_arguments (config ∷ key ∷ file ∷ []) && is_nonce_word nonce
     then option_map (λ moment. Sign config key moment file (Some nonce)) (moment_of created) else None
+
+-- four words, or five
+abbrev pub sign_of : List (List ℕ) → Option Command
+sign_of words = option_or (with_five marked_sign_words words) (with_four sign_words words)
 
 abbrev pub verify_words : List ℕ → List ℕ → List ℕ → Option Command
 verify_words config now file = if are_arguments (config ∷ file ∷ []) then option_map (λ moment. Verify config moment file) (moment_of now) else None
@@ -98,6 +97,10 @@ service_words service config listen workers quota = option_map (Serve service) (
 abbrev pub deriving_words : List ℕ → List ℕ → List ℕ → List ℕ → List ℕ → Option Command
 deriving_words config listen workers quota pairs = if is_argument pairs then service_words (Derivations pairs) config listen workers quota else None
 
+-- four words, or five
+abbrev pub as_of : List (List ℕ) → Option Command
+as_of words = option_or (with_five deriving_words words) (with_four (service_words Grants) words)
+
 -- at most 1,000,000 connections, and with a cache 1 to 16,384 replies
 abbrev pub rs_words : List ℕ → List ℕ → List ℕ → List ℕ → Option Command
 rs_words config listen server quota =
@@ -107,6 +110,10 @@ abbrev pub cached_rs_words : List ℕ → List ℕ → List ℕ → List ℕ →
 cached_rs_words config listen server quota cache =
     if are_arguments (config ∷ listen ∷ server ∷ [])
     then option_and_then (λ most. option_map (λ n. Rs config listen server most (Some n)) (number_within 1 16384 cache)) (number_within 0 1000000 quota) else None
+
+-- four words, or five
+abbrev pub rs_of : List (List ℕ) → Option Command
+rs_of words = option_or (with_five cached_rs_words words) (with_four rs_words words)
 
 abbrev pub client_words : List ℕ → List ℕ → List ℕ → Option Command
 client_words config address script = if are_arguments (config ∷ address ∷ script ∷ []) then Some (Client config address script) else None
@@ -150,11 +157,11 @@ abbrev pub command_named : List ℕ → List (List ℕ) → Option Command
 command_named name arguments =
     if bytes_eq name (codes "replay") then replay_of arguments
     else if bytes_eq name (codes "field") then field_of arguments
-    else if bytes_eq name (codes "sign") then five_or_four marked_sign_words sign_words arguments
+    else if bytes_eq name (codes "sign") then sign_of arguments
     else if bytes_eq name (codes "verify") then with_three verify_words arguments
-    else if bytes_eq name (codes "as") then five_or_four deriving_words (service_words Grants) arguments
+    else if bytes_eq name (codes "as") then as_of arguments
     else if bytes_eq name (codes "sets") then with_four (service_words Sets) arguments
-    else if bytes_eq name (codes "rs") then five_or_four cached_rs_words rs_words arguments
+    else if bytes_eq name (codes "rs") then rs_of arguments
     else if bytes_eq name (codes "client") then with_three client_words arguments
     else if bytes_eq name (codes "hash") then hash_of arguments
     else if bytes_eq name (codes "load") then with_three load_words arguments

@@ -1,6 +1,6 @@
 //! The commands, and which of them words are.
 ghost use Rattle.std.specs.Prelude.{◌≡◌, ◌≤◌, ◌⊎◌, ℕ, List, Option, Some, None, false, true, drop, [], ◌∷◌, IfOk, IfErr, IfSome, IfNone, map, string_bytes};
-ghost use Rattle.command_words.specs.Commands.{AreRead, IsWithinRanges, is_argument, is_nonce_word, kind_of, replay_of, field_of, with_three, with_four, with_five, sign_words, marked_sign_words, verify_words, AreFewWorkers, served_setup, service_words, deriving_words, rs_words, cached_rs_words, client_words, long_method, hash_of, load_words, counts_of, count_among, command_named, command_of};
+ghost use Rattle.command_words.specs.Commands.{AreRead, IsWithinRanges, is_argument, is_nonce_word, kind_of, replay_of, field_of, with_three, with_four, with_five, sign_words, marked_sign_words, sign_of, verify_words, AreFewWorkers, served_setup, service_words, deriving_words, as_of, rs_words, cached_rs_words, rs_of, client_words, long_method, hash_of, load_words, counts_of, count_among, command_named, command_of};
 ghost use Rattle.message_signature.specs.Marks.{is_nonce};
 ghost use Rattle.command_words.specs.Numbers.{number_within};
 ghost use Rattle.command_words.specs.declared.wrong_words.WrongWords.TheVariants.{Word, OutOfMemory};
@@ -238,6 +238,18 @@ fn marked_sign_of(alloc: Global, words: &[String]) -> Result<Command, WrongWords
     Ok(Command::Sign(config, key, created, file, Some(nonce)))
 }
 
+// Four words, or five with a nonce.
+#[tactic(auto, using(crate::proofs::WordCounts::of_five, crate::proofs::WordCounts::of_four))]
+fn sign_of(alloc: Global, words: &[String]) -> Result<Command, WrongWords>
+    ensures read { AreRead result (map string_bytes words.now) (sign_of (map string_bytes words.now)) }
+    ensures ranges { IfOk result IsWithinRanges }
+{
+    match five(words) {
+        Some(_) => marked_sign_of(alloc, words),
+        None => plain_sign_of(alloc, words),
+    }
+}
+
 fn verify_of(alloc: Global, words: &[String]) -> Result<Command, WrongWords>
     ensures read { AreRead result (map string_bytes words.now) (with_three verify_words (map string_bytes words.now)) }
     ensures ranges { IfOk result IsWithinRanges }
@@ -297,6 +309,18 @@ fn deriving_as_of(alloc: Global, words: &[String]) -> Result<Command, WrongWords
     Ok(Command::Serve(Service::Derivations(pairs), served))
 }
 
+// Four words, or five with pairs.
+#[tactic(auto, using(crate::proofs::WordCounts::as_of_five, crate::proofs::WordCounts::as_of_four))]
+fn as_of(alloc: Global, words: &[String]) -> Result<Command, WrongWords>
+    ensures read { AreRead result (map string_bytes words.now) (as_of (map string_bytes words.now)) }
+    ensures ranges { IfOk result IsWithinRanges }
+{
+    match five(words) {
+        Some(_) => deriving_as_of(alloc, words),
+        None => service_of(alloc, Service::Grants, words),
+    }
+}
+
 // At most 1,000,000 connections.
 fn plain_rs_of(alloc: Global, words: &[String]) -> Result<Command, WrongWords>
     ensures read { AreRead result (map string_bytes words.now) (with_four rs_words (map string_bytes words.now)) }
@@ -326,6 +350,18 @@ fn cached_rs_of(alloc: Global, words: &[String]) -> Result<Command, WrongWords>
     let quota = number(3, WordForm::Connections, quota, 0, 1_000_000)?;
     let cache = number(4, WordForm::Replies, cache, 1, 16_384)?;
     Ok(Command::Rs(config, listen, server, quota as u32, Some(cache as usize)))
+}
+
+// Four words, or five with a cache.
+#[tactic(auto, using(crate::proofs::WordCounts::rs_of_five, crate::proofs::WordCounts::rs_of_four))]
+fn rs_of(alloc: Global, words: &[String]) -> Result<Command, WrongWords>
+    ensures read { AreRead result (map string_bytes words.now) (rs_of (map string_bytes words.now)) }
+    ensures ranges { IfOk result IsWithinRanges }
+{
+    match five(words) {
+        Some(_) => cached_rs_of(alloc, words),
+        None => plain_rs_of(alloc, words),
+    }
 }
 
 fn client_of(alloc: Global, words: &[String]) -> Result<Command, WrongWords>
@@ -416,14 +452,11 @@ fn command_named(alloc: Global, name: &str, words: &[String]) -> Result<Command,
     match name {
         "replay" => replay_of(alloc, words),
         "field" => field_of(alloc, words),
-        "sign" if words.len() == 5 => marked_sign_of(alloc, words),
-        "sign" => plain_sign_of(alloc, words),
+        "sign" => sign_of(alloc, words),
         "verify" => verify_of(alloc, words),
-        "as" if words.len() == 5 => deriving_as_of(alloc, words),
-        "as" => service_of(alloc, Service::Grants, words),
+        "as" => as_of(alloc, words),
         "sets" => service_of(alloc, Service::Sets, words),
-        "rs" if words.len() == 5 => cached_rs_of(alloc, words),
-        "rs" => plain_rs_of(alloc, words),
+        "rs" => rs_of(alloc, words),
         "client" => client_of(alloc, words),
         "hash" => hash_of(alloc, words),
         "load" => load_of(words),
