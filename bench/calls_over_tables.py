@@ -1,21 +1,25 @@
 #!/usr/bin/env python3
 """What a call of a replay costs while few and while many grants are live, and what memory the state takes.
 
-    bench/calls_over_tables.py
+    bench/calls_over_tables.py [calls] [sweep] [memory]
 
 For n of 1,000, 10,000 and 65,000: a file of n grant requests, all live to its end, and 2n introspections that name the tokens in a mixed order. Each file
 is replayed five times, and the best time counts. An introspection's time is what the whole file takes more than its grant requests alone, by 2n; a grant
-request's is what those take more than an empty file, by n. The sweep at which 65,000 grants end, with a token each, is what a file of as many takes more
-with one call behind them all. Then a file of 200,000 lines is replayed once, and the memory of the full state of 65,536 grants is compared with the bytes
-of the texts that it must keep, for a right in full as in RFC 9635's examples and for a name. The program is ./gnap, or the one that GNAP names.
+request's is what those take more than an empty file, by n. The sweep at which 65,000 grants end, with a token and a nonce each, is how long a call's reply takes
+that comes alone once all are over. Then a file of 200,000 lines is replayed once, and the memory of the full state of 65,536 grants is compared with the bytes
+of the texts that it must keep, for a right in full as in RFC 9635's examples and for a name. Where words are given, only what they name is measured. The
+program is ./gnap, or the one that GNAP names.
 """
 
 import base64
+import contextlib
 import json
 import os
+import statistics
 import subprocess
 import sys
 import tempfile
+import threading
 import time
 
 NAME = "photos"
@@ -35,6 +39,7 @@ SETUP = {
 }
 # A granted request draws three values: the token's, its management value and the continuation value.
 VALUES = 3
+SWEEPS = 15
 
 
 def texts_in(right):
@@ -84,44 +89,92 @@ def replayed(program, folder, grants, introspections, times, behind=()):
     return best
 
 
-def memory(program, folder, grants, right):
-    """The greatest resident memory, in bytes, of a replay that has answered so many grant requests and waits for more."""
+@contextlib.contextmanager
+def piped(program, folder):
+    """A replay that reads what is written into a pipe: its process, and the pipe."""
     pipe = os.path.join(folder, "pipe")
     os.mkfifo(pipe)
-    with subprocess.Popen([program, "replay", pipe], stdout=subprocess.PIPE) as replay:
-        with open(pipe, "w") as lines:
-            lines.write(line(SETUP))
-            for _ in range(grants):
-                lines.write(grant_request(right))
-                lines.flush()
-                replay.stdout.readline()
-            with open(f"/proc/{replay.pid}/status") as status:
-                kilobytes = next(int(entry.split()[1]) for entry in status if entry.startswith("VmHWM"))
-    os.remove(pipe)
+    try:
+        with subprocess.Popen([program, "replay", pipe], stdout=subprocess.PIPE) as replay, open(pipe, "wb", buffering=0) as calls:
+            yield replay, calls
+    finally:
+        os.remove(pipe)
+
+
+def memory(program, folder, grants, right):
+    """The greatest resident memory, in bytes, of a replay that has answered so many grant requests and waits for more."""
+    with piped(program, folder) as (replay, calls):
+        calls.write(line(SETUP).encode())
+        for _ in range(grants):
+            calls.write(grant_request(right).encode())
+            replay.stdout.readline()
+        with open(f"/proc/{replay.pid}/status") as status:
+            kilobytes = next(int(entry.split()[1]) for entry in status if entry.startswith("VmHWM"))
     return kilobytes * 1024
 
 
-def main():
+def sweep(program, folder, grants):
+    """The seconds from a call that comes once so many grants are over to its reply, less those of the same call once more, which sweeps nothing."""
+    late = introspection(1, at=10**9).encode()
+
+    def answered(replay, calls):
+        start = time.perf_counter()
+        calls.write(late)
+        if b'"active":false' not in replay.stdout.readline():
+            raise SystemExit("not the reply")
+        return time.perf_counter() - start
+
+    with piped(program, folder) as (replay, calls):
+        # The pipe holds less than the replies take, so both go on at once.
+        writer = threading.Thread(target=calls.write, args=(file_of(grants, 0, []).encode(),))
+        writer.start()
+        for _ in range(grants):
+            replay.stdout.readline()
+        writer.join()
+        took = answered(replay, calls)
+        return took - answered(replay, calls)
+
+
+def tell_sweep(program, folder):
+    swept = sorted(sweep(program, folder, 65_000) for _ in range(SWEEPS))
+    middle = statistics.median(swept)
+    print(f"the sweep at which 65,000 grants end: {swept[0] * 1e3:.1f} ms at best, {middle * 1e3:.1f} by the median of {SWEEPS}", flush=True)
+
+
+def tell_calls(program, folder):
+    empty = replayed(program, folder, 1, 0, 5)
+    for grants in (1_000, 10_000, 65_000):
+        alone = replayed(program, folder, grants, 0, 5)
+        whole = replayed(program, folder, grants, 2 * grants, 5)
+        request = (alone - empty) / grants * 1e6
+        introspected = (whole - alone) / (2 * grants) * 1e6
+        print(f"{grants:6} grants live: a grant request {request:.1f} µs, an introspection {introspected:.1f} µs", flush=True)
+    took = replayed(program, folder, 65_000, 135_000, 1)
+    print(f"200,000 lines: {took:.1f} s", flush=True)
+
+
+def tell_memory(program, folder):
+    for name, right in (("a right in full", IN_FULL), ("a name", NAME)):
+        few, full = memory(program, folder, 1, right), memory(program, folder, 65_536, right)
+        bytes_each = (full - few) / 65_536
+        ratio = bytes_each / kept(right)
+        print(f"65,536 grants with {name}: {full / 1e6:.1f} MB, {bytes_each:.0f} bytes each, {ratio:.2f} times the {kept(right)} of its texts", flush=True)
+
+
+TELLERS = {"calls": tell_calls, "sweep": tell_sweep, "memory": tell_memory}
+
+
+def main(words):
+    if not set(words) <= set(TELLERS):
+        print(__doc__, file=sys.stderr)
+        return 2
     program = os.environ.get("GNAP", "./gnap")
     with tempfile.TemporaryDirectory() as folder:
-        empty = replayed(program, folder, 1, 0, 5)
-        for grants in (1_000, 10_000, 65_000):
-            alone = replayed(program, folder, grants, 0, 5)
-            whole = replayed(program, folder, grants, 2 * grants, 5)
-            request = (alone - empty) / grants * 1e6
-            introspected = (whole - alone) / (2 * grants) * 1e6
-            print(f"{grants:6} grants live: a grant request {request:.1f} µs, an introspection {introspected:.1f} µs", flush=True)
-        live = replayed(program, folder, 65_000, 0, 9)
-        swept = replayed(program, folder, 65_000, 0, 9, [introspection(1, at=10**9)]) - live
-        print(f"the sweep at which 65,000 grants end: {swept * 1e3:.0f} ms", flush=True)
-        took = replayed(program, folder, 65_000, 135_000, 1)
-        print(f"200,000 lines: {took:.1f} s", flush=True)
-        for name, right in (("a right in full", IN_FULL), ("a name", NAME)):
-            few, full = memory(program, folder, 1, right), memory(program, folder, 65_536, right)
-            bytes_each = (full - few) / 65_536
-            ratio = bytes_each / kept(right)
-            print(f"65,536 grants with {name}: {full / 1e6:.1f} MB, {bytes_each:.0f} bytes each, {ratio:.2f} times the {kept(right)} of its texts", flush=True)
+        for name, tell in TELLERS.items():
+            if not words or name in words:
+                tell(program, folder)
+    return 0
 
 
 if __name__ == "__main__":
-    sys.exit(main())
+    sys.exit(main(sys.argv[1:]))

@@ -6,3 +6,4 @@ pub mod Numbers
 pub mod Others
 pub mod Whole
 pub mod Written
+pub mod WrittenParts

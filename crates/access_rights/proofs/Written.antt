@@ -1,10 +1,9 @@
 -- The text that is written for the other members of a right.
-use Rattle.std.proofs.Common.{◌≡◌, ◌≤◌, ℕ, List, [], ◌∷◌, ◌++◌, false, Option, Some, option_map, option_and_then, append-nil, sym, ap, ◌∙◌, arith}
+use Rattle.std.proofs.Common.{◌≡◌, ◌≤◌, ℕ, List, [], ◌∷◌, false, Option, Some, option_and_then, append-nil, refl, sym, ap, ◌∙◌, arith}
 use Rattle.json.specs.Token.{Token, begin_object}
 use Rattle.json.specs.Lex.{tokens}
 use Rattle.json.specs.Print.{print}
 use Rattle.json.specs.Json as json
-use Rattle.json.specs.Tree as tree
 use Rattle.serde_json.specs.Data.{Data, object, Members, depth}
 use Rattle.serde_json.specs.Read.{of_json, read, max_depth}
 use Rattle.serde_json.specs.Written.{members_have_float, WritesValue, WritesMembers}
@@ -12,13 +11,14 @@ use Rattle.serde_json.proofs.Texts.{tokens_from_order, print-outline}
 use Rattle.json.proofs.Printed.Trees.{value-json_tokens}
 use Rattle.access_rights.specs.Reading.{others, further_of}
 use Rattle.access_rights.proofs.Others.{others_whole}
+use Rattle.access_rights.proofs.WrittenParts.{object_written}
 
 abbrev whole : Option (json.Json × List Token) → Option Data
 whole o = option_and_then of_json (option_and_then (λ p. json.if_last p.0 p.1) o)
 
 module _ (ms : Members) (begun ts : List Token) (text : List ℕ) (opened : begun ≡ begin_object ∷ []) (w : WritesMembers (others ms) begun ts) (printed : text ≡ print ts) (same : tokens (print ts) ≡ ts) where
   written : WritesValue (object (others ms)) [] ts
-  written = (json.object w.0, w.1 ∙ ap (λ b. b ++ tree.members_tokens w.0) opened, ap (option_map object) w.2, omega (arith, w.3), ap json.object w.4)
+  written = object_written (others ms) _ [] begun ts refl opened w
 
   lexed : tokens text ≡ ts
   lexed = ap tokens printed ∙ same

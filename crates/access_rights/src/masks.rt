@@ -11,7 +11,7 @@ use bytes_and_lists::bytes::Bytes;
 use gnap_model::rights::{Right, RightObject, Rights, Texts};
 
 /// What a right in full may be narrowed to by several values (RFC 9635, section 8).
-#[derive(Clone, Copy, Debug, PartialEq, Eq)]
+#[derive(Clone, Copy)]
 enum Dimension {
     Actions,
     Locations,

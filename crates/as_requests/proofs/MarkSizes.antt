@@ -6,9 +6,10 @@ use Rattle.structured_fields.specs.declared.bare.Bare.{Bare}
 use Rattle.structured_fields.specs.declared.item.InnerList.{InnerList}
 use Rattle.structured_fields.specs.Named.{value_at}
 use Rattle.structured_fields.specs.Reading.{◌>>=◌}
+use Rattle.structured_fields.specs.Strings.{string_in}
 use Rattle.message_signature.specs.declared.fault.SigFault.{SigFault}
 use Rattle.message_signature.specs.declared.marks.SignatureMark.{SignatureMark}
-use Rattle.message_signature.specs.Verified.{string_in, integer_in, lone_list}
+use Rattle.message_signature.specs.Verified.{integer_in, lone_list}
 use Rattle.message_signature.specs.Marks.{has_nonce_length, latest_created, nonce_in, moment_in, created_in, mark_in, mark_in_found, mark_of}
 
 -- its nonce isn't too long, and its moment isn't too late

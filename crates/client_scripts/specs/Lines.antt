@@ -35,6 +35,18 @@ name_of Token = codes "token"
 name_of Method = codes "method"
 name_of Path = codes "path"
 
+-- what the member has to be, in words
+abbrev pub form_of : LineMember → List ℕ
+form_of At = codes "a moment (0 to 253402300799, in seconds since 1970)"
+form_of Nonce = codes "1 to 64 letters, digits, `.`, `_` or `-`"
+form_of Do = codes "begin, poll, finish, patch, cancel, rotate, revoke or use"
+form_of Body = codes "an object with whole numbers"
+form_of Hash = codes "a string"
+form_of Reference = codes "a string"
+form_of Token = codes "a whole number from 0 to 2^64 - 1"
+form_of Method = codes "1 to 15 upper-case letters"
+form_of Path = codes "`/` and at most 2,047 bytes from 0x21 to 0x7E"
+
 -- the member is absent, or isn't of its form
 abbrev pub missing : LineMember → LineFault
 missing member = faults.BadLine (bad.Missing member)

@@ -1,7 +1,7 @@
 //! Why a line is none of a script.
 ghost use Rattle.std.specs.Prelude.{◌≡◌};
 ghost use Rattle.client_scripts.specs.declared.line_faults.LineFault.TheVariants.{OutOfMemory};
-ghost use Rattle.client_scripts.specs.Lines.{name_of, in_body, missing, wrong};
+ghost use Rattle.client_scripts.specs.Lines.{name_of, form_of, in_body, missing, wrong};
 
 use bytes_and_lists::memory::Mem;
 use gnap_objects::ObjectFault;
@@ -40,7 +40,9 @@ impl LineMember {
     }
 
     /// What the member has to be, in words.
-    pub fn form(self) -> &'static str {
+    pub fn form(self) -> &'static str
+        ensures { result.now ≡ form_of self }
+    {
         match self {
             LineMember::At => "a moment (0 to 253402300799, in seconds since 1970)",
             LineMember::Nonce => "1 to 64 letters, digits, `.`, `_` or `-`",

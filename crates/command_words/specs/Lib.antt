@@ -1,3 +1,4 @@
 pub mod Positionals
 pub mod Numbers
 pub mod Commands
+pub mod Telling

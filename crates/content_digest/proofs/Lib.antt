@@ -1,4 +1,4 @@
 pub mod Steps
 pub mod Judging
-pub mod LineFits
+pub mod DigestBytes
 pub mod Ends

@@ -3,7 +3,6 @@ use Rattle.std.specs.Prelude.{◌≡◌, ◌≢◌, ℕ, true, false, if◌then�
 use Rattle.std.specs.Option.{option_map_or}
 use Rattle.std.specs.Str.{bytes_eq}
 use Rattle.std.specs.List.{AllByRecursion}
-use Rattle.base64.specs.GeneralPurpose.{IsBytes}
 use Rattle.structured_fields.specs.declared.item.Member.{Member}
 use Rattle.structured_fields.specs.Grammar.{IsDictionaryText}
 use Rattle.structured_fields.specs.Reading.{◌>>=◌, or_some, dictionary_of}
@@ -102,8 +101,3 @@ Gives (Err OutOfMemory) read = Unit {0}
 -- whatever an answer says that is so, is what is answered, unless memory ran out
 abbrev pub AnswersWhatIsSo : List ℕ → List ℕ → Result (Unit {0}) DigestFault → Type 0
 AnswersWhatIsSo field body result = (answer : Result (Unit {0}) DigestFault) → Says field body answer → Gives result answer
-
--- the function gives the one answer that is so
-pub record IsAnsweredBy (answer_of : List ℕ → List ℕ → Result (Unit {0}) DigestFault) : Type 0 where
-  pub says : (field body : List ℕ) → IsBytes field → Says field body (answer_of field body)
-  pub only : (field body : List ℕ) (answer : Result (Unit {0}) DigestFault) → IsBytes field → Says field body answer → answer_of field body ≡ answer

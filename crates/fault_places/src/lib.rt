@@ -1,8 +1,12 @@
 //! Where in a text a person finds its fault: the line and the column of what is no JSON, or the id of a key.
 //!
-//! This is for what is said on standard error alone. Contracts say of a reader that a text is refused, and for which member; none speaks of places. Where
-//! memory runs out, or no place is known, there is none.
+//! This is for what is said on standard error alone. The contract of `fault_place` says that a place that is told is one: no JSON, no object, a number that
+//! isn't whole, or the id of the key. Where memory runs out, or no place is known, none is told.
 #![tactic(auto)]
+
+ghost use Rattle.std.specs.Prelude.{◌≡◌, option_map};
+ghost use Rattle.serde_json.specs.View.{view};
+ghost use Rattle.fault_places.specs.Places.{id_at, IsInText, IsInKey, IsPlaceOf};
 
 use bytes_and_lists::bytes::Bytes;
 use gnap_objects::SetupFault;
@@ -45,7 +49,9 @@ impl fmt::Display for FaultPlace {
     }
 }
 
-fn json_place(alloc: Global, text: &[u8]) -> FaultPlace {
+fn json_place(alloc: Global, text: &[u8]) -> FaultPlace
+    ensures { IsInText text.now result }
+{
     match Value::from_slice(alloc, text) {
         Ok(value) => {
             if !value.is_object() {
@@ -57,11 +63,12 @@ fn json_place(alloc: Global, text: &[u8]) -> FaultPlace {
             FaultPlace::Unknown
         }
         Err(error) => {
-            if error.is_memory() || error.line() == 0 {
+            let line = error.line();
+            if error.is_memory() || line == 0 {
                 return FaultPlace::Unknown;
             }
             FaultPlace::Syntax {
-                line: error.line(),
+                line,
                 column: error.column(),
             }
         }
@@ -69,12 +76,15 @@ fn json_place(alloc: Global, text: &[u8]) -> FaultPlace {
 }
 
 // The id of the key at this place of `keys`, where it has one.
-fn id_at(value: &Value, place: usize) -> Option<&str> {
-    let keys = value.get("keys")?.as_array()?;
-    keys.get(place)?.get("id")?.as_str()
+fn id_at(value: &Value, place: usize) -> Option<&str>
+    ensures { option_map (λ id. id.now) result ≡ id_at place (view value.now) }
+{
+    value.get("keys")?.get(place)?.get("id")?.as_str()
 }
 
-fn key_place(alloc: Global, text: &[u8], place: usize) -> FaultPlace {
+fn key_place(alloc: Global, text: &[u8], place: usize) -> FaultPlace
+    ensures { IsInKey place text.now result }
+{
     let Ok(value) = Value::from_slice(alloc, text) else {
         return FaultPlace::Unknown;
     };
@@ -88,7 +98,9 @@ fn key_place(alloc: Global, text: &[u8], place: usize) -> FaultPlace {
 }
 
 /// Where the text has the fault that its reader told.
-pub fn fault_place(alloc: Global, text: &[u8], fault: &SetupFault) -> FaultPlace {
+pub fn fault_place(alloc: Global, text: &[u8], fault: &SetupFault) -> FaultPlace
+    ensures { IsPlaceOf fault.now text.now result }
+{
     match fault {
         SetupFault::NotJson => json_place(alloc, text),
         SetupFault::InKey(place, _) => key_place(alloc, text, *place),

@@ -43,7 +43,8 @@ first_grows (b ∷ full) rest is =
 
 -- ---- the one history
 
-pub none_replayed : (setup : Setup) (whole lines : List (List ℕ)) (o : Told) (ended : Ended) → EndsAs {E = GnapEntry} ended [] whole lines [] → WhatHolds setup []
+pub none_replayed : (setup : Setup) (whole lines : List (List ℕ)) (o : Told) (ended : Ended) → EndsAs {E = GnapEntry} ended [] whole lines []
+    → WhatHolds setup []
     → Replayed setup whole lines o o ended
 none_replayed setup whole lines o ended ends holds = record {
   sent = [];
@@ -106,7 +107,8 @@ gives_refusal WriteFault reading gives = absurd gives
 gives_refusal Refused reading gives = absurd gives
 gives_refusal TooLong reading gives = absurd gives
 
-pub gives_starved : (setup : Setup) (ended : Ended) (reading : Option Setup) → GivesRead (λ (setup : Setup). setup) (Err ended) reading → reading ≡ Some setup → ended ≡ Memory
+pub gives_starved : (setup : Setup) (ended : Ended) (reading : Option Setup) → GivesRead (λ (setup : Setup). setup) (Err ended) reading
+    → reading ≡ Some setup → ended ≡ Memory
 gives_starved setup (NoSetup why) reading gives is = let no : None ≡ Some setup = sym gives ∙ is in absurd cc
 gives_starved setup Memory reading gives is = refl
 gives_starved setup Done reading gives is = absurd gives
@@ -218,7 +220,14 @@ module _ (first held0 held1 : List ℕ) (taken0 taken1 : ℕ) (s s1 : Told) (emp
             legal = lone.0;
             numbers = below_one h lone.1;
             each = (
-              record { turns = r.turns; each = r.had.each; own_is = r.had.own; later = l.0; lines_are = lines; ends = ends_whole ended r.turns _ _ l.0 r.sent whole l.2 },
+              record {
+                turns = r.turns;
+                each = r.had.each;
+                own_is = r.had.own;
+                later = l.0;
+                lines_are = lines;
+                ends = ends_whole ended r.turns _ _ l.0 r.sent whole l.2;
+              },
               tt,
             );
           };
@@ -230,12 +239,14 @@ module _ (first held0 held1 : List ℕ) (taken0 taken1 : ℕ) (s s1 : Told) (emp
   }
 
   -- the input ended with it
-  pub last_replayed : (read : ReadsLine 1048576 first held0 held1 taken0 taken1 s s1 line_ends.Last) (o : Told) (ended : Ended) → IsSetupAlone ended (setup_in first)
+  pub last_replayed : (read : ReadsLine 1048576 first held0 held1 taken0 taken1 s s1 line_ends.Last) (o : Told) (ended : Ended)
+      → IsSetupAlone ended (setup_in first)
       → ((setup : Setup) → WhatHolds setup []) → (rest : List ℕ) → IsRest s1 rest → ReplaysFile s1.taken rest o o ended
   last_replayed read o ended alone holds rest known =
       let taken : s1.taken ≡ read.full = taken_is line_ends.Last read ∙ read.ends.0 in
       let text : lines_of (s1.taken ++ rest) ≡ read.full ∷ []
-      = ap (λ x. lines_of (s1.taken ++ x)) (none_left s1 rest known read.ends.2) ∙ ap lines_of (append-nil s1.taken ∙ taken) ∙ line_last read.full read.is_line in
+      = ap (λ x. lines_of (s1.taken ++ x)) (none_left s1 rest known read.ends.2) ∙ ap lines_of (append-nil s1.taken ∙ taken)
+      ∙ line_last read.full read.is_line in
       let setup_is : setup_in (first_of (lines_of (s1.taken ++ rest))) ≡ setup_in first
       = ap (λ ls. setup_in (first_of ls)) text ∙ kept line_ends.Last read (λ no. cc) in
       let whole : after_first (whole_lines s1.taken) ≡ [] = ap (λ t. after_first (whole_lines t)) taken ∙ ap after_first (whole_none read.full read.is_line) in
@@ -253,10 +264,12 @@ module _ (first held0 held1 : List ℕ) (taken0 taken1 : ℕ) (s s1 : Told) (emp
   long_replayed read long o why rest =
       let line : lines_of (s1.taken ++ rest) ≡ lines_of (read.full ++ (held1 ++ rest))
       = ap (λ x. lines_of (x ++ rest)) (taken_is line_ends.Long read ∙ read.ends) ∙ ap lines_of (append_assoc read.full held1 rest) in
-      let begins : first_of (lines_of (s1.taken ++ rest)) ≡ read.full ++ first_of (lines_of (held1 ++ rest)) = ap first_of line ∙ first_grows read.full (held1 ++ rest) read.is_line in
+      let begins : first_of (lines_of (s1.taken ++ rest)) ≡ read.full ++ first_of (lines_of (held1 ++ rest)) = ap first_of line
+      ∙ first_grows read.full (held1 ++ rest) read.is_line in
       let size : length first ≤ length read.full = omega (arith, ap length (read.kept (λ no. cc)), length-take 1048577 read.full) in
       let none : setup_in (first_of (lines_of (s1.taken ++ rest))) ≡ None
-      = config_long setup_of (first_of (lines_of (s1.taken ++ rest))) (omega (arith, long, size, ap length begins, length-append read.full (first_of (lines_of (held1 ++ rest))))) in
+      = config_long setup_of (first_of (lines_of (s1.taken ++ rest)))
+      (omega (arith, long, size, ap length begins, length-append read.full (first_of (lines_of (held1 ++ rest))))) in
       record {
         by_setup = λ setup is. let no : None ≡ Some setup = sym none ∙ is in absurd cc;
         without = λ is. (tt, refl);
@@ -270,7 +283,8 @@ module _ (first held0 held1 : List ℕ) (taken0 taken1 : ℕ) (s s1 : Told) (emp
       let whole : after_first (whole_lines s1.taken) ≡ [] = ap (λ t. after_first (whole_lines t)) taken ∙ ap after_first (whole_none read.full read.is_line) in
       let few = short_line 1048576 first read.full (read.kept (λ no. cc)) short in
       record {
-        by_setup = λ setup is. none_replayed setup (after_first (whole_lines s1.taken)) (after_first (lines_of (s1.taken ++ rest))) o Failed (tt, refl, whole) (holds setup);
+        by_setup = λ setup is. none_replayed setup (after_first (whole_lines s1.taken)) (after_first (lines_of (s1.taken ++ rest))) o Failed
+            (tt, refl, whole) (holds setup);
         without = λ is. ((subst IsLine (sym taken) read.is_line, omega (arith, few, ap length taken)), refl);
       }
 

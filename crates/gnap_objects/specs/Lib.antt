@@ -1,5 +1,6 @@
 pub use Rattle.gnap_model.specs.Asked
 pub use Rattle.gnap_model.specs.Keys
+pub mod Faults
 pub mod Forms
 pub mod Fits
 pub mod CallsFit

@@ -1,6 +1,7 @@
 //! Why an object isn't of its form.
-ghost use Rattle.std.specs.Prelude.{◌≡◌, ◌⊎◌};
+ghost use Rattle.std.specs.Prelude.{◌≡◌, ◌⊎◌, option_map};
 ghost use Rattle.gnap_objects.specs.declared.fault.ObjectFault.TheVariants.{Missing, Wrong, TooMany, Flag, Unknown, OutOfMemory};
+ghost use Rattle.gnap_objects.specs.Faults.{faulty_member, fault_words};
 
 use bytes_and_lists::bytes::Bytes;
 use bytes_and_lists::memory::Mem;
@@ -33,7 +34,9 @@ impl From<Mem> for ObjectFault {
 
 impl ObjectFault {
     /// The name of the member at fault. None where memory ran out.
-    pub fn member(&self) -> Option<&Bytes> {
+    pub fn member(&self) -> Option<&Bytes>
+        ensures { option_map (λ name. name.now) result ≡ faulty_member self.now }
+    {
         match self {
             ObjectFault::Missing(name)
             | ObjectFault::Wrong(name)
@@ -45,7 +48,9 @@ impl ObjectFault {
     }
 
     /// What is wrong with that member, in words that stand behind its name; or that memory ran out.
-    pub fn words(&self) -> &'static str {
+    pub fn words(&self) -> &'static str
+        ensures { result.now ≡ fault_words self.now }
+    {
         match self {
             ObjectFault::Missing(_) => "is missing",
             ObjectFault::Wrong(_) => "isn't of its form",

@@ -11,10 +11,10 @@ use Rattle.structured_fields.specs.declared.item.Member.{Member}
 use Rattle.structured_fields.specs.Named.{value_at}
 use Rattle.structured_fields.specs.Reading.{◌>>=◌, dictionary_of}
 use Rattle.structured_fields.specs.Canonical.{item_text, member_text}
+use Rattle.structured_fields.specs.Strings.{is_string, string_in}
 use Rattle.message_signature.specs.declared.tags.SignatureFields.{SignatureFields}
 use Rattle.message_signature.specs.Components.{field_value, component}
-use Rattle.message_signature.specs.Base.{is_string, params_line}
-use Rattle.message_signature.specs.Verified.{string_in}
+use Rattle.message_signature.specs.Base.{params_line}
 
 -- ---- the members of the two fields
 

@@ -5,8 +5,8 @@ ghost use Rattle.std.specs.Option.{option_copied};
 ghost use Rattle.std.specs.Str.{bytes_eq};
 ghost use Rattle.structured_fields.specs.Canonical.{member_text};
 ghost use Rattle.structured_fields.specs.Named.{value_at};
+ghost use Rattle.structured_fields.specs.Strings.{string_in};
 ghost use Rattle.message_signature.specs.Faults.{GivesBase};
-ghost use Rattle.message_signature.specs.Verified.{string_in};
 ghost use Rattle.key_rotation.specs.RotationBase.{key_in, label_in, is_same_label, is_component, plain_value, value_of};
 
 use bytes_and_lists::bytes::Bytes;

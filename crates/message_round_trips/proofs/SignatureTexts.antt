@@ -24,7 +24,7 @@ use Rattle.structured_fields.specs.Grammar.{in_string}
 use Rattle.structured_fields.specs.Canonical.{value_text, item_text, separated_text, params_text, dictionary_text}
 use Rattle.bytes_and_lists.specs.declared.message.Message.{Message}
 use Rattle.content_digest.specs.Digest.{digest_text}
-use Rattle.content_digest.proofs.LineFits.{sha_bytes}
+use Rattle.content_digest.proofs.DigestBytes.{sha_bytes}
 use Rattle.content_digest.proofs.Ends.{EndsIn, digest_ends}
 use Rattle.hmac_key.specs.Hmac.{hmac_sha256}
 use Rattle.message_signature.specs.Marks.{has_nonce_length, is_nonce_byte, is_nonce}

@@ -1,42 +1,31 @@
 -- The signature with a tag, by what was found of the members of the two fields.
 use Rattle.std.proofs.Common.{◌≡◌, ℕ, Bool, true, false, cond, List, [], ◌∷◌, Option, Some, None, Result, Ok, Err, refl, sym, ap, subst, ◌∙◌}
 use Rattle.std.specs.Prelude.{codes}
-use Rattle.std.specs.List.{list_all}
 use Rattle.std.specs.Option.{option_map}
 use Rattle.bytes_and_lists.specs.declared.message.Message.{Message}
 use Rattle.structured_fields.specs.declared.bare.Bare.{Bare}
-use Rattle.structured_fields.specs.declared.bare.Bare.TheVariants.{Integer, Decimal, Str, Token, Binary, Boolean, Date, Display}
 use Rattle.structured_fields.specs.declared.item.Item.{Item}
 use Rattle.structured_fields.specs.declared.item.InnerList.{InnerList}
 use Rattle.structured_fields.specs.declared.item.Member.{Member}
 use Rattle.structured_fields.specs.declared.item.Member.TheVariants.{Item as Single, Inner}
 use Rattle.structured_fields.specs.Named.{value_at}
-use Rattle.structured_fields.specs.Skipping.{holds_string, matches_among, bare_found, holds_text, strings_in}
+use Rattle.dictionary_lookup.specs.Skipping.{matches_among, bare_found, strings_in}
 use Rattle.structured_fields.specs.Reading.{dictionary_of}
+use Rattle.structured_fields.specs.Strings.{are_strings, holds_string}
 use Rattle.structured_fields.proofs.Fronts.{some_is}
 use Rattle.message_signature.specs.declared.fault.SigFault.{SigFault}
 use Rattle.message_signature.specs.declared.fault.SigFault.TheVariants.{NoField, NotAField, NoTag, Malformed, OutOfMemory}
+use Rattle.message_signature.specs.declared.tags.SignatureFields.{SignatureFields}
 use Rattle.message_signature.specs.Components.{field_value}
 use Rattle.message_signature.specs.Faults.{◌>>=◌, need, Fails}
 use Rattle.message_signature.specs.Lone.{read_tagged, bytes_in, formed}
-use Rattle.message_signature.specs.Verified.{Signature, is_text, is_any_string, is_well_formed, with_tag, signature_under, tagged_in, tagged, judged, verified}
+use Rattle.message_signature.specs.Verified.{Signature, is_well_formed, with_tag, signature_under, signature_fields, tagged_in, tagged, judged, verified}
 use Rattle.message_signature.specs.Marked.{id_and_mark, judged_with_mark}
 
 abbrev Entry : Type 0
 Entry = List ℕ × Member
 
 -- ---- the lists with the tag
-
-same_text : (s : List ℕ) (o : Option Bare) → is_text s o ≡ holds_string s o
-same_text s None = refl
-same_text s (Some (Str t)) = refl
-same_text s (Some (Integer n)) = refl
-same_text s (Some (Decimal n)) = refl
-same_text s (Some (Token t)) = refl
-same_text s (Some (Binary b)) = refl
-same_text s (Some (Boolean b)) = refl
-same_text s (Some (Date n)) = refl
-same_text s (Some (Display t)) = refl
 
 module _ (tag : List ℕ) where
   abbrev matching : List Entry → List Entry
@@ -53,8 +42,7 @@ module _ (tag : List ℕ) where
       by : (b : Bool) → holds list ≡ b → cond b ((name, Inner list) ∷ matching d) (matching d) ≡ [] → (matching d ≡ [] → with_tag tag d ≡ []) → with_tag tag ((name, Inner list) ∷ d) ≡ []
       by true t h again = absurd cc
       by false t h again =
-          let first : is_text tag (value_at list.params (codes "tag")) ≡ false = same_text tag (value_at list.params (codes "tag")) ∙ t in
-          rw first (again h)
+          rw t (again h)
 
   pub one_tagged : (d : List Entry) (label : List ℕ) (one : InnerList) → matching d ≡ (label, Inner one) ∷ [] → with_tag tag d ≡ (label, one) ∷ []
   one_tagged [] label one h = absurd cc
@@ -64,7 +52,6 @@ module _ (tag : List ℕ) where
       by : (b : Bool) → holds list ≡ b → cond b ((name, Inner list) ∷ matching d) (matching d) ≡ (label, Inner one) ∷ [] → (matching d ≡ [] → with_tag tag d ≡ [])
           → (matching d ≡ (label, Inner one) ∷ [] → with_tag tag d ≡ (label, one) ∷ []) → with_tag tag ((name, Inner list) ∷ d) ≡ (label, one) ∷ []
       by true t h none again =
-          let first : is_text tag (value_at list.params (codes "tag")) ≡ true = same_text tag (value_at list.params (codes "tag")) ∙ t in
           let held : Entry = (name, Inner list) in
           let only : Entry = (label, Inner one) in
           let same : held ≡ only = cc in
@@ -72,10 +59,9 @@ module _ (tag : List ℕ) where
           let names : name ≡ label = ap (λ (e : Entry). e.0) same in
           let members : Inner list ≡ Inner one = ap (λ (e : Entry). e.1) same in
           let lists : list ≡ one = cc in
-          rw (first, none others, names, lists) refl
+          rw (t, none others, names, lists) refl
       by false t h none again =
-          let first : is_text tag (value_at list.params (codes "tag")) ≡ false = same_text tag (value_at list.params (codes "tag")) ∙ t in
-          rw first (again h)
+          rw t (again h)
 
   -- what is marked is an inner list
   pub never_single : (d : List Entry) (label : List ℕ) (item : Item) → matching d ≡ (label, Single item) ∷ [] → ⊥
@@ -95,7 +81,7 @@ module _ (tag : List ℕ) where
 -- the member that is this list of Strings
 pub strings_are : (m : Member) (list : InnerList) → Some list ≡ strings_in m → m ≡ Inner list
 strings_are (Single item) list h = absurd cc
-strings_are (Inner other) list h = by (list_all holds_text other.items) h
+strings_are (Inner other) list h = by (are_strings other.items) h
   where
     by : (b : Bool) → Some list ≡ cond b (Some other) None → Inner other ≡ Inner list
     by true h = ap (λ (l : InnerList). Inner l) (sym (some_is list other h))
@@ -105,26 +91,12 @@ pub once_is : (tag label : List ℕ) (d : List Entry) (list : InnerList) (m : Me
 once_is tag label d list m is one = one ∙ ap (λ (x : Member). (label, x) ∷ []) is
 
 -- a list of other items hasn't its form
-same_strings : (items : List Item) → list_all (λ i. is_any_string i.bare) items ≡ list_all holds_text items
-same_strings [] = refl
-same_strings (item ∷ items) = rw (one item.bare item.params, same_strings items) refl
-  where
-    one : (v : Bare) (params : List (List ℕ × Bare)) → is_any_string v ≡ holds_text (record { bare = v; params = params })
-    one (Str t) params = refl
-    one (Integer n) params = refl
-    one (Decimal n) params = refl
-    one (Token t) params = refl
-    one (Binary b) params = refl
-    one (Boolean b) params = refl
-    one (Date n) params = refl
-    one (Display t) params = refl
-
 pub no_strings : (list : InnerList) → None ≡ strings_in (Inner list) → is_well_formed list ≡ false
-no_strings list h = by (list_all holds_text list.items) refl h
+no_strings list h = by (are_strings list.items) refl h
   where
-    by : (b : Bool) → list_all holds_text list.items ≡ b → None ≡ cond b (Some list) None → is_well_formed list ≡ false
+    by : (b : Bool) → are_strings list.items ≡ b → None ≡ cond b (Some list) None → is_well_formed list ≡ false
     by true e h = absurd cc
-    by false e h = rw (same_strings list.items ∙ e) refl
+    by false e h = rw e refl
 
 -- ---- the bytes under a label
 
@@ -215,6 +187,16 @@ module _ (m : Message) (tag : List ℕ) where
         by None b = refl
         by (Some a) None = refl
         by (Some a) (Some b) = refl
+
+  -- by both dictionaries
+  pub no_fields : (e : SigFault) → Fails e (signature_fields m) → Fails e (tagged m tag)
+  unfolding tagged
+  no_fields OutOfMemory h = tt
+  no_fields e h = rw h refl
+
+  pub by_fields : (fields : SignatureFields) → signature_fields m ≡ Ok fields → tagged m tag ≡ tagged_in tag fields
+  unfolding tagged
+  by_fields fields is = rw is refl
 
 -- ---- what is verified by it
 

@@ -8,7 +8,7 @@ use Rattle.structured_fields.specs.Named.{IsDistinct}
 use Rattle.structured_fields.specs.Reading.{trimmed}
 use Rattle.structured_fields.specs.Canonical.{IsInRange, AreInRange}
 use Rattle.content_digest.specs.Digest.{digest_text}
-use Rattle.content_digest.proofs.LineFits.{sha_bytes}
+use Rattle.content_digest.proofs.DigestBytes.{sha_bytes}
 use Rattle.content_digest.proofs.Ends.{digest_ends}
 use Rattle.hmac_key.specs.Hmac.{hmac_sha256}
 use Rattle.message_signature.specs.Signed.{covered, params_of}

@@ -1,27 +1,16 @@
 -- The signature base (RFC 9421, section 2.5).
 -- Bytes stand by their numbers: 10 LF.
-use Rattle.std.specs.Prelude.{ℕ, Bool, false, if◌then◌else◌, List, [], ◌∷◌, ◌++◌, Option, Some, None, codes}
+use Rattle.std.specs.Prelude.{ℕ, Bool, if◌then◌else◌, List, [], ◌∷◌, ◌++◌, Option, Some, None, codes}
 use Rattle.std.specs.List.{list_any}
-use Rattle.std.specs.Str.{bytes_eq}
 use Rattle.bytes_and_lists.specs.declared.message.Message.{Message}
 use Rattle.structured_fields.specs.declared.bare.Bare.{Bare}
-use Rattle.structured_fields.specs.declared.bare.Bare.TheVariants.{Integer, Decimal, Str, Token, Binary, Boolean, Date, Display}
+use Rattle.structured_fields.specs.declared.bare.Bare.TheVariants.{Str}
 use Rattle.structured_fields.specs.declared.item.Item.{Item}
 use Rattle.structured_fields.specs.declared.item.InnerList.{InnerList}
 use Rattle.structured_fields.specs.Reading.{◌>>=◌}
+use Rattle.structured_fields.specs.Strings.{is_string}
 use Rattle.structured_fields.specs.Canonical.{bare_text, inner_text}
 use Rattle.message_signature.specs.Components.{component}
-
--- the bare item is this String
-abbrev pub is_string : List ℕ → Bare → Bool
-is_string s (Str t) = bytes_eq t s
-is_string s (Integer n) = false
-is_string s (Decimal n) = false
-is_string s (Token t) = false
-is_string s (Binary b) = false
-is_string s (Boolean b) = false
-is_string s (Date n) = false
-is_string s (Display t) = false
 
 -- an item names the component
 abbrev pub is_named : List ℕ → List Item → Bool

@@ -7,9 +7,10 @@ use Rattle.structured_fields.specs.declared.item.InnerList.{InnerList}
 use Rattle.structured_fields.specs.Letters.{is_letter, is_digit}
 use Rattle.structured_fields.specs.Named.{value_at}
 use Rattle.structured_fields.specs.Reading.{◌>>=◌}
+use Rattle.structured_fields.specs.Strings.{string_in}
 use Rattle.message_signature.specs.declared.fault.SigFault.{SigFault}
 use Rattle.message_signature.specs.declared.marks.SignatureMark.{SignatureMark}
-use Rattle.message_signature.specs.Verified.{string_in, integer_in, lone_list}
+use Rattle.message_signature.specs.Verified.{integer_in, lone_list}
 
 -- ---- what a mark may hold
 

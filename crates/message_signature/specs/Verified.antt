@@ -1,6 +1,5 @@
 -- What the verifying of a message's signature answers (RFC 9421, section 3.2, with this project's limits): the id of the key, or the first fault.
 use Rattle.std.specs.Prelude.{ℕ, ◌+◌, nat_le, Bool, true, false, not, ◌&&◌, ◌||◌, if◌then◌else◌, List, [], ◌∷◌, Option, Some, None, is_some, Result, Ok, Err, ℤ, pos, negsuc, codes}
-use Rattle.std.specs.List.{list_all}
 use Rattle.std.specs.Str.{bytes_eq}
 use Rattle.bytes_and_lists.specs.declared.message.Message.{Message}
 use Rattle.structured_fields.specs.declared.bare.Bare.{Bare}
@@ -10,6 +9,7 @@ use Rattle.structured_fields.specs.declared.item.Member.{Member}
 use Rattle.structured_fields.specs.declared.item.Member.TheVariants.{Item as Single, Inner}
 use Rattle.structured_fields.specs.Named.{value_at}
 use Rattle.structured_fields.specs.Reading.{dictionary_of}
+use Rattle.structured_fields.specs.Strings.{is_any_string, are_strings, is_string, holds_string}
 use Rattle.content_digest.specs.declared.fault.DigestFault.{DigestFault}
 use Rattle.content_digest.specs.Digest.{sequence_of}
 use Rattle.content_digest.specs.Judged.{checked}
@@ -18,19 +18,14 @@ use Rattle.message_signature.specs.declared.fault.SigFault.{SigFault}
 use Rattle.message_signature.specs.declared.fault.SigFault.TheVariants.{NoField, NotAField, NoTag, SeveralTags, Malformed, Unsupported, Uncovered, Created, Expired, Alg, UnknownKey, Differs, Digest}
 use Rattle.message_signature.specs.declared.tags.SignatureFields.{SignatureFields}
 use Rattle.message_signature.specs.Components.{field_value}
-use Rattle.message_signature.specs.Base.{is_string, is_named, signature_base}
+use Rattle.message_signature.specs.Base.{is_named, signature_base}
 use Rattle.message_signature.specs.Faults.{◌>>=◌, need, must}
 
 -- ---- the one signature with the tag
 
--- an option of a bare item is this String
-abbrev pub is_text : List ℕ → Option Bare → Bool
-is_text s (Some v) = is_string s v
-is_text s None = false
-
 -- the inner list of a member, where it has this tag
 abbrev pub tagged_list : List ℕ → Member → Option InnerList
-tagged_list tag (Inner list) = if is_text tag (value_at list.params (codes "tag")) then Some list else None
+tagged_list tag (Inner list) = if holds_string tag (value_at list.params (codes "tag")) then Some list else None
 tagged_list tag (Single item) = None
 
 -- the inner lists with this tag, with their labels
@@ -71,20 +66,6 @@ integer_in (Display s) = None
 abbrev pub is_integer : Bare → Bool
 is_integer v = is_some (integer_in v)
 
--- the text of a String
-abbrev pub string_in : Bare → Option (List ℕ)
-string_in (Integer n) = None
-string_in (Decimal n) = None
-string_in (Str s) = Some s
-string_in (Token s) = None
-string_in (Binary b) = None
-string_in (Boolean b) = None
-string_in (Date n) = None
-string_in (Display s) = None
-
-abbrev pub is_any_string : Bare → Bool
-is_any_string v = is_some (string_in v)
-
 -- the parameter isn't there, or passes
 abbrev pub absent_or : (Bare → Bool) → Option Bare → Bool
 absent_or test None = true
@@ -93,7 +74,7 @@ absent_or test (Some v) = test v
 -- Strings cover, and the parameters have their types (section 2.3)
 abbrev pub is_well_formed : InnerList → Bool
 is_well_formed list =
-    list_all (λ i. is_any_string i.bare) list.items
+    are_strings list.items
     && absent_or is_integer (value_at list.params (codes "created")) && absent_or is_integer (value_at list.params (codes "expires"))
     && absent_or is_any_string (value_at list.params (codes "keyid")) && absent_or is_any_string (value_at list.params (codes "alg"))
 

@@ -4,7 +4,7 @@ ghost use Rattle.std.specs.Option.{option_copied, option_map};
 ghost use Rattle.structured_fields.specs.Canonical.{bare_text};
 ghost use Rattle.structured_fields.specs.declared.bare.Bare.TheVariants.{Str};
 ghost use Rattle.message_signature.specs.Faults.{GivesBase};
-ghost use Rattle.message_signature.specs.Base.{is_string, is_named, name_of, line_of, base_lines, params_line, signature_base};
+ghost use Rattle.message_signature.specs.Base.{is_named, name_of, line_of, base_lines, params_line, signature_base};
 
 use crate::components::{append_component, appended};
 use crate::fault::BaseFault;
@@ -12,16 +12,7 @@ use bytes_and_lists::bytes::Bytes;
 use bytes_and_lists::memory::Mem;
 use bytes_and_lists::message::Message;
 use std::alloc::Global;
-use structured_fields::{Bare, InnerList, Item, Items, append_inner, append_item};
-
-pub(crate) fn is_string(s: &[u8], v: &Bare) -> bool
-    ensures { result ≡ is_string s.now v.now }
-{
-    match v {
-        Bare::Str(text) => text.as_slice() == s,
-        _ => false,
-    }
-}
+use structured_fields::{Bare, InnerList, Item, Items, append_inner, append_item, is_string};
 
 pub(crate) fn is_named(name: &[u8], items: &[Item]) -> bool
     ensures { result ≡ is_named name.now items.now }

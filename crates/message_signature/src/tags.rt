@@ -1,22 +1,22 @@
 //! The signature of a message with a tag (RFC 9421, sections 4.1 and 4.2).
 ghost use Rattle.std.specs.Prelude.{◌≡◌};
-ghost use Rattle.std.specs.List.{list_all};
 ghost use Rattle.std.specs.Option.{option_copied};
 ghost use Rattle.structured_fields.specs.Reading.{dictionary_of};
+ghost use Rattle.structured_fields.specs.Strings.{is_any_string, are_strings, holds_string};
 ghost use Rattle.message_signature.specs.declared.fault.SigFault.TheVariants.{NoField, NotAField};
 ghost use Rattle.message_signature.specs.Components.{field_value, text_of};
 ghost use Rattle.message_signature.specs.Faults.{Gives, need, must};
 ghost use Rattle.message_signature.specs.Seen.{signature_seen};
-ghost use Rattle.message_signature.specs.Verified.{is_text, tagged_list, with_tag, only_one, signature_under, is_integer, is_any_string, absent_or, is_well_formed, signature_fields, tagged_in};
+ghost use Rattle.message_signature.specs.Verified.{tagged_list, with_tag, only_one, signature_under, is_integer, absent_or, is_well_formed, signature_fields, tagged_in};
 
-use crate::base::is_string;
 use crate::components::{FieldValue, field_value};
 use crate::fault::SigFault;
 use bytes_and_lists::bytes::Bytes;
 use bytes_and_lists::message::Message;
 use std::alloc::Global;
 use structured_fields::{
-    Bare, Dictionary, FieldFault, InnerList, Item, Items, Member, read_dictionary,
+    Bare, Dictionary, FieldFault, InnerList, Item, Items, Member, is_any_string, is_string,
+    read_dictionary,
 };
 
 /// The two fields of a message's signatures, as dictionaries.
@@ -77,8 +77,8 @@ pub fn signature_fields(alloc: Global, message: &Message) -> Result<SignatureFie
 
 // ---- the signature with the tag
 
-fn is_text(s: &[u8], v: Option<&Bare>) -> bool
-    ensures { result ≡ is_text s.now (option_copied v.entry) }
+fn holds_string(s: &[u8], v: Option<&Bare>) -> bool
+    ensures { result ≡ holds_string s.now (option_copied v.entry) }
 {
     match v {
         Some(v) => is_string(s, v),
@@ -90,7 +90,7 @@ fn tagged_list<'a>(tag: &[u8], member: &'a Member) -> Option<&'a InnerList>
     ensures { option_copied result ≡ tagged_list tag.now member.now }
 {
     match member {
-        Member::Inner(list) if is_text(tag, list.params.get(b"tag")) => Some(list),
+        Member::Inner(list) if holds_string(tag, list.params.get(b"tag")) => Some(list),
         _ => None,
     }
 }
@@ -130,13 +130,13 @@ fn signature_under<'a>(label: &[u8], signatures: &'a Dictionary) -> Option<&'a B
     }
 }
 
-fn has_only_strings(items: &Items) -> bool
-    ensures { result ≡ list_all (λ i. is_any_string i.bare) items.now }
+fn are_strings(items: &Items) -> bool
+    ensures { result ≡ are_strings items.now }
 {
     items
         .as_slice()
         .iter()
-        .all(|item| matches!(&item.bare, Bare::Str(_)))
+        .all(|item| is_any_string(&item.bare))
 }
 
 fn is_absent_or_integer(v: Option<&Bare>) -> bool
@@ -154,7 +154,7 @@ fn is_absent_or_string(v: Option<&Bare>) -> bool
 pub(crate) fn is_well_formed(list: &InnerList) -> bool
     ensures { result ≡ is_well_formed list.now }
 {
-    has_only_strings(&list.items)
+    are_strings(&list.items)
         && is_absent_or_integer(list.params.get(b"created"))
         && is_absent_or_integer(list.params.get(b"expires"))
         && is_absent_or_string(list.params.get(b"keyid"))

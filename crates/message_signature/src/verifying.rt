@@ -3,28 +3,28 @@ ghost use Rattle.std.specs.Prelude.{◌≡◌, ℕ, List, IfOk, Some, codes};
 ghost use Rattle.std.specs.Option.{option_copied, option_map};
 ghost use Rattle.std.specs.Str.{bytes_eq};
 ghost use Rattle.structured_fields.specs.Named.{value_at};
+ghost use Rattle.structured_fields.specs.Strings.{is_string};
 ghost use Rattle.structured_fields.specs.declared.bare.Bare.TheVariants.{Integer};
 ghost use Rattle.hmac_key.specs.Hmac.{hmac_sha256};
 ghost use Rattle.message_signature.specs.declared.fault.SigFault.TheVariants.{Unsupported, UnknownKey};
-ghost use Rattle.message_signature.specs.Base.{is_string, signature_base};
+ghost use Rattle.message_signature.specs.Base.{signature_base};
 ghost use Rattle.message_signature.specs.Faults.{Gives, need, must};
 ghost use Rattle.message_signature.specs.Marked.{id_and_mark, judged_with_mark, verified_marked};
-ghost use Rattle.message_signature.specs.Seen.{signature_seen};
 ghost use Rattle.message_signature.specs.Verified.{absent_or, covers_enough, is_in_window, is_not_expired, key_in, has_right_digest, admitted, made_under, judged_over, judged, verified};
 
-use crate::base::{base_of, is_named, is_string};
+use crate::base::{base_of, is_named};
 use crate::components::{field_value, has_body, has_field};
 use crate::fault::{BaseFault, SigFault};
-use crate::lone::lone_signature;
+use crate::lone::signature_of;
 use crate::marks::{SignatureMark, mark_in};
-use crate::tags::{TaggedSignature, must, signature_fields, tagged};
+use crate::tags::must;
 use bytes_and_lists::bytes::Bytes;
 use bytes_and_lists::memory::{Duplicate, Mem};
 use bytes_and_lists::message::Message;
 use content_digest::DigestFault;
 use hmac_key::{HmacKey, Keyring, same};
 use std::alloc::Global;
-use structured_fields::{Bare, InnerList};
+use structured_fields::{Bare, InnerList, is_string};
 
 // How many seconds `created` may be before or after now.
 const WINDOW: u64 = 300;
@@ -199,36 +199,6 @@ fn judged_list(
     check_tagged(alloc, message, &text, ring, now, list, bytes)
 }
 
-fn judged(
-    alloc: Global,
-    message: &Message,
-    base: &Bytes,
-    ring: &Keyring,
-    now: u64,
-    one: &TaggedSignature,
-) -> Result<Bytes, SigFault>
-    ensures { Gives (λ id. id) result (judged message.now base.now ring.now now (signature_seen one.now)) }
-{
-    judged_list(alloc, message, base, ring, now, one.list, one.bytes)
-}
-
-// By all members of the two fields.
-#[tactic(auto, unfolding(crate::specs::Verified::verified, crate::specs::Verified::tagged))]
-fn verify_among(
-    alloc: Global,
-    message: &Message,
-    base: &Bytes,
-    ring: &Keyring,
-    now: u64,
-    tag: &Bytes,
-) -> Result<Bytes, SigFault>
-    ensures { Gives (λ id. id) result (verified message.now base.now ring.now now tag.now) }
-{
-    let fields = signature_fields(alloc, message)?;
-    let one = tagged(&fields, tag.as_slice())?;
-    judged(alloc, message, base, ring, now, &one)
-}
-
 /// The id of the key that signed a message which came to the server with this base (RFC 9421, section 3.2). The signature is the one whose parameter `tag` is this tag, and others are passed over; it is the HMAC-SHA-256 (section 3.3.3) of the signature base (section 2.5) under a key of the ring.
 /// The base is scheme, `://` and authority, without a `/` at its end. `now`, `created` and `expires` are in seconds since 1970. Parameters of other names, as `nonce`, are signed and not looked at.
 ///
@@ -243,28 +213,8 @@ pub fn verify(
 ) -> Result<Bytes, SigFault>
     ensures { Gives (λ id. id) result (verified message.now base.now ring.now now tag.now) }
 {
-    let lone = lone_signature(alloc, message, tag.as_slice())?;
-    match lone {
-        Some(one) => judged_list(alloc, message, base, ring, now, &one.list, &one.bytes),
-        None => verify_among(alloc, message, base, ring, now, tag),
-    }
-}
-
-#[tactic(auto, unfolding(crate::specs::Marked::id_and_mark, crate::specs::Verified::tagged))]
-fn id_and_mark_among(
-    alloc: Global,
-    message: &Message,
-    base: &Bytes,
-    ring: &Keyring,
-    now: u64,
-    tag: &Bytes,
-) -> Result<(Bytes, Option<SignatureMark>), SigFault>
-    ensures { Gives (λ x. x) result (id_and_mark message.now base.now ring.now now tag.now) }
-{
-    let fields = signature_fields(alloc, message)?;
-    let one = tagged(&fields, tag.as_slice())?;
-    let id = judged(alloc, message, base, ring, now, &one)?;
-    Ok((id, mark_in(one.list)?))
+    let one = signature_of(alloc, message, tag.as_slice())?;
+    judged_list(alloc, message, base, ring, now, &one.list, &one.bytes)
 }
 
 fn id_and_mark_of(
@@ -292,11 +242,8 @@ fn id_and_mark(
 ) -> Result<(Bytes, Option<SignatureMark>), SigFault>
     ensures { Gives (λ x. x) result (id_and_mark message.now base.now ring.now now tag.now) }
 {
-    let lone = lone_signature(alloc, message, tag.as_slice())?;
-    match lone {
-        Some(one) => id_and_mark_of(alloc, message, base, ring, now, &one.list, &one.bytes),
-        None => id_and_mark_among(alloc, message, base, ring, now, tag),
-    }
+    let one = signature_of(alloc, message, tag.as_slice())?;
+    id_and_mark_of(alloc, message, base, ring, now, &one.list, &one.bytes)
 }
 
 /// What `verify` answers, with the mark of the signature that it verified (`mark_of`): the fields are read once.

@@ -2,12 +2,15 @@
 use Rattle.std.proofs.Common.{◌≡◌, ◌≢◌, ◌∙◌, ℕ, ◌≤◌, ◌<◌, ◌==◌, Bool, true, false, true≢false, cond, ◌&&◌, ◌||◌, not, nat_le, List, refl, ap, sym, subst, arith, Option, Some, None, Result, Ok, Err, OnOk, OnErr, if◌then◌else◌, ◌⊎◌, inl, inr}
 use Rattle.std.specs.Cmp.Derive.{both_true}
 use Rattle.std.proofs.Math.Bool.{or-true}
+use Rattle.std.proofs.Math.Logic.{∥∥₁_elim}
+use Rattle.std.specs.Coded.{Coded-set, coded_ℕ}
 use Rattle.std.specs.BTreeMap.{BTreeMap}
-use Rattle.std.proofs.lemmas.Bool.{cases_Bool, lt-leb, leb-false}
+use Rattle.std.proofs.lemmas.Bool.{cases_Bool, lt-leb, leb-false, leb-true}
 use Rattle.gnap_model.specs.Common.{same_text}
 use Rattle.signed_calls.specs.Remembering.{is_live_at, IsSwept}
 use Rattle.nonce_store.specs.declared.run.Run.{Run}
-use Rattle.nonce_store.specs.Kept.{Keys, until_in, many_in, has, is_noted, Covers, IsPopped, IsSweptInPart}
+use Rattle.nonce_store.specs.Kept.{Keys, until_in, many_in, has, is_noted, AreOrdered, Covers, IsPopped, IsSweptInPart}
+use Rattle.nonce_store.proofs.Under.{none_counted}
 
 abbrev pub Seconds : Type 0
 Seconds = BTreeMap ℕ Run
@@ -141,3 +144,36 @@ swept_whole latest seconds before keys covers part none = record {
             let there : until_in before k n ≡ Some u = part.were k n u is in
             let equal : e ≡ u = some_is e u (sym was ∙ there) in
             absurd (true≢false (sym (covers k n u is) ∙ none u k n (subst (λ x. x < latest) equal late)))
+
+-- where all seconds that are left are over too, nothing is remembered any more
+pub none_live : (latest : ℕ) (seconds rest : Seconds) (keys : Keys) (run : Run) → Covers seconds keys → IsPopped latest seconds run rest
+    → ((second : ℕ) (k n : List ℕ) → latest ≤ second → is_noted rest second k n ≡ false)
+    → (k n : List ℕ) → is_live_at latest (until_in keys k n) ≡ false
+none_live latest seconds rest keys run covers popped over k n = by (until_in keys k n) refl
+  where
+    by : (o : Option ℕ) → until_in keys k n ≡ o → is_live_at latest o ≡ false
+    by None is = refl
+    by (Some u) is = elim (cases_Bool (nat_le latest u)) [
+      | inl live ↦
+          let le = leb-true latest u live in
+          let early = popped.over in
+          absurd (true≢false (sym (covers k n u is) ∙ sym (popped.others u k n (λ e. absurd (omega (arith, e, le, early)))) ∙ over u k n le))
+      | inr dead ↦ dead
+    ]
+
+pub covers_none : (seconds : Seconds) (keys : Keys) → ((k n : List ℕ) → until_in keys k n ≡ None) → Covers seconds keys
+covers_none seconds keys none k n u is = absurd (let nothing : None ≡ Some u = sym (none k n) ∙ is in cc)
+
+pub swept_all : (latest : ℕ) (before keys after : Keys) → ∥ AreOrdered keys ∥₁ → IsSweptInPart latest before keys
+    → ((k n : List ℕ) → is_live_at latest (until_in keys k n) ≡ false)
+    → ((k n : List ℕ) → until_in after k n ≡ None) → ((m : ℕ) → many_in after m ≡ 0)
+    → IsSwept (until_in before) (many_in before) latest (until_in after) (many_in after)
+swept_all latest before keys after ordered part dead rows counts = record {
+  rows = λ k n. rows k n ∙ sym (ap (λ b. if b then until_in before k n else None) (by k n (is_live_at latest (until_in before k n)) refl));
+  counts = λ m le.
+      counts m ∙ sym (∥∥₁_elim ordered (Coded-set coded_ℕ _ _) (λ are. none_counted keys latest m are le dead)) ∙ part.counts m le;
+}
+  where
+    by : (k n : List ℕ) (b : Bool) → is_live_at latest (until_in before k n) ≡ b → is_live_at latest (until_in before k n) ≡ false
+    by k n true live = ap (is_live_at latest) (sym (part.stay k n live)) ∙ dead k n
+    by k n false is = is

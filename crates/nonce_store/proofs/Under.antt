@@ -1,10 +1,10 @@
 -- Trees under texts: what a change at one text leaves at any other, and what it makes of the nonces.
-use Rattle.std.proofs.Common.{◌≡◌, ◌∙◌, ℕ, ◌+◌, Bool, true, false, true≢false, cond, ◌&&◌, nat_le, List, refl, ap, sym, arith, Result, Ok, Err, subst, ◌∷◌, OnOk, OnErr, IfSome, is_some, [], Option, Some, None, if◌then◌else◌}
+use Rattle.std.proofs.Common.{◌≡◌, ◌∙◌, ℕ, ◌+◌, ◌≤◌, Bool, true, false, true≢false, cond, ◌&&◌, not, nat_le, List, refl, ap, sym, arith, Result, Ok, Err, subst, ◌∷◌, OnOk, OnErr, IfSome, is_some, [], Option, Some, None, if◌then◌else◌}
 use Rattle.std.specs.Option.{option_and_then, option_map, unwrap_or}
 use Rattle.std.specs.Global.{Vec}
 use Rattle.std.specs.List.{sum_by, All}
 use Rattle.std.specs.List.Sorted.{IsStrictlySortedBy}
-use Rattle.std.proofs.lemmas.List.Elements.{All-head, All-tail}
+use Rattle.std.proofs.lemmas.List.Elements.{All-head, All-tail, All-weaker}
 use Rattle.std.proofs.lemmas.Map.Keys.{IsDistinct-from_sorted}
 use Rattle.std.proofs.lemmas.Map.Views.{All-values-set_value, All-values-insert_entry, All-values_from_lookup, IfSome-lookup_from_All}
 use Rattle.std.specs.Str.{bytes_eq}
@@ -13,13 +13,13 @@ use Rattle.std.specs.Cmp.{IsTotalOrder, eq_by_cmp_equiv, on_total}
 use Rattle.std.specs.Cmp.Lexicographic.{slice_cmp, nat_list_cmp_total}
 use Rattle.std.specs.Map.{lookup, IsKeyTest, AreApart, KeepsOthers, values_of, keys_of, set_value, remove_entry}
 use Rattle.std.specs.BTreeMap.{BTreeMap, is_at, insert_entry, UpdatesBy, IsOrdered}
-use Rattle.std.proofs.lemmas.Bool.{le-leb}
+use Rattle.std.proofs.lemmas.Bool.{le-leb, lt-leb, leb-false}
 use Rattle.std.proofs.lemmas.List.Sums.{sum_by-cons}
 use Rattle.std.proofs.lemmas.Slice.Eq.{bytes_eq-Decides}
 use Rattle.std.proofs.lemmas.Map.Text.{is_eq-slice_cmp}
 use Rattle.std.proofs.lemmas.Map.Entries.{sum_by-set_value, sum_by-insert_entry, sum_by-remove_entry}
 use Rattle.signed_calls.specs.Remembering.{is_live_at}
-use Rattle.nonce_store.specs.Kept.{Untils, Keys, under, until_in, many_of, many_in, text_order, AreOrdered}
+use Rattle.nonce_store.specs.Kept.{Untils, Keys, under, until_in, is_over_at, many_of, many_in, text_order, AreOrdered}
 
 pub text_total : IsTotalOrder text_order
 text_total = on_total (λ (v : Vec ℕ). v.items) nat_list_cmp_total
@@ -196,7 +196,80 @@ ordered_first keys new kept untils is ordered of_key were =
 pub ordered_same : (keys new : Keys) → new.entries ≡ keys.entries → AreOrdered keys → AreOrdered new
 ordered_same keys new is were = subst (λ (es : List (Vec ℕ × Untils)). IsStrictlySortedBy text_order (keys_of es) × All_ordered es) (sym is) were
 
--- ---- where all are remembered
+-- the nonces of a key that is there
+pub ordered_at : (keys : Keys) (key : List ℕ) (untils : Untils) → under keys key ≡ Some untils → AreOrdered keys → IsOrdered text_order untils
+ordered_at keys key untils there were =
+    subst (λ o. IfSome o (λ (u : Untils). IsOrdered text_order u)) there
+    (IfSome-lookup_from_All (λ (u : Untils). IsOrdered text_order u) (λ (k : Vec ℕ). is_eq (slice_cmp nat_cmp key k.items)) keys.entries were.1)
+
+-- ---- a nonce that goes only where it isn't remembered any more
+
+pub until_over : (over : Bool) (keys new : Keys) (key nonce : List ℕ) (was untils : Untils) → under keys key ≡ Some was
+    → UpdatesBy text_order (λ k. slice_cmp nat_cmp key k.items) keys new (Some untils)
+    → (over ≡ true → UpdatesBy text_order (λ k. slice_cmp nat_cmp nonce k.items) was untils None) → (over ≡ false → untils.entries ≡ was.entries)
+    → (k n : List ℕ) → until_in new k n ≡ cond (over && (bytes_eq key k && bytes_eq nonce n)) None (until_in keys k n)
+until_over true keys new key nonce was untils there updates goes stays =
+    until_set keys new key nonce nonce was untils None refl there updates (under_after was untils nonce None (goes refl))
+until_over false keys new key nonce was untils there updates goes stays =
+    until_same keys new key was untils (under_after keys new key (Some untils) updates) there (stays refl)
+
+pub many_over : (over : Bool) (keys new : Keys) (key nonce : List ℕ) (was untils : Untils) → under keys key ≡ Some was
+    → new.entries ≡ set_value (is_at (λ (k : Vec ℕ). slice_cmp nat_cmp key k.items)) keys.entries untils
+    → (over ≡ true → untils.entries ≡ remove_entry (is_at (λ (k : Vec ℕ). slice_cmp nat_cmp nonce k.items)) was.entries)
+    → (over ≡ false → untils.entries ≡ was.entries)
+    → (m : ℕ) → many_in new m + (if over && is_live_at m (until_in keys key nonce) then 1 else 0) ≡ many_in keys m
+many_over true keys new key nonce was untils there is goes stays m = many_taken keys new key nonce was untils there is (goes refl) m
+many_over false keys new key nonce was untils there is goes stays m =
+    let same = many_same keys new key was untils there is (stays refl) m in
+    omega (arith, same)
+
+pub rows_over : (latest : ℕ) (over : Bool) (keys new : Keys) (key nonce : List ℕ) → over ≡ is_over_at latest (until_in keys key nonce)
+    → ((k n : List ℕ) → until_in new k n ≡ cond (over && (bytes_eq key k && bytes_eq nonce n)) None (until_in keys k n))
+    → (k n : List ℕ) → until_in new k n
+    ≡ cond ((bytes_eq key k && bytes_eq nonce n) && not (is_live_at latest (until_in keys k n))) None (until_in keys k n)
+rows_over latest over keys new key nonce was rows k n = rows k n ∙ by (bytes_eq key k) (bytes_eq nonce n) refl refl
+  where
+    at : (o : Option ℕ) → cond (is_over_at latest o && true) None o ≡ cond (not (is_live_at latest o)) None o
+    at None = refl
+    at (Some until) = by_live (nat_le latest until)
+      where
+        by_live : (b : Bool) → cond (not b && true) None (Some until) ≡ cond (not b) None (Some until)
+        by_live true = refl
+        by_live false = refl
+
+    none : (b : Bool) (o : Option ℕ) → cond (b && false) None o ≡ o
+    none true o = refl
+    none false o = refl
+
+    by : (x y : Bool) → bytes_eq key k ≡ x → bytes_eq nonce n ≡ y
+        → cond (over && (x && y)) None (until_in keys k n) ≡ cond ((x && y) && not (is_live_at latest (until_in keys k n))) None (until_in keys k n)
+    by true true k_is n_is =
+        ap (λ b. cond (b && true) None (until_in keys k n))
+        (was ∙ ap (λ (q : List ℕ). is_over_at latest (until_in keys q nonce)) ((bytes_eq-Decides key k).0 k_is)
+        ∙ ap (λ (q : List ℕ). is_over_at latest (until_in keys k q)) ((bytes_eq-Decides nonce n).0 n_is))
+        ∙ at (until_in keys k n)
+    by true false k_is n_is = none over (until_in keys k n)
+    by false y k_is n_is = none over (until_in keys k n)
+
+-- at a moment from which on it isn't remembered, nothing goes of the count
+pub counts_over : (latest m many fewer : ℕ) (over : Bool) (o : Option ℕ) → over ≡ is_over_at latest o → latest ≤ m
+    → fewer + (if over && is_live_at m o then 1 else 0) ≡ many → fewer ≡ many
+counts_over latest m many fewer over None was le sum = let none = dead_none over in omega (arith, sum, none)
+  where
+    dead_none : (b : Bool) → one_where (b && false) ≡ 0
+    dead_none true = refl
+    dead_none false = refl
+counts_over latest m many fewer false (Some until) was le sum = omega (arith, sum)
+counts_over latest m many fewer true (Some until) was le sum =
+    let over = leb-false latest until (not_true (nat_le latest until) (sym was)) in
+    let dead : one_where (nat_le m until) ≡ 0 = ap one_where (lt-leb m until (omega (arith, over, le))) in
+    omega (arith, sum, dead)
+  where
+    not_true : (b : Bool) → not b ≡ true → b ≡ false
+    not_true true is = absurd (true≢false (sym is))
+    not_true false is = refl
+
+-- ---- where all are remembered, or none
 
 same_sums : {X : Type 0} (f g : X → ℕ) (xs : List X) → All (λ x. f x ≡ g x) xs → sum_by f xs ≡ sum_by g xs
 same_sums f g [] all = refl
@@ -217,23 +290,46 @@ each_found {X} P tree ordered found =
     by text None is = tt
     by text (Some x) is = found text x is
 
+-- what holds of each moment that a look-up finds holds of all
+each_until : (P : ℕ → Type 0) (keys : Keys) → AreOrdered keys → ((key nonce : List ℕ) (until : ℕ) → until_in keys key nonce ≡ Some until → P until)
+    → All (λ (untils : Untils). All P (values_of untils.entries)) (values_of keys.entries)
+each_until P keys ordered found =
+    each_found (λ (untils : Untils). All P (values_of untils.entries)) keys ordered.0 (λ key untils there.
+    each_found P untils (ordered_at keys key untils there ordered)
+    (λ nonce until is. found key nonce until (ap (option_and_then (λ (u : Untils). under u nonce)) there ∙ is)))
+
+abbrev counts_as_at_0 : ℕ → ℕ → Type 0
+counts_as_at_0 m until = one_where (nat_le 0 until) ≡ one_where (nat_le m until)
+
+abbrev counts_none : ℕ → ℕ → Type 0
+counts_none m until = one_where (nat_le m until) ≡ 0
+
 pub all_counted : (keys : Keys) (m : ℕ) → AreOrdered keys → ((k n : List ℕ) → is_some (until_in keys k n) ≡ is_live_at m (until_in keys k n))
     → many_in keys 0 ≡ many_in keys m
 all_counted keys m ordered live =
-    same_sums (many_of 0) (many_of m) (values_of keys.entries) (each_found (λ untils. many_of 0 untils ≡ many_of m untils) keys ordered.0 of_key)
-  where
-    one : (end : ℕ) → true ≡ nat_le m end → one_where (nat_le 0 end) ≡ one_where (nat_le m end)
-    one end is = ap one_where (le-leb 0 end (omega arith) ∙ is)
+    same_sums (many_of 0) (many_of m) (values_of keys.entries)
+    (All-weaker (λ (untils : Untils). All (counts_as_at_0 m) (values_of untils.entries)) (λ untils. many_of 0 untils ≡ many_of m untils)
+    (λ untils all. same_sums (λ until. one_where (nat_le 0 until)) (λ until. one_where (nat_le m until)) (values_of untils.entries) all)
+    (values_of keys.entries) (each_until (counts_as_at_0 m) keys ordered
+    (λ k n until is. ap one_where (le-leb 0 until (omega arith) ∙ sym (ap is_some is) ∙ live k n ∙ ap (is_live_at m) is))))
 
-    of_key : (key : List ℕ) (untils : Untils) → under keys key ≡ Some untils → many_of 0 untils ≡ many_of m untils
-    of_key key untils there =
-        same_sums (λ until. one_where (nat_le 0 until)) (λ until. one_where (nat_le m until)) (values_of untils.entries)
-        (each_found (λ until. one_where (nat_le 0 until) ≡ one_where (nat_le m until)) untils
-        (subst (λ o. IfSome o (λ (u : Untils). IsOrdered text_order u)) there
-        (IfSome-lookup_from_All (λ (u : Untils). IsOrdered text_order u) (λ (k : Vec ℕ). is_eq (slice_cmp nat_cmp key k.items)) keys.entries ordered.1))
-        (λ nonce end is. one end
-        (sym (ap is_some (ap (option_and_then (λ (u : Untils). under u nonce)) there ∙ is)) ∙ live key nonce
-        ∙ ap (is_live_at m) (ap (option_and_then (λ (u : Untils). under u nonce)) there ∙ is))))
+no_sum : {X : Type 0} (f : X → ℕ) (xs : List X) → All (λ x. f x ≡ 0) xs → sum_by f xs ≡ 0
+no_sum f [] all = refl
+no_sum {X} f (x ∷ xs) all =
+    let head = All-head (λ (y : X). f y ≡ 0) x xs all in
+    let rest = no_sum f xs (All-tail (λ (y : X). f y ≡ 0) x xs all) in
+    let sum = sum_by-cons f x xs in
+    omega (arith, head, rest, sum)
+
+pub none_counted : (keys : Keys) (latest m : ℕ) → AreOrdered keys → latest ≤ m → ((k n : List ℕ) → is_live_at latest (until_in keys k n) ≡ false)
+    → many_in keys m ≡ 0
+none_counted keys latest m ordered le dead =
+    no_sum (many_of m) (values_of keys.entries)
+    (All-weaker (λ (untils : Untils). All (counts_none m) (values_of untils.entries)) (λ untils. many_of m untils ≡ 0)
+    (λ untils all. no_sum (λ until. one_where (nat_le m until)) (values_of untils.entries) all)
+    (values_of keys.entries) (each_until (counts_none m) keys ordered (λ k n until is.
+    let over = leb-false latest until (sym (ap (is_live_at latest) is) ∙ dead k n) in
+    ap one_where (lt-leb m until (omega (arith, over, le))))))
 
 live_from_0 : (o : Option ℕ) → is_live_at 0 o ≡ is_some o
 live_from_0 None = refl
@@ -252,3 +348,19 @@ counted_less keys new key nonce count there b is same was less =
     let now = less 0 in
     let one : one_where (is_live_at 0 (until_in keys key nonce)) ≡ one_where b = ap one_where (live_from_0 (until_in keys key nonce) ∙ sym is ∙ same) in
     omega (arith, was, now, one)
+
+pub counted_over : (keys new : Keys) (key nonce : List ℕ) (latest count : ℕ) (over b : Bool) → over ≡ is_over_at latest (until_in keys key nonce) → over ≡ b
+    → count ≡ many_in keys 0 → ((m : ℕ) → many_in new m + (if over && is_live_at m (until_in keys key nonce) then 1 else 0) ≡ many_in keys m)
+    → many_in new 0 + one_where b ≡ count
+counted_over keys new key nonce latest count over b is same was less =
+    let now = less 0 in
+    let one : one_where (over && is_live_at 0 (until_in keys key nonce)) ≡ one_where b = ap one_where (by (until_in keys key nonce) is ∙ same) in
+    omega (arith, was, now, one)
+  where
+    and_true : (x : Bool) → (x && true) ≡ x
+    and_true true = refl
+    and_true false = refl
+
+    by : (o : Option ℕ) → over ≡ is_over_at latest o → (over && is_live_at 0 o) ≡ over
+    by None none = ap (λ x. x && false) none ∙ sym none
+    by (Some until) some = ap (λ x. over && x) (le-leb 0 until (omega arith)) ∙ and_true over

@@ -1,5 +1,5 @@
 -- What the trees keep.
-use Rattle.std.specs.Prelude.{ℕ, ◌≡◌, ◌≢◌, ◌<◌, ◌≤◌, nat_le, Bool, true, false, sum_by, if◌then◌else◌}
+use Rattle.std.specs.Prelude.{ℕ, ◌≡◌, ◌≢◌, ◌<◌, ◌≤◌, nat_le, Bool, true, false, sum_by, ◌&&◌, not, is_some, if◌then◌else◌}
 use Rattle.std.specs.Option.{option_and_then, option_map_or}
 use Rattle.std.specs.List.{list_any, All}
 use Rattle.std.specs.declared.option.Option.{Option}
@@ -46,6 +46,10 @@ many_of moment untils = sum_by (λ until. if nat_le moment until then 1 else 0) 
 -- how many of all
 abbrev pub many_in : Keys → ℕ → ℕ
 many_in keys moment = sum_by (many_of moment) (values keys)
+
+-- it was remembered, and isn't any more at this moment
+abbrev pub is_over_at : ℕ → Option ℕ → Bool
+is_over_at moment until = is_some until && not (is_live_at moment until)
 
 -- this nonce of this key is among those of the second
 abbrev pub has : Run → Text → Text → Bool

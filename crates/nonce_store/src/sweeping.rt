@@ -1,5 +1,7 @@
 //! The sweep of what isn't remembered any more.
-ghost use Rattle.std.specs.Prelude.{◌≡◌, ◌<◌, ◌≤◌, ◌&&◌, ℕ, List, IfSome, IfNone, not, None, false, if◌then◌else◌};
+ghost use Rattle.std.specs.Prelude.{◌≡◌, ◌<◌, ◌≤◌, ◌&&◌, ℕ, List, IfSome, IfNone, IsTrue, not, None, false, if◌then◌else◌};
+ghost use Rattle.std.specs.Ordering.{nat_cmp};
+ghost use Rattle.std.specs.BTreeMap.{ContainsKey};
 ghost use Rattle.signed_calls.specs.Remembering.{IsSwept, is_live_at};
 ghost use Rattle.gnap_model.specs.Common.{same_text};
 ghost use Rattle.nonce_store.specs.Kept.{Covers, IsPopped, until_in, many_in, is_noted, has};
@@ -22,6 +24,17 @@ fn pop_over(seconds: &mut Seconds, latest: u64) -> Option<Run>
     Some(run)
 }
 
+// Whether each second is over.
+fn are_over(seconds: &Seconds, latest: u64) -> bool
+    ensures over { IsTrue result → (second : ℕ) (k n : List ℕ) → latest ≤ second → is_noted seconds.now second k n ≡ false }
+    ensures not_over { result ≡ false → (second : ℕ) × (latest ≤ second) × ContainsKey nat_cmp seconds.now second }
+{
+    match seconds.last_key_value() {
+        Some((second, _)) => *second < latest,
+        None => true,
+    }
+}
+
 // Takes those of these nonces out that aren't remembered any more.
 fn take_over(kept: &mut KeyedNonces, run: &Run, latest: u64)
     ensures rows { (k n : List ℕ) → until_in kept.new.keys k n
@@ -29,31 +42,22 @@ fn take_over(kept: &mut KeyedNonces, run: &Run, latest: u64)
     ensures counts { (m : ℕ) → latest ≤ m → many_in kept.new.keys m ≡ many_in kept.old.keys m }
 {
     for place in run.places() {
-        take_if_over(kept, run.key(place), run.nonce(place), latest);
+        kept.take_if_over(run.key(place), run.nonce(place), latest);
     }
 }
 
-// Takes the nonce out if it isn't remembered any more.
-fn take_if_over(kept: &mut KeyedNonces, key: &[u8], nonce: &[u8], latest: u64)
-    ensures rows { (k n : List ℕ) → until_in kept.new.keys k n
-        ≡ (if (same_text key.now k && same_text nonce.now n) && not (is_live_at latest (until_in kept.old.keys k n))
-        then None else until_in kept.old.keys k n) }
-    ensures counts { (m : ℕ) → latest ≤ m → many_in kept.new.keys m ≡ many_in kept.old.keys m }
-{
-    if let Some(end) = kept.until(key, nonce) {
-        if end < latest {
-            kept.take(key, nonce);
-        }
-    }
-}
-
-/// Takes out the seconds that are over, and their nonces.
+/// Takes out the seconds that are over, and their nonces. Where all are, nothing is looked up.
 pub fn sweep(kept: &mut KeyedNonces, seconds: &mut Seconds, latest: u64)
     requires { Covers seconds.old kept.old.keys }
     ensures covers { Covers seconds.new kept.new.keys }
     ensures swept { IsSwept (until_in kept.old.keys) (many_in kept.old.keys) latest (until_in kept.new.keys) (many_in kept.new.keys) }
 {
     while let Some(run) = pop_over(seconds, latest) {
+        if are_over(seconds, latest) {
+            seconds.clear();
+            kept.forget_all();
+            return;
+        }
         take_over(kept, &run, latest);
     }
 }

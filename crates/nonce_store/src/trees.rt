@@ -1,9 +1,12 @@
 //! The nonces of each key, in two levels of trees: clients choose nonces, and could choose such as collide under a hash.
-ghost use Rattle.std.specs.Prelude.{◌≡◌, ℕ, ◌+◌, ◌&&◌, List, if◌then◌else◌, OnOk, OnErr, nat_le, is_some, Some, None};
-ghost use Rattle.std.specs.BTreeMap.{IsOrdered};
+ghost use Rattle.std.specs.Prelude.{◌≡◌, ℕ, ◌+◌, ◌&&◌, List, if◌then◌else◌, OnOk, OnErr, ◌≤◌, nat_le, is_some, not, true, false, Some, None};
+ghost use Rattle.std.specs.Ordering.{nat_cmp};
+ghost use Rattle.std.specs.Cmp.Lexicographic.{slice_cmp};
+ghost use Rattle.std.specs.Map.{remove_entry};
+ghost use Rattle.std.specs.BTreeMap.{IsOrdered, UpdatesBy, is_at};
 ghost use Rattle.gnap_model.specs.Common.{same_text};
 ghost use Rattle.signed_calls.specs.Remembering.{is_live_at};
-ghost use Rattle.nonce_store.specs.Kept.{under, until_in, many_of, many_in, text_order, AreOrdered};
+ghost use Rattle.nonce_store.specs.Kept.{under, until_in, is_over_at, many_of, many_in, text_order, AreOrdered};
 
 use bytes_and_lists::memory::Mem;
 use std::alloc::Global;
@@ -77,6 +80,34 @@ fn take_out(keys: &mut Keys, key: &[u8], nonce: &[u8]) -> bool
     }
 }
 
+// Takes the nonce out if it isn't remembered any more, and says whether it did.
+fn take_over_under(untils: &mut Untils, nonce: &[u8], latest: u64) -> bool
+    ensures over { result ≡ is_over_at latest (under untils.old nonce.now) }
+    ensures updates { result ≡ true → UpdatesBy text_order (λ key. slice_cmp nat_cmp nonce.now key.items) untils.old untils.new None }
+    ensures entries { result ≡ true → untils.new.entries ≡ remove_entry (is_at (λ key. slice_cmp nat_cmp nonce.now key.items)) untils.old.entries }
+    ensures stays { result ≡ false → untils.new.entries ≡ untils.old.entries }
+    ensures ordered { IsOrdered text_order untils.old → IsOrdered text_order untils.new }
+{
+    match untils.get(nonce) {
+        Some(end) if *end < latest => untils.remove(nonce).is_some(),
+        _ => false,
+    }
+}
+
+// The same of a key's nonce.
+fn take_out_over(keys: &mut Keys, key: &[u8], nonce: &[u8], latest: u64) -> bool
+    ensures over { result ≡ is_over_at latest (until_in keys.old key.now nonce.now) }
+    ensures rows { (k n : List ℕ) → until_in keys.new k n
+        ≡ (if result && (same_text key.now k && same_text nonce.now n) then None else until_in keys.old k n) }
+    ensures counts { (m : ℕ) → many_in keys.new m + (if result && is_live_at m (until_in keys.old key.now nonce.now) then 1 else 0) ≡ many_in keys.old m }
+    ensures ordered { AreOrdered keys.old → AreOrdered keys.new }
+{
+    match keys.get_mut(key) {
+        Some(untils) => take_over_under(untils, nonce, latest),
+        None => false,
+    }
+}
+
 /// The nonces of each key, and how many there are. A key whose nonces are all taken out keeps its place.
 #[derive(Drop)]
 pub struct KeyedNonces {
@@ -141,5 +172,26 @@ impl KeyedNonces {
         if take_out(&mut self.keys, key, nonce) {
             self.count -= 1;
         }
+    }
+
+    /// Takes the nonce out if it isn't remembered any more.
+    pub fn take_if_over(&mut self, key: &[u8], nonce: &[u8], latest: u64)
+        ensures rows { (k n : List ℕ) → until_in self.new.keys k n
+            ≡ (if (same_text key.now k && same_text nonce.now n) && not (is_live_at latest (until_in self.old.keys k n))
+            then None else until_in self.old.keys k n) }
+        ensures counts { (m : ℕ) → latest ≤ m → many_in self.new.keys m ≡ many_in self.old.keys m }
+    {
+        if take_out_over(&mut self.keys, key, nonce, latest) {
+            self.count -= 1;
+        }
+    }
+
+    /// Takes all nonces out, and their keys.
+    pub fn forget_all(&mut self)
+        ensures rows { (k n : List ℕ) → until_in self.new.keys k n ≡ None }
+        ensures counts { (m : ℕ) → many_in self.new.keys m ≡ 0 }
+    {
+        self.keys.clear();
+        self.count = 0;
     }
 }

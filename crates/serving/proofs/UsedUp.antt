@@ -10,7 +10,8 @@ use Rattle.serving.specs.Workers.{HasServedAll, HaveServedAll}
 use Rattle.serving.specs.ServiceEnds.{has_failed, IsUsedUp, IsEndOfDoor}
 
 -- the same of gears and of what they count
-pub any_counted : {G : Type 0} (state : G → GearState) (gears : List G) → list_any has_failed (map state gears) ≡ list_any (λ gear. has_failed (state gear)) gears
+pub any_counted : {G : Type 0} (state : G → GearState) (gears : List G)
+    → list_any has_failed (map state gears) ≡ list_any (λ gear. has_failed (state gear)) gears
 any_counted state [] = refl
 any_counted state (gear ∷ gears) = ap (λ b. has_failed (state gear) || b) (any_counted state gears)
 
@@ -35,7 +36,9 @@ ends_of_doors [] [] unused served = All-nil IsEndOfDoor
 ends_of_doors [] (a ∷ after) unused served = absurd served
 ends_of_doors (b ∷ before) [] unused served = absurd served
 ends_of_doors (b ∷ before) (a ∷ after) unused served =
-    All-cons IsEndOfDoor a after (end_of_door b a (unused 0 b (omega arith)) served.0) (ends_of_doors before after (λ k d lt. unused (suc k) d (omega (arith, lt))) served.1)
+    All-cons IsEndOfDoor a after
+    (end_of_door b a (unused 0 b (omega arith)) served.0)
+    (ends_of_doors before after (λ k d lt. unused (suc k) d (omega (arith, lt))) served.1)
 
 pub used_up : (before after : List GearState) → All IsUnused before → HaveServedAll before after → list_any has_failed after ≡ false → All IsUsedUp after
 used_up [] [] unused served unfailed = All-nil IsUsedUp

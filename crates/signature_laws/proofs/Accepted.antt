@@ -7,11 +7,12 @@ use Rattle.bytes_and_lists.specs.declared.message.Message.{Message}
 use Rattle.structured_fields.specs.declared.item.Member.{Member}
 use Rattle.structured_fields.specs.Named.{value_at}
 use Rattle.structured_fields.specs.Reading.{dictionary_of}
+use Rattle.structured_fields.specs.Strings.{is_string}
 use Rattle.hmac_key.specs.Hmac.{hmac_sha256}
 use Rattle.message_signature.specs.declared.fault.SigFault.TheVariants.{NoField, NotAField, Malformed, Unsupported, Uncovered, Created, Expired, Alg, UnknownKey, Differs, Digest}
 use Rattle.message_signature.specs.declared.tags.SignatureFields.{SignatureFields}
 use Rattle.message_signature.specs.Components.{field_value}
-use Rattle.message_signature.specs.Base.{is_string, signature_base}
+use Rattle.message_signature.specs.Base.{signature_base}
 use Rattle.message_signature.specs.Verified.{with_tag, only_one, signature_under, absent_or, is_well_formed, covers_enough, is_in_window, is_not_expired, key_in, has_right_digest, Signature, signature_fields, tagged_in, tagged, admitted, made_under, judged_over, judged, verified}
 use Rattle.message_signature.specs.Marks.{mark_of}
 use Rattle.message_signature.proofs.CheckSteps.{step_ok, need_ok, must_ok}

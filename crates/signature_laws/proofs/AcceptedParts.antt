@@ -11,12 +11,13 @@ use Rattle.structured_fields.specs.declared.item.Item.{Item}
 use Rattle.structured_fields.specs.declared.item.InnerList.{InnerList}
 use Rattle.structured_fields.specs.declared.item.Member.{Member}
 use Rattle.structured_fields.specs.Named.{value_at}
+use Rattle.structured_fields.specs.Strings.{is_any_string}
 use Rattle.content_digest.specs.declared.fault.DigestFault.{DigestFault}
 use Rattle.content_digest.specs.Digest.{sequence_of}
 use Rattle.content_digest.specs.Judged.{checked}
 use Rattle.message_signature.specs.Components.{field_value}
 use Rattle.message_signature.specs.Base.{is_named, name_of, line_of, base_lines, signature_base}
-use Rattle.message_signature.specs.Verified.{signature_under, is_integer, is_any_string, absent_or, is_well_formed, has_body, has_field, covers_enough, has_right_digest}
+use Rattle.message_signature.specs.Verified.{signature_under, is_integer, absent_or, is_well_formed, has_body, has_field, covers_enough, has_right_digest}
 use Rattle.message_signature.proofs.SignedBase.{none_is}
 
 -- ---- tests

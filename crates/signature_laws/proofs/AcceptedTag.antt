@@ -6,7 +6,8 @@ use Rattle.structured_fields.specs.declared.item.InnerList.{InnerList}
 use Rattle.structured_fields.specs.declared.item.Member.{Member}
 use Rattle.structured_fields.specs.declared.item.Member.TheVariants.{Item as Single, Inner}
 use Rattle.structured_fields.specs.Named.{value_at}
-use Rattle.message_signature.specs.Verified.{is_text, with_tag, only_one}
+use Rattle.structured_fields.specs.Strings.{holds_string}
+use Rattle.message_signature.specs.Verified.{with_tag, only_one}
 use Rattle.signature_laws.specs.Accepted.{HasTag, IsTheTagged}
 use Rattle.signature_laws.proofs.AcceptedTests.{text_decides}
 
@@ -21,7 +22,7 @@ module _ (tag : List ℕ) where
   HasNone es = AllByRecursion (λ e. HasTag tag e.1 → ⊥) es
 
   abbrev tests : InnerList → Bool
-  tests list = is_text tag (value_at list.params (codes "tag"))
+  tests list = holds_string tag (value_at list.params (codes "tag"))
 
   passes : (list : InnerList) → tests list ≡ true → HasTag tag (Inner list)
   passes list h = (text_decides tag (value_at list.params (codes "tag"))).0 h

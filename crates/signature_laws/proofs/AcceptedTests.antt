@@ -8,8 +8,8 @@ use Rattle.std.proofs.lemmas.Bool.Decides.{nat_tests}
 use Rattle.structured_fields.specs.declared.bare.Bare.{Bare}
 use Rattle.structured_fields.specs.declared.bare.Bare.TheVariants.{Integer, Decimal, Str, Token, Binary, Boolean, Date, Display}
 use Rattle.structured_fields.specs.Named.{value_at}
-use Rattle.message_signature.specs.Base.{is_string}
-use Rattle.message_signature.specs.Verified.{is_text, is_integer, is_any_string, absent_or, is_in_window, is_not_expired, key_in}
+use Rattle.structured_fields.specs.Strings.{holds_string, is_any_string, is_string}
+use Rattle.message_signature.specs.Verified.{is_integer, absent_or, is_in_window, is_not_expired, key_in}
 use Rattle.signature_laws.specs.Accepted.{IsNear, IsUpTo}
 
 -- ---- Strings
@@ -24,7 +24,7 @@ string_decides s (Boolean b) = (λ h. absurd cc, λ e. absurd cc)
 string_decides s (Date n) = (λ h. absurd cc, λ e. absurd cc)
 string_decides s (Display t) = (λ h. absurd cc, λ e. absurd cc)
 
-pub text_decides : (s : List ℕ) (o : Option Bare) → Decides (is_text s o) (o ≡ Some (Str s))
+pub text_decides : (s : List ℕ) (o : Option Bare) → Decides (holds_string s o) (o ≡ Some (Str s))
 text_decides s (Some v) = (λ h. ap (λ (w : Bare). Some w) ((string_decides s v).0 h), λ e. let same : v ≡ Str s = cc in (string_decides s v).1 same)
 text_decides s None = (λ h. absurd cc, λ e. absurd cc)
 

@@ -12,6 +12,7 @@ use Rattle.structured_fields.specs.declared.item.Member.TheVariants.{Inner}
 use Rattle.structured_fields.specs.Named.{value_at}
 use Rattle.structured_fields.specs.Letters.{is_string_byte}
 use Rattle.structured_fields.specs.Canonical.{IsInnerInRange}
+use Rattle.structured_fields.specs.Strings.{is_any_string}
 use Rattle.hmac_key.specs.Hmac.{hmac_sha256}
 use Rattle.message_signature.specs.declared.fault.SigFault.{SigFault}
 use Rattle.message_signature.specs.declared.fault.SigFault.TheVariants.{Unsupported, UnknownKey, Differs, Digest}
@@ -19,7 +20,7 @@ use Rattle.message_signature.specs.declared.tags.SignatureFields.{SignatureField
 use Rattle.message_signature.specs.Components.{values_of, field_value}
 use Rattle.message_signature.specs.Faults.{◌>>=◌, need}
 use Rattle.message_signature.specs.Base.{is_named, signature_base}
-use Rattle.message_signature.specs.Verified.{is_any_string, is_well_formed, has_body, has_field, covers_enough, key_in, has_right_digest, Signature, signature_fields, tagged_in, tagged, admitted, made_under, judged_over, judged, verified}
+use Rattle.message_signature.specs.Verified.{is_well_formed, has_body, has_field, covers_enough, key_in, has_right_digest, Signature, signature_fields, tagged_in, tagged, admitted, made_under, judged_over, judged, verified}
 use Rattle.message_signature.specs.Signed.{has_signature, with_fields, with_digest, params_of, signature_input, signature_lines, label}
 use Rattle.message_signature.proofs.CheckSteps.{step_ok, need_ok, must_ok}
 use Rattle.message_signature.proofs.Appended.{value_beside, value_added}

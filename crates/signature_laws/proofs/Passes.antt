@@ -12,11 +12,12 @@ use Rattle.structured_fields.specs.declared.bare.Bare.TheVariants.{Integer, Str}
 use Rattle.structured_fields.specs.declared.item.InnerList.{InnerList}
 use Rattle.structured_fields.specs.Named.{value_at}
 use Rattle.structured_fields.specs.Canonical.{dictionary_text}
+use Rattle.structured_fields.specs.Strings.{is_any_string}
 use Rattle.content_digest.proofs.Judging.{fits_checked}
 use Rattle.hmac_key.specs.Hmac.{hmac_sha256}
 use Rattle.message_signature.specs.Components.{values_of, field_value}
 use Rattle.message_signature.specs.Base.{is_named, signature_base}
-use Rattle.message_signature.specs.Verified.{is_any_string, is_well_formed, has_body, has_field, covers_enough, is_in_window, has_right_digest, Signature, tagged, admitted, made_under, judged_over, judged, lone_list, verified}
+use Rattle.message_signature.specs.Verified.{is_well_formed, has_body, has_field, covers_enough, is_in_window, has_right_digest, Signature, tagged, admitted, made_under, judged_over, judged, lone_list, verified}
 use Rattle.message_signature.specs.Marks.{latest_created, mark_in, mark_in_found, mark_of, is_nonce}
 use Rattle.message_signature.specs.Signed.{component_item, with_fields, with_digest, params_of, signature_input, label, signature_lines}
 use Rattle.message_signature.proofs.Appended.{value_beside, value_added}

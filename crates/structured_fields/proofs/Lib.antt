@@ -16,7 +16,4 @@ pub mod Members
 pub mod Whole
 pub mod Ranges
 pub mod Read
-pub mod Behind
-pub mod SkippedEntries
-pub mod StringLists
 pub mod Written

@@ -4,5 +4,4 @@ pub mod Grammar
 pub mod Canonical
 pub mod Reading
 pub mod NameNotes
-pub mod Skipping
-pub mod Laws
+pub mod Strings

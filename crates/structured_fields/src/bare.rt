@@ -1,4 +1,7 @@
 //! Bare items.
+ghost use Rattle.std.specs.Prelude.{◌≡◌};
+ghost use Rattle.structured_fields.specs.Strings.{is_any_string, is_string};
+
 use bytes_and_lists::bytes::Bytes;
 use bytes_and_lists::memory::{Duplicate, Mem};
 
@@ -34,5 +37,22 @@ impl Duplicate for Bare {
             Bare::Date(seconds) => Ok(Bare::Date(*seconds)),
             Bare::Display(text) => Ok(Bare::Display(text.copy()?)),
         }
+    }
+}
+
+/// Whether a bare item is a String.
+pub fn is_any_string(v: &Bare) -> bool
+    ensures { result ≡ is_any_string v.now }
+{
+    matches!(v, Bare::Str(_))
+}
+
+/// Whether a bare item is this String.
+pub fn is_string(s: &[u8], v: &Bare) -> bool
+    ensures { result ≡ is_string s.now v.now }
+{
+    match v {
+        Bare::Str(text) => text.as_slice() == s,
+        _ => false,
     }
 }

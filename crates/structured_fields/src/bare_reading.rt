@@ -203,7 +203,7 @@ fn string_of(alloc: Global, bytes: &[u8]) -> Result<(Bytes, &[u8]), FieldFault>
 }
 
 #[tactic(auto, unfolding(crate::specs::Reading::bare_at))]
-pub(crate) fn bare_of(alloc: Global, bytes: &[u8]) -> Result<(Bare, &[u8]), FieldFault>
+pub fn bare_of(alloc: Global, bytes: &[u8]) -> Result<(Bare, &[u8]), FieldFault>
     ensures { Gives (λ x. (x.0, x.1.now)) result (bare_at bytes.now) }
 {
     match bytes {

@@ -11,7 +11,7 @@ use bytes_and_lists::bytes::Bytes;
 use std::alloc::Global;
 
 #[tactic(auto, unfolding(crate::specs::Reading::value_of))]
-pub(crate) fn value_in(alloc: Global, bytes: &[u8]) -> Result<(Bare, &[u8]), FieldFault>
+pub fn value_in(alloc: Global, bytes: &[u8]) -> Result<(Bare, &[u8]), FieldFault>
     ensures { Gives (λ x. (x.0, x.1.now)) result (value_of bytes.now) }
 {
     match bytes {
@@ -29,7 +29,7 @@ fn parameter_of(alloc: Global, bytes: &[u8]) -> Result<(Bytes, Bare, &[u8]), Fie
     Ok((name, value, rest))
 }
 
-pub(crate) fn params_of(alloc: Global, bytes: &[u8]) -> Result<(Params, &[u8]), FieldFault>
+pub fn params_of(alloc: Global, bytes: &[u8]) -> Result<(Params, &[u8]), FieldFault>
     ensures { Gives (λ x. (x.0, x.1.now)) result (params_at bytes.now) }
 {
     let mut params = Params::new(alloc);
@@ -46,7 +46,7 @@ pub(crate) fn params_of(alloc: Global, bytes: &[u8]) -> Result<(Params, &[u8]), 
 }
 
 #[tactic(auto, unfolding(crate::specs::Reading::item_at))]
-pub(crate) fn item_in(alloc: Global, bytes: &[u8]) -> Result<(Item, &[u8]), FieldFault>
+pub fn item_in(alloc: Global, bytes: &[u8]) -> Result<(Item, &[u8]), FieldFault>
     ensures { Gives (λ x. (x.0, x.1.now)) result (item_at bytes.now) }
 {
     let (bare, rest) = bare_of(alloc, bytes)?;
@@ -54,7 +54,7 @@ pub(crate) fn item_in(alloc: Global, bytes: &[u8]) -> Result<(Item, &[u8]), Fiel
     Ok((Item { bare, params }, rest))
 }
 
-pub(crate) fn is_item_end(bytes: &[u8]) -> bool
+pub fn is_item_end(bytes: &[u8]) -> bool
     ensures { result ≡ is_item_end bytes.now }
 {
     begins(b' ', bytes) || begins(b')', bytes)

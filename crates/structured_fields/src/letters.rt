@@ -4,7 +4,7 @@ ghost use Rattle.std.specs.List.{prefix_len, list_all};
 ghost use Rattle.structured_fields.specs.Letters.{is_space, is_ows, is_digit, is_key_start, is_key_byte, is_token_start, is_token_byte, is_string_byte, is_quoted, is_unquoted, is_plain, is_shown};
 ghost use Rattle.structured_fields.specs.Reading.{front, behind, begins, is_not_colon, is_not_quote, trimmed};
 
-pub(crate) fn is_key_start(c: u8) -> bool
+pub fn is_key_start(c: u8) -> bool
     ensures { result ≡ is_key_start c }
 {
     c.is_ascii_lowercase() || c == b'*'
@@ -16,7 +16,7 @@ fn is_key_byte(c: u8) -> bool
     is_key_start(c) || c.is_ascii_digit() || c == b'_' || c == b'-' || c == b'.'
 }
 
-pub(crate) fn is_token_start(c: u8) -> bool
+pub fn is_token_start(c: u8) -> bool
     ensures { result ≡ is_token_start c }
 {
     c.is_ascii_alphabetic() || c == b'*'
@@ -32,13 +32,13 @@ fn is_token_byte(c: u8) -> bool
         )
 }
 
-pub(crate) fn is_string_byte(c: u8) -> bool
+pub fn is_string_byte(c: u8) -> bool
     ensures { result ≡ is_string_byte c }
 {
     c >= 0x20 && c <= 0x7E
 }
 
-pub(crate) fn is_quoted(c: u8) -> bool
+pub fn is_quoted(c: u8) -> bool
     ensures { result ≡ is_quoted c }
 {
     c == b'"' || c == b'\\'
@@ -65,21 +65,21 @@ pub(crate) fn unquoted_run(bytes: &[u8]) -> usize
     bytes.iter().take_while(|b| !is_quoted(**b)).count()
 }
 
-pub(crate) fn plain_run(bytes: &[u8]) -> usize
+pub fn plain_run(bytes: &[u8]) -> usize
     ensures len { result ≡ prefix_len is_plain bytes.now }
     ensures within { result ≤ length bytes.now }
 {
     bytes.iter().take_while(|b| is_plain(**b)).count()
 }
 
-pub(crate) fn key_run(bytes: &[u8]) -> usize
+pub fn key_run(bytes: &[u8]) -> usize
     ensures len { result ≡ prefix_len is_key_byte bytes.now }
     ensures within { result ≤ length bytes.now }
 {
     bytes.iter().take_while(|b| is_key_byte(**b)).count()
 }
 
-pub(crate) fn token_run(bytes: &[u8]) -> usize
+pub fn token_run(bytes: &[u8]) -> usize
     ensures len { result ≡ prefix_len is_token_byte bytes.now }
     ensures within { result ≤ length bytes.now }
 {
@@ -125,7 +125,7 @@ fn space_run(bytes: &[u8]) -> usize
     bytes.iter().take_while(|b| **b == b' ').count()
 }
 
-pub(crate) fn without_spaces(bytes: &[u8]) -> &[u8]
+pub fn without_spaces(bytes: &[u8]) -> &[u8]
     ensures { result.now ≡ behind is_space bytes.now }
 {
     let (_, rest) = bytes.split_at(space_run(bytes));
@@ -175,7 +175,7 @@ pub fn trimmed(line: &[u8]) -> &[u8]
     without_ows_back(without_ows(line))
 }
 
-pub(crate) fn begins(c: u8, bytes: &[u8]) -> bool
+pub fn begins(c: u8, bytes: &[u8]) -> bool
     ensures { result ≡ begins c bytes.now }
 {
     match bytes {
@@ -185,7 +185,7 @@ pub(crate) fn begins(c: u8, bytes: &[u8]) -> bool
 }
 
 // What stands behind the byte c, where the text begins with it.
-pub(crate) fn strip(c: u8, bytes: &[u8]) -> Option<&[u8]>
+pub fn strip(c: u8, bytes: &[u8]) -> Option<&[u8]>
     ensures { MatchOption result (begins c bytes.now ≡ false) (λ r. (begins c bytes.now ≡ true) × (r.now ≡ drop 1 bytes.now)) }
 {
     match bytes {

@@ -1,7 +1,7 @@
 //! Structured fields of HTTP (RFC 9651): items, lists and dictionaries, read from texts and written in their canonical form.
 //!
 //! The contracts speak of a relation between whole texts and values, with one definition for each production of the RFC (`specs/Grammar.antt`), and of one canonical text for each value in range (`specs/Canonical.antt`).
-//! A reader answers v exactly where the text is a text of v, and `NotInGrammar` exactly where it is a text of no value; a text has one value at most. A writer gives the canonical text of a value in range, which every reader's value is, and reading it gives that value again (`laws`).
+//! A reader answers v exactly where the text is a text of v, and `NotInGrammar` exactly where it is a text of no value; a text has one value at most. A writer gives the canonical text of a value in range, which every reader's value is, and reading it gives that value again (`field_laws`).
 //! `item_of`, `list_of` and `dictionary_of` (`specs/Reading.antt`) say the same as functions, for contracts that compute with what a text holds.
 //!
 //! Two rules are this project's own: a byte sequence may stand without its padding, and one whose unused last bits aren't zero is refused. Want of memory is `OutOfMemory` or `Mem`, and changes nothing.
@@ -12,26 +12,21 @@ mod bare;
 mod bare_reading;
 mod display_reading;
 mod fault;
+pub mod front;
 mod item;
 mod item_reading;
-pub mod laws;
 mod letters;
-mod lookup;
 mod name_notes;
 mod named;
 mod reading;
-mod skipping;
-mod string_lists;
 mod writing;
 
-pub use bare::Bare;
+pub use bare::{Bare, is_any_string, is_string};
 pub use fault::FieldFault;
 pub use item::{Dictionary, InnerList, Item, Items, List, Member, Params};
 pub use letters::trimmed;
-pub use lookup::{Keyed, Matched, matching_list, single_under};
 pub use named::Named;
 pub use reading::{read_dictionary, read_item, read_list};
-pub use string_lists::strings_behind;
 pub use writing::{
     append_inner, append_item, write_dictionary, write_inner, write_item, write_list,
 };

@@ -16,7 +16,7 @@ use std::alloc::Global;
 
 // Behind a member: where the next one stands, if there is one.
 #[tactic(auto, unfolding(crate::specs::Reading::next_at))]
-pub(crate) fn next_in(bytes: &[u8]) -> Result<Option<&[u8]>, FieldFault>
+pub fn next_in(bytes: &[u8]) -> Result<Option<&[u8]>, FieldFault>
     ensures { Gives (λ next. option_copied next) result (next_at bytes.now) }
 {
     match without_ows(bytes) {

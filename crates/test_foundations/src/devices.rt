@@ -38,7 +38,16 @@ fn source(alloc: Global, text: &[u8], bad: &[u64]) -> Result<MemSource, Mem> {
     ))
 }
 
-// The sums of a file's bytes read by fours, each read that fails counting as 1,000.
+// What a read of four bytes comes to: how many come, by hundreds, and the first of them, or 1,000 where it fails.
+fn read_of_four<S: Source>(file: &mut S) -> u64 {
+    let mut buf = [0u8; 4];
+    match file.read(&mut buf) {
+        Err(_) => 1000,
+        Ok(count) => count as u64 * 100 + buf[0] as u64,
+    }
+}
+
+// What five such reads of a file come to, or 1 where it can't be opened, and 2 where memory runs out.
 fn reads(alloc: Global, world: &mut MemWorld, name: &[u8]) -> Result<Vec<u64>, Mem> {
     let mut sums = Vec::new(alloc);
     match world.open_file(&Bytes::from_slice(alloc, name)?) {
@@ -46,11 +55,7 @@ fn reads(alloc: Global, world: &mut MemWorld, name: &[u8]) -> Result<Vec<u64>, M
         Err(WorldFault::OutOfMemory) => sums.push(2)?,
         Ok(mut file) => {
             for _ in 0..5u64 {
-                let mut buf = [0u8; 4];
-                match file.read(&mut buf) {
-                    Err(_) => sums.push(1000)?,
-                    Ok(count) => sums.push(count as u64 * 100 + buf[0] as u64)?,
-                }
+                sums.push(read_of_four(&mut file))?;
             }
             world.close_file(file);
         }
@@ -58,26 +63,36 @@ fn reads(alloc: Global, world: &mut MemWorld, name: &[u8]) -> Result<Vec<u64>, M
     Ok(sums)
 }
 
-fn told(alloc: Global) -> Result<bool, Mem> {
+fn file(alloc: Global, name: &[u8], text: &[u8], bad: &[u64]) -> Result<(Bytes, MemSource), Mem> {
+    Ok((Bytes::from_slice(alloc, name)?, source(alloc, text, bad)?))
+}
+
+// A world with two files, whose fourth opening fails.
+fn world_with_files(alloc: Global) -> Result<MemWorld, Mem> {
     let mut files = Vec::new(alloc);
-    files.push((
-        Bytes::from_slice(alloc, b"a")?,
-        source(alloc, b"\x01\x02\x03\x04\x05\x06", &[2])?,
-    ))?;
-    files.push((Bytes::from_slice(alloc, b"b")?, source(alloc, b"", &[])?))?;
-    let mut world = MemWorld::new(
-        files,
-        Vec::new(alloc),
-        Vec::new(alloc),
-        Vec::from_slice(alloc, &[4])?,
-    );
-    Ok(
-        reads(alloc, &mut world, b"a")?.as_slice() == [401, 1000, 205, 0, 0].as_slice()
-            && reads(alloc, &mut world, b"b")?.as_slice() == [0, 0, 0, 0, 0].as_slice()
-            && reads(alloc, &mut world, b"c")?.as_slice() == [1].as_slice()
-            && reads(alloc, &mut world, b"a")?.as_slice() == [1].as_slice()
-            && reads(alloc, &mut world, b"a")?.as_slice() == [401, 1000, 205, 0, 0].as_slice(),
-    )
+    files.push(file(alloc, b"a", b"\x01\x02\x03\x04\x05\x06", &[2])?)?;
+    files.push(file(alloc, b"b", b"", &[])?)?;
+    let bad_opens = Vec::from_slice(alloc, &[4])?;
+    Ok(MemWorld::new(files, Vec::new(alloc), Vec::new(alloc), bad_opens))
+}
+
+// The names of files, in the order in which they are read, and what each gives.
+const READINGS: [(&[u8], &[u64]); 5] = [
+    (b"a", &[401, 1000, 205, 0, 0]),
+    (b"b", &[0, 0, 0, 0, 0]),
+    (b"c", &[1]),
+    (b"a", &[1]),
+    (b"a", &[401, 1000, 205, 0, 0]),
+];
+
+fn told(alloc: Global) -> Result<bool, Mem> {
+    let mut world = world_with_files(alloc)?;
+    for (name, sums) in READINGS {
+        if reads(alloc, &mut world, name)?.as_slice() != sums {
+            return Ok(false);
+        }
+    }
+    Ok(true)
 }
 
 // A source of two bytes and five times a third, whose second read fails, and one of more bytes than any memory has.
@@ -115,20 +130,28 @@ fn written(alloc: Global) -> Result<bool, Mem> {
     Ok(first && second && third == Ok(2) && fourth && out.written() == b"abcde".as_slice())
 }
 
-fn copied(alloc: Global) -> Result<bool, Mem> {
+fn host_field(alloc: Global) -> Result<Seq<Field>, Mem> {
     let mut fields = Seq::new(alloc);
     fields.push(Field {
         name: Bytes::from_slice(alloc, b"host")?,
         value: Bytes::from_slice(alloc, b"as.example")?,
     })?;
+    Ok(fields)
+}
+
+fn braces(alloc: Global) -> Result<Bytes, Mem> {
     let mut body = Bytes::new(alloc);
     body.push(b'{')?;
     body.extend(b"}")?;
+    Ok(body)
+}
+
+fn copied(alloc: Global) -> Result<bool, Mem> {
     let message = Message {
         method: Bytes::from_slice(alloc, b"POST")?,
         target: Bytes::from_slice(alloc, b"/gnap")?,
-        fields,
-        body,
+        fields: host_field(alloc)?,
+        body: braces(alloc)?,
         last: true,
     };
     let again = message.copy()?;
@@ -186,37 +209,44 @@ fn gear(alloc: Global, bad_accepts: &[u64]) -> Result<MemGear, Mem>
     )
 }
 
-// What four accepts gave: the first byte of a connection, 0 for none, 100 for a fault. Each connection is given back.
-fn accepts(gear: &mut MemGear) -> [u8; 4] {
-    let mut got = [0; 4];
-    for place in 0..4 {
-        match gear.accept() {
-            Err(Failed) => got[place] = 100,
-            Ok(None) => {}
-            Ok(Some(mut conn)) => {
-                let mut buf = [0; 1];
-                let _ = conn.read(&mut buf);
-                got[place] = buf[0];
-                gear.leave(conn);
-            }
+// What an accept gave: the first byte of a connection, 0 for none, 100 for a fault. The connection is given back.
+fn accepted(gear: &mut MemGear) -> u8 {
+    match gear.accept() {
+        Err(Failed) => 100,
+        Ok(None) => 0,
+        Ok(Some(mut conn)) => {
+            let mut buf = [0; 1];
+            let _ = conn.read(&mut buf);
+            gear.leave(conn);
+            buf[0]
         }
     }
-    got
+}
+
+fn four_accepts(gear: &mut MemGear) -> [u8; 4] {
+    [
+        accepted(gear),
+        accepted(gear),
+        accepted(gear),
+        accepted(gear),
+    ]
+}
+
+// Whether a gear whose accepts of these numbers fail accepts so, and gives its draw once and then zeros.
+fn gives(alloc: Global, bad_accepts: &[u64], wanted: [u8; 4]) -> Result<bool, Mem> {
+    let mut gear = gear(alloc, bad_accepts)?;
+    let drawn = (gear.draw()[0], gear.draw()[47]);
+    let accepted = four_accepts(&mut gear);
+    Ok(accepted == wanted && gear.now() == 0 && drawn == (9, 0) && gear.served().len() == 2)
 }
 
 fn gears(alloc: Global) -> Result<bool, Mem> {
-    for (bad, want) in [
+    for (bad_accepts, wanted) in [
         (&[][..], [7, 8, 0, 0]),
         (&[1], [100, 7, 8, 0]),
         (&[2, 3], [7, 100, 100, 8]),
     ] {
-        let mut gear = gear(alloc, bad)?;
-        let drawn = (gear.draw()[0], gear.draw()[47]);
-        if accepts(&mut gear) != want
-            || gear.now() != 0
-            || drawn != (9, 0)
-            || gear.served().len() != 2
-        {
+        if !gives(alloc, bad_accepts, wanted)? {
             return Ok(false);
         }
     }
@@ -228,6 +258,17 @@ fn gears_in_memory_give_what_they_have(rt: HostRuntime) {
     assert!(rt; gears(rt.alloc()) == Ok(true));
 }
 
+// Whether so many gears are given at an address, each for so many connections. They are given back.
+fn hands_out(world: &mut MemWorld, address: &Bytes, n: usize, quota: u32) -> bool {
+    match world.start_gears(address, n, quota) {
+        Ok(gears) => {
+            world.stop_gears(gears);
+            true
+        }
+        Err(_) => false,
+    }
+}
+
 // A gear at the address "a": two are asked for, then too small a quota, then as it is, then once more.
 fn gears_handed_out(alloc: Global) -> Result<[bool; 4], Mem> {
     let mut group = Vec::new(alloc);
@@ -236,14 +277,12 @@ fn gears_handed_out(alloc: Global) -> Result<[bool; 4], Mem> {
     groups.push((Bytes::from_slice(alloc, b"a")?, group))?;
     let mut world = MemWorld::new(Vec::new(alloc), groups, Vec::new(alloc), Vec::new(alloc));
     let a = Bytes::from_slice(alloc, b"a")?;
-    let mut given = [false; 4];
-    for (place, n, quota) in [(0, 2, 9), (1, 1, 1), (2, 1, 2), (3, 1, 2)] {
-        if let Ok(gears) = world.start_gears(&a, n, quota) {
-            world.stop_gears(gears);
-            given[place] = true;
-        }
-    }
-    Ok(given)
+    Ok([
+        hands_out(&mut world, &a, 2, 9),
+        hands_out(&mut world, &a, 1, 1),
+        hands_out(&mut world, &a, 1, 2),
+        hands_out(&mut world, &a, 1, 2),
+    ])
 }
 
 // A link with one reply, whose first exchange fails.
@@ -266,7 +305,26 @@ fn a_world_in_memory_gives_gears_and_links_once(rt: HostRuntime) {
     assert!(rt; link_asked(rt.alloc()) == Ok([9, 3, 9]));
 }
 
-// A file of the system that has bytes, one that is always empty, and one that is never there.
+// How many bytes two reads of four bytes give.
+fn two_reads<S: Source>(source: &mut S) -> Option<[usize; 2]> {
+    let mut buf = [1; 4];
+    Some([source.read(&mut buf).ok()?, source.read(&mut buf).ok()?])
+}
+
+fn two_reads_of<W: World>(world: &mut W, name: &Bytes) -> Option<[usize; 2]> {
+    let mut file = world.open_file(name).ok()?;
+    let counts = two_reads(&mut file);
+    world.close_file(file);
+    counts
+}
+
+// A file that is never there, one that has bytes, and one that is always empty.
+const FILES_OF_THE_SYSTEM: [(&[u8], Option<[usize; 2]>); 3] = [
+    (b"/no/such/file", None),
+    (b"/dev/zero", Some([4, 4])),
+    (b"/dev/null", Some([0, 0])),
+];
+
 fn of_the_system<
     R: Files
         + Net<Listener = TcpListener, Stream = TcpStream>
@@ -276,21 +334,12 @@ fn of_the_system<
         + Sync,
 >(rt: &R, alloc: Global) -> Result<bool, Mem> {
     let mut world = RealWorld::new(rt, alloc);
-    let missing = world
-        .open_file(&Bytes::from_slice(alloc, b"/no/such/file")?)
-        .is_err();
-    let mut counts = Vec::new(alloc);
-    for name in [b"/dev/zero", b"/dev/null"] {
-        let Ok(mut file) = world.open_file(&Bytes::from_slice(alloc, name)?) else {
+    for (name, wanted) in FILES_OF_THE_SYSTEM {
+        if two_reads_of(&mut world, &Bytes::from_slice(alloc, name)?) != wanted {
             return Ok(false);
-        };
-        for _ in 0..2u64 {
-            let mut buf = [1; 4];
-            counts.push(file.read(&mut buf))?;
         }
-        world.close_file(file);
     }
-    Ok(missing && counts.as_slice() == [Ok(4), Ok(4), Ok(0), Ok(0)].as_slice())
+    Ok(true)
 }
 
 #[test]
@@ -298,17 +347,26 @@ fn the_system_gives_files(rt: HostRuntime) {
     assert!(rt; of_the_system(&rt, rt.alloc()) == Ok(true));
 }
 
-// Whether a read behind each piece that the peer sends gives just that piece.
-fn gives_pieces<S: Source>(conn: &mut S, peer: &mut TcpStream, pieces: &[&[u8]]) -> Option<bool> {
+// Whether a read behind a piece that the peer sends gives just that piece.
+fn gives_piece<S: Source>(conn: &mut S, peer: &mut TcpStream, piece: &[u8]) -> Option<bool> {
+    peer.write_all(piece).ok()?;
     let mut buf = [0; 64];
+    let count = conn.read(&mut buf).ok()?;
+    Some(&buf[..count] == piece)
+}
+
+fn gives_pieces<S: Source>(conn: &mut S, peer: &mut TcpStream, pieces: &[&[u8]]) -> Option<bool> {
     for piece in pieces {
-        peer.write_all(piece).ok()?;
-        let count = conn.read(&mut buf).ok()?;
-        if &buf[..count] != *piece {
+        if !gives_piece(conn, peer, piece)? {
             return Some(false);
         }
     }
     Some(true)
+}
+
+fn has_ended<S: Source>(conn: &mut S) -> bool {
+    let mut buf = [0; 8];
+    conn.read(&mut buf) == Ok(0)
 }
 
 // Whether the peer gets this reply and then the end.
@@ -320,45 +378,46 @@ fn gets(peer: &mut TcpStream, reply: &[u8]) -> Option<bool> {
 }
 
 // Whether a connection gives what its peer sends in these pieces, and then the end. The peer leaves then, or waits for a reply and gets it.
-fn is_served<R: rt::Clock + Eprint + Sync>(
+fn is_served<R: Net<Stream = TcpStream> + rt::Clock + Eprint + Sync>(
+    rt: &R,
     gear: &mut RealGear<'_, R>,
-    mut peer: TcpStream,
+    address: SocketAddr,
     pieces: &[&[u8]],
     leaves: bool,
 ) -> Option<bool> {
+    let mut peer = TcpStream::connect(rt, address).ok()?;
     let mut conn = gear.accept().ok()??;
     let given = gives_pieces(&mut conn, &mut peer, pieces)?;
-    let mut buf = [0; 8];
     if leaves {
         drop(peer);
-        let ended = conn.read(&mut buf).ok()? == 0;
+        let ended = has_ended(&mut conn);
         gear.leave(conn);
         return Some(given && ended);
     }
     peer.shutdown(Shutdown::Write).ok()?;
-    let ended = conn.read(&mut buf).ok()? == 0;
+    let ended = has_ended(&mut conn);
     write_all(&mut conn, b"reply").ok()?;
     gear.leave(conn);
     Some(given && ended && gets(&mut peer, b"reply")?)
 }
 
 // A request in three pieces, two requests in one piece, and a peer that leaves in the middle of a head, over a socket.
+const SENT: [(&[&[u8]], bool); 3] = [
+    (&[b"GET /a HT", b"TP/1.1\r\n", b"\r\n"], false),
+    (&[b"GET /a HTTP/1.1\r\n\r\nGET /b HTTP/1.1\r\n\r\n"], false),
+    (&[b"GET /a HTTP/1.1\r\nHo"], true),
+];
+
 fn over_a_socket<R: Net<Listener = TcpListener, Stream = TcpStream> + rt::Clock + Eprint + Sync>(
     rt: &R,
     alloc: Global,
 ) -> Option<bool> {
     let listener = TcpListener::bind(rt, "127.0.0.1:0").ok()?;
-    let port = listener.local_addr().ok()?;
+    let address = listener.local_addr().ok()?;
     let shared = Arc::new(alloc, SharedListener::new(listener)).ok()?;
     let mut gear = RealGear::new(rt, shared, [7; 32], 0, 3);
-    let rows: [(&[&[u8]], bool); 3] = [
-        (&[b"GET /a HT", b"TP/1.1\r\n", b"\r\n"], false),
-        (&[b"GET /a HTTP/1.1\r\n\r\nGET /b HTTP/1.1\r\n\r\n"], false),
-        (&[b"GET /a HTTP/1.1\r\nHo"], true),
-    ];
-    for (pieces, leaves) in rows {
-        let peer = TcpStream::connect(rt, port).ok()?;
-        if !is_served(&mut gear, peer, pieces, leaves)? {
+    for (pieces, leaves) in SENT {
+        if !is_served(rt, &mut gear, address, pieces, leaves)? {
             return Some(false);
         }
     }
@@ -371,6 +430,18 @@ fn a_real_gear_serves_a_socket(rt: HostRuntime) {
     assert!(rt; over_a_socket(&rt, rt.alloc()) == Some(true));
 }
 
+// Whether a gear gives a connection to a peer that comes.
+fn gives_one<R: Net<Stream = TcpStream> + rt::Clock + Eprint + Sync>(
+    rt: &R,
+    gear: &mut RealGear<'_, R>,
+    address: SocketAddr,
+) -> Option<bool> {
+    let _peer = TcpStream::connect(rt, address).ok()?;
+    let conn = gear.accept().ok()??;
+    gear.leave(conn);
+    Some(true)
+}
+
 // Whether a gear gives so many connections, and then none.
 fn gives_just<R: Net<Stream = TcpStream> + rt::Clock + Eprint + Sync>(
     rt: &R,
@@ -379,12 +450,14 @@ fn gives_just<R: Net<Stream = TcpStream> + rt::Clock + Eprint + Sync>(
     quota: u32,
 ) -> Option<bool> {
     for _ in 0..quota {
-        let peer = TcpStream::connect(rt, address).ok()?;
-        let conn = gear.accept().ok()??;
-        drop(peer);
-        gear.leave(conn);
+        gives_one(rt, gear, address)?;
     }
     Some(matches!(gear.accept(), Ok(None)))
+}
+
+fn text_of(alloc: Global, address: SocketAddr) -> Option<Bytes> {
+    let text = format!(in alloc; "{address}").ok()?;
+    Bytes::from_slice(alloc, text.as_bytes()).ok()
 }
 
 // Whether two gears of the system each give their quota, and no more.
@@ -401,8 +474,7 @@ fn gears_give_their_quota<
         .ok()?
         .local_addr()
         .ok()?;
-    let name = format!(in alloc; "{address}").ok()?;
-    let name = Bytes::from_slice(alloc, name.as_bytes()).ok()?;
+    let name = text_of(alloc, address)?;
     let mut world = RealWorld::new(rt, alloc);
     let mut gears = world.start_gears(&name, 2, 3).ok()?;
     for gear in &mut gears {
@@ -437,8 +509,7 @@ fn asks_its_peer<R: Net<Listener = TcpListener, Stream = TcpStream> + rt::Clock 
     alloc: Global,
 ) -> Option<bool> {
     let listener = TcpListener::bind(rt, "127.0.0.1:0").ok()?;
-    let address = format!(in alloc; "{}", listener.local_addr().ok()?).ok()?;
-    let address = Bytes::from_slice(alloc, address.as_bytes()).ok()?;
+    let address = text_of(alloc, listener.local_addr().ok()?)?;
     let peer = thread::spawn(rt, || answers(listener, b"ask", b"reply")).ok()?;
     let mut link = RealLink::new(rt, alloc, address);
     let reply = link.exchange(b"ask").ok()?;

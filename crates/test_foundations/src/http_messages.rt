@@ -46,7 +46,7 @@ fn source_of(alloc: Global, text: &[u8], most: usize, bad_read: u64) -> Result<P
 }
 
 // What came of reading one message.
-#[derive(Clone, Copy, Debug, PartialEq, Eq)]
+#[derive(Clone, Copy, PartialEq, Eq)]
 enum Answer {
     End,
     Fault(EdgeFault),
@@ -93,15 +93,6 @@ fn text(
 }
 
 const GET: &[u8] = b"GET / HTTP/1.1\r\n";
-
-fn message(fields: usize, body: usize, last: bool, held: usize) -> Answer {
-    Answer::Message {
-        fields,
-        body,
-        last,
-        held,
-    }
-}
 
 const BAD: Answer = Answer::Fault(EdgeFault::BadHead);
 
@@ -366,15 +357,23 @@ const ANSWERS: [(&[u8], &[u8], usize, &[u8], Answer); 61] = [
     (b"GET\t/ HTTP/1.1\r\n\r\n", b"", 0, b"", BAD),
 ];
 
-// The texts that are answered otherwise than the table says, however they are cut.
+// Whether a text is answered so, however it is cut.
+fn is_answered(alloc: Global, text: &[u8], wanted: Answer) -> Result<bool, Mem> {
+    for most in [1usize, 7, 100_000] {
+        if answer_to(alloc, text, most.max(1), 0)? != wanted {
+            return Ok(false);
+        }
+    }
+    Ok(true)
+}
+
+// The places of the texts that are answered otherwise than the table says.
 fn wrong_answers(alloc: Global) -> Result<Vec<usize>, Mem> {
     let mut wrong = Vec::new(alloc);
-    for (place, (front, filler, times, back, expected)) in ANSWERS.iter().enumerate() {
+    for (place, (front, filler, times, back, wanted)) in ANSWERS.iter().enumerate() {
         let text = text(alloc, front, filler, *times, back)?;
-        for most in [1usize, 7, 100_000] {
-            if answer_to(alloc, text.as_slice(), most.max(1), 0)? != *expected {
-                wrong.push(place)?;
-            }
+        if !is_answered(alloc, text.as_slice(), *wanted)? {
+            wrong.push(place)?;
         }
     }
     Ok(wrong)
@@ -383,19 +382,31 @@ fn wrong_answers(alloc: Global) -> Result<Vec<usize>, Mem> {
 const REQUEST: &[u8] =
     b"POST /gnap HTTP/1.1\r\nHost: as.example\r\nX-Empty:\r\nX-Some: \t a b \r\nContent-Length: 2\r\n\r\n{}";
 
-// The places at which the request, ended there for good, isn't truncated. Of the bytes that came before a failed read none is lost, and behind the last
-// byte nothing is read.
+// What the request is read as.
+const WHOLE: Answer = Answer::Message {
+    fields: 4,
+    body: 2,
+    last: false,
+    held: 0,
+};
+
+// Whether the request, ended for good behind its first bytes, is truncated, and where the read of the next byte fails, that is the fault.
+fn ends_by_fault(alloc: Global, end: usize) -> Result<bool, Mem> {
+    let truncated = answer_to(alloc, &REQUEST[..end.min(REQUEST.len())], 1, 0)?;
+    let unread = answer_to(alloc, REQUEST, 1, end as u64)?;
+    Ok(truncated == CUT && unread == Answer::Fault(EdgeFault::ReadFault))
+}
+
+// The places at which the request doesn't end so. Of the bytes that came before a failed read none is lost, and behind the last byte nothing is read.
 fn wrong_ends(alloc: Global) -> Result<Vec<usize>, Mem> {
     let mut wrong = Vec::new(alloc);
     for end in 1..REQUEST.len() {
-        if answer_to(alloc, &REQUEST[..end], 1, 0)? != Answer::Fault(EdgeFault::Truncated)
-            || answer_to(alloc, REQUEST, 1, end as u64)? != Answer::Fault(EdgeFault::ReadFault)
-        {
+        if !ends_by_fault(alloc, end)? {
             wrong.push(end)?;
         }
     }
     let past = REQUEST.len() as u64 + 1;
-    if answer_to(alloc, REQUEST, 1, past)? != message(4, 2, false, 0) {
+    if answer_to(alloc, REQUEST, 1, past)? != WHOLE {
         wrong.push(REQUEST.len())?;
     }
     Ok(wrong)
@@ -405,11 +416,32 @@ fn same(bytes: &Bytes, text: &[u8]) -> bool {
     bytes.as_slice() == text
 }
 
-fn has_field(message: &Message, i: usize, name: &[u8], value: &[u8]) -> bool {
-    match message.fields.as_slice().get(i) {
-        Some(field) => same(&field.name, name) && same(&field.value, value),
-        None => false,
+// The fields of the request, as they are read.
+const FIELDS: [(&[u8], &[u8]); 4] = [
+    (b"host", b"as.example"),
+    (b"x-empty", b""),
+    (b"x-some", b"a b"),
+    (b"content-length", b"2"),
+];
+
+fn has_fields(message: &Message) -> bool {
+    for (place, (name, value)) in FIELDS.iter().enumerate() {
+        let is_there = match message.fields.as_slice().get(place) {
+            Some(field) => same(&field.name, name) && same(&field.value, value),
+            None => false,
+        };
+        if !is_there {
+            return false;
+        }
     }
+    true
+}
+
+fn is_request(message: &Message) -> bool {
+    same(&message.method, b"POST")
+        && same(&message.target, b"/gnap")
+        && has_fields(message)
+        && same(&message.body, b"{}")
 }
 
 // Two requests in one piece: the parts of the first, and how many bytes stay for the second; then the second.
@@ -417,24 +449,19 @@ fn two_requests(alloc: Global) -> Result<bool, EdgeFault> {
     let both = text(alloc, REQUEST, b"GET /b HTTP/1.1\r\n\r\n", 1, b"")?;
     let mut source = source_of(alloc, both.as_slice(), 100_000, 0)?;
     let mut held = Held::new(alloc);
-    let first = match next_message(alloc, &mut source, &mut held)? {
-        Some(first) => {
-            same(&first.method, b"POST")
-                && same(&first.target, b"/gnap")
-                && has_field(&first, 0, b"host", b"as.example")
-                && has_field(&first, 1, b"x-empty", b"")
-                && has_field(&first, 2, b"x-some", b"a b")
-                && has_field(&first, 3, b"content-length", b"2")
-                && same(&first.body, b"{}")
-                && held.len() == 19
-        }
-        None => false,
+    let Some(first) = next_message(alloc, &mut source, &mut held)? else {
+        return Ok(false);
     };
-    let second = match next_message(alloc, &mut source, &mut held)? {
-        Some(second) => same(&second.target, b"/b") && held.is_empty(),
-        None => false,
+    if !is_request(&first) || held.len() != 19 {
+        return Ok(false);
+    }
+    let Some(second) = next_message(alloc, &mut source, &mut held)? else {
+        return Ok(false);
     };
-    Ok(first && second && next_message(alloc, &mut source, &mut held)?.is_none())
+    if !same(&second.target, b"/b") || !held.is_empty() {
+        return Ok(false);
+    }
+    Ok(next_message(alloc, &mut source, &mut held)?.is_none())
 }
 
 #[test]
@@ -444,97 +471,73 @@ fn requests_are_read_however_they_are_cut(rt: HostRuntime) {
     assert!(rt; two_requests(rt.alloc()) == Ok(true));
 }
 
-// What is written of a reply, whose read gives its status and its body.
-fn printed(alloc: Global, reply: &HttpReply) -> Result<Option<Bytes>, Mem>
+// Whether a text is read as a reply of this status and with this body, or, where none is wanted, as none.
+fn reads_as(alloc: Global, text: &[u8], wanted: Option<(u16, &[u8])>) -> Result<bool, Mem> {
+    match read_reply(alloc, text) {
+        Ok((status, body)) => match wanted {
+            Some((code, bytes)) => Ok(status == code && same(&body, bytes)),
+            None => Ok(false),
+        },
+        Err(ReplyFault::NotAReply) => Ok(wanted.is_none()),
+        Err(ReplyFault::OutOfMemory) => Err(Mem),
+    }
+}
+
+// Whether this is written of a reply, and read as its status and its body.
+fn prints(alloc: Global, reply: &HttpReply, wanted: &[u8]) -> Result<bool, Mem>
     requires { MayWrite reply.now }
 {
     let mut sink = MemSink::new(alloc, 20_000, Vec::new(alloc))?;
-    let written = write_reply(&mut sink, reply).is_ok();
-    let same_body = match (read_reply(alloc, sink.written()), &reply.body) {
-        (Err(ReplyFault::OutOfMemory), _) => return Err(Mem),
-        (Ok((status, body)), Some(expected)) => status == reply.status
-            && body.as_slice() == expected.as_slice(),
-        (Ok((status, body)), None) => status == reply.status && body.len() == 0,
-        (Err(ReplyFault::NotAReply), _) => false,
+    if write_reply(&mut sink, reply).is_err() || sink.written() != wanted {
+        return Ok(false);
+    }
+    let body: &[u8] = match &reply.body {
+        Some(body) => body.as_slice(),
+        None => b"",
     };
-    if written && same_body {
-        Ok(Some(Bytes::from_slice(alloc, sink.written())?))
-    } else {
-        Ok(None)
-    }
-}
-
-fn prints(alloc: Global, reply: &HttpReply, expected: &[u8]) -> Result<bool, Mem>
-    requires { MayWrite reply.now }
-{
-    match printed(alloc, reply)? {
-        Some(text) => Ok(text.as_slice() == expected),
-        None => Ok(false),
-    }
-}
-
-fn prints_fault(alloc: Global, fault: EdgeFault, expected: &[u8]) -> Result<bool, Mem> {
-    match fault_reply(fault) {
-        Some(reply) => prints(alloc, &reply, expected),
-        None => Ok(expected.is_empty()),
-    }
+    reads_as(alloc, wanted, Some((reply.status, body)))
 }
 
 const ERROR: &[u8] = b"{\"error\":{\"code\":\"invalid_client\"}}";
 
-fn replies(alloc: Global) -> Result<bool, Mem> {
-    let refused = HttpReply::new(401, Some(Bytes::from_slice(alloc, ERROR)?), false);
+fn prints_a_challenge(alloc: Global) -> Result<bool, Mem> {
+    prints(
+        alloc,
+        &HttpReply::new(401, Some(Bytes::from_slice(alloc, ERROR)?), false),
+        b"HTTP/1.1 401 Unauthorized\r\nContent-Type: application/json\r\nCache-Control: no-store\r\nWWW-Authenticate: GNAP\r\n\
+            Content-Length: 35\r\n\r\n{\"error\":{\"code\":\"invalid_client\"}}",
+    )
+}
+
+fn prints_no_content(alloc: Global) -> Result<bool, Mem> {
+    prints(
+        alloc,
+        &HttpReply::new(204, None, false),
+        b"HTTP/1.1 204 No Content\r\nCache-Control: no-store\r\n\r\n",
+    )
+}
+
+fn prints_a_last_reply(alloc: Global) -> Result<bool, Mem> {
+    prints(
+        alloc,
+        &HttpReply::new(404, None, true),
+        b"HTTP/1.1 404 Not Found\r\nCache-Control: no-store\r\nConnection: close\r\nContent-Length: 0\r\n\r\n",
+    )
+}
+
+fn prints_a_long_body(alloc: Global) -> Result<bool, Mem> {
     let long = HttpReply::new(200, Some(text(alloc, b"", b"x", 9_000, b"")?), false);
-    let long_text = text(
+    let wanted = text(
         alloc,
         b"HTTP/1.1 200 OK\r\nContent-Type: application/json\r\nCache-Control: no-store\r\nContent-Length: 9000\r\n\r\n",
         b"x",
         9_000,
         b"",
     )?;
-    let methods = Bytes::from_slice(alloc, b"POST, OPTIONS")?;
-    Ok(
-        prints(
-            alloc,
-            &refused,
-            b"HTTP/1.1 401 Unauthorized\r\nContent-Type: application/json\r\nCache-Control: no-store\r\nWWW-Authenticate: GNAP\r\n\
-                Content-Length: 35\r\n\r\n{\"error\":{\"code\":\"invalid_client\"}}",
-        )? && prints(
-            alloc,
-            &HttpReply::new(204, None, false),
-            b"HTTP/1.1 204 No Content\r\nCache-Control: no-store\r\n\r\n",
-        )? && prints(
-            alloc,
-            &HttpReply::new(404, None, true),
-            b"HTTP/1.1 404 Not Found\r\nCache-Control: no-store\r\nConnection: close\r\nContent-Length: 0\r\n\r\n",
-        )? && prints(alloc, &long, long_text.as_slice())?
-            && is_not_allowed(alloc, methods)?,
-    )
+    prints(alloc, &long, wanted.as_slice())
 }
 
-fn fault_replies(alloc: Global) -> Result<bool, Mem> {
-    Ok(
-        prints_fault(
-            alloc,
-            EdgeFault::BadHead,
-            b"HTTP/1.1 400 Bad Request\r\nCache-Control: no-store\r\nConnection: close\r\nContent-Length: 0\r\n\r\n",
-        )? && prints_fault(
-            alloc,
-            EdgeFault::TooLarge,
-            b"HTTP/1.1 413 Payload Too Large\r\nCache-Control: no-store\r\nConnection: close\r\nContent-Length: 0\r\n\r\n",
-        )? && prints_fault(
-            alloc,
-            EdgeFault::Coded,
-            b"HTTP/1.1 501 Not Implemented\r\nCache-Control: no-store\r\nConnection: close\r\nContent-Length: 0\r\n\r\n",
-        )? && prints_fault(
-            alloc,
-            EdgeFault::OutOfMemory,
-            b"HTTP/1.1 503 Service Unavailable\r\nCache-Control: no-store\r\nConnection: close\r\nContent-Length: 0\r\n\r\n",
-        )? && prints_fault(alloc, EdgeFault::Truncated, b"")?,
-    )
-}
-
-fn is_not_allowed(alloc: Global, methods: Bytes) -> Result<bool, Mem>
+fn prints_methods(alloc: Global, methods: Bytes) -> Result<bool, Mem>
     requires { list_all is_method_byte methods ≡ true }
 {
     prints(
@@ -542,6 +545,49 @@ fn is_not_allowed(alloc: Global, methods: Bytes) -> Result<bool, Mem>
         &HttpReply::not_allowed(methods, false),
         b"HTTP/1.1 405 Method Not Allowed\r\nCache-Control: no-store\r\nAllow: POST, OPTIONS\r\nContent-Length: 0\r\n\r\n",
     )
+}
+
+fn prints_two_methods(alloc: Global) -> Result<bool, Mem> {
+    prints_methods(alloc, Bytes::from_slice(alloc, b"POST, OPTIONS")?)
+}
+
+// Faults, and the last reply of a connection that ends with each. Where that is empty, there is none.
+const LAST_REPLIES: [(EdgeFault, &[u8]); 5] = [
+    (
+        EdgeFault::BadHead,
+        b"HTTP/1.1 400 Bad Request\r\nCache-Control: no-store\r\nConnection: close\r\nContent-Length: 0\r\n\r\n",
+    ),
+    (
+        EdgeFault::TooLarge,
+        b"HTTP/1.1 413 Payload Too Large\r\nCache-Control: no-store\r\nConnection: close\r\nContent-Length: 0\r\n\r\n",
+    ),
+    (
+        EdgeFault::Coded,
+        b"HTTP/1.1 501 Not Implemented\r\nCache-Control: no-store\r\nConnection: close\r\nContent-Length: 0\r\n\r\n",
+    ),
+    (
+        EdgeFault::OutOfMemory,
+        b"HTTP/1.1 503 Service Unavailable\r\nCache-Control: no-store\r\nConnection: close\r\nContent-Length: 0\r\n\r\n",
+    ),
+    (EdgeFault::Truncated, b""),
+];
+
+fn prints_last(alloc: Global, fault: EdgeFault, wanted: &[u8]) -> Result<bool, Mem> {
+    match fault_reply(fault) {
+        Some(reply) => prints(alloc, &reply, wanted),
+        None => Ok(wanted.is_empty()),
+    }
+}
+
+// The places of the faults whose last reply isn't as the table says.
+fn wrong_last_replies(alloc: Global) -> Result<Vec<usize>, Mem> {
+    let mut wrong = Vec::new(alloc);
+    for (place, (fault, wanted)) in LAST_REPLIES.iter().enumerate() {
+        if !prints_last(alloc, *fault, wanted)? {
+            wrong.push(place)?;
+        }
+    }
+    Ok(wrong)
 }
 
 // Where the second write fails, what the first one took went out.
@@ -582,18 +628,11 @@ const READ: [(&[u8], Option<(u16, &[u8])>); 14] = [
     (b"", None),
 ];
 
-// The texts that are read otherwise than the table says.
+// The places of the texts that are read otherwise than the table says.
 fn wrong_reads(alloc: Global) -> Result<Vec<usize>, Mem> {
     let mut wrong = Vec::new(alloc);
-    for (place, (text, expected)) in READ.iter().enumerate() {
-        let right = match (read_reply(alloc, text), expected) {
-            (Err(ReplyFault::OutOfMemory), _) => return Err(Mem),
-            (Err(ReplyFault::NotAReply), None) => true,
-            (Ok((status, body)), Some((code, bytes))) => status == *code
-                && body.as_slice() == *bytes,
-            _ => false,
-        };
-        if !right {
+    for (place, (text, wanted)) in READ.iter().enumerate() {
+        if !reads_as(alloc, text, *wanted)? {
             wrong.push(place)?;
         }
     }
@@ -602,8 +641,12 @@ fn wrong_reads(alloc: Global) -> Result<Vec<usize>, Mem> {
 
 #[test]
 fn replies_are_written_and_read(rt: HostRuntime) {
-    assert!(rt; replies(rt.alloc()) == Ok(true));
-    assert!(rt; fault_replies(rt.alloc()) == Ok(true));
+    assert!(rt; prints_a_challenge(rt.alloc()) == Ok(true));
+    assert!(rt; prints_no_content(rt.alloc()) == Ok(true));
+    assert!(rt; prints_a_last_reply(rt.alloc()) == Ok(true));
+    assert!(rt; prints_a_long_body(rt.alloc()) == Ok(true));
+    assert!(rt; prints_two_methods(rt.alloc()) == Ok(true));
+    assert!(rt; matches!(&wrong_last_replies(rt.alloc()), Ok(wrong) if wrong.is_empty()));
     assert!(rt; is_cut(rt.alloc()) == Ok(true));
     assert!(rt; matches!(&wrong_reads(rt.alloc()), Ok(wrong) if wrong.is_empty()));
 }

@@ -1,5 +1,5 @@
-"""Writes ../stdin, a table of cases, and ../stdout, what comes of each by the rules of docs/, without the program. Behind the cases and a line `histories`
-stand the lines of the replays among them, with an empty line behind each, and for each the line says how many bytes it prints.
+"""Writes ../stdin, a table of cases, and ../stdout, what comes of each by the rules of docs/, without the program. For `test_equal_replays` it writes both
+too: the lines of the replays among the cases, with an empty line behind each, and for each a line that says how many bytes it prints.
 
 Run it anew where a rule or a case changes: python3 crates/test_worlds/expected/write.py
 """
@@ -67,16 +67,19 @@ def histories(table):
             yield text.decode(), replay(text)[1].encode()
 
 
+def write(crate, given, wanted):
+    folder = Path(__file__).resolve().parent.parent.parent / crate
+    (folder / "stdin").write_text(given, encoding="utf-8")
+    (folder / "stdout").write_text(wanted, encoding="utf-8")
+
+
 def main():
     check_all()
     table = list(cases())
     assert len({case["name"] for case in table}) == len(table)
+    write("test_worlds", lines_of(table), lines_of(map(outcome, table), sort_keys=True))
     replays = list(histories(table))
-    replayed = "".join(lines + "\n\n" for lines, _ in replays)
-    counts = "".join(f"{len(printed)} bytes\n" for _, printed in replays)
-    folder = Path(__file__).resolve().parent.parent
-    (folder / "stdin").write_text(lines_of(table) + "histories\n" + replayed, encoding="utf-8")
-    (folder / "stdout").write_text(lines_of(map(outcome, table), sort_keys=True) + counts, encoding="utf-8")
+    write("test_equal_replays", "".join(lines + "\n\n" for lines, _ in replays), "".join(f"{len(printed)} bytes\n" for _, printed in replays))
 
 
 if __name__ == "__main__":

@@ -96,7 +96,8 @@ not_done ended stop (inl is) = subst IsStopped is stop
 not_done ended stop (inr is) = subst IsStopped is stop
 
 -- the reading of a text ends by no limit
-pub config_unlimited : (result : Result (List ℕ) Ended) (told : Told) → ((rest : List ℕ) → IsRest told rest → GivesText result told.taken rest) → ended_by result ≢ TooLong
+pub config_unlimited : (result : Result (List ℕ) Ended) (told : Told) → ((rest : List ℕ) → IsRest told rest → GivesText result told.taken rest)
+    → ended_by result ≢ TooLong
 config_unlimited (Ok text) told gives = λ is. absurd cc
 config_unlimited (Err ended) told gives = λ is. subst IsStopped is (unread_stopped ended told gives)
 
@@ -117,7 +118,8 @@ still_none ended (inl is) = inl (let same : ended ≡ Failed = cc in ap Err same
 still_none ended (inr is) = inr (let same : ended ≡ Memory = cc in ap Err same)
 
 module _ {X S : Type 0} (view : X → S) (read : List ℕ → Option S) where
-  gives_read : (result : Result X Ended) (text taken rest : List ℕ) → text ≡ taken ++ rest → GivesRead view result (read text) → GivesConfig view read result taken rest
+  gives_read : (result : Result X Ended) (text taken rest : List ℕ) → text ≡ taken ++ rest → GivesRead view result (read text)
+      → GivesConfig view read result taken rest
   gives_read (Ok x) text taken rest is gives = ap read (sym is) ∙ gives
   gives_read (Err (NoSetup why)) text taken rest is gives = ap read (sym is) ∙ gives
   gives_read (Err Memory) text taken rest is gives = tt
@@ -147,7 +149,8 @@ module _ {X S : Type 0} (view : X → S) (read : List ℕ → Option S) where
 
     -- it wasn't
     pub config_unread : ((whole : List ℕ) → setup_limit < length whole → read whole ≡ None) → (ended : Ended)
-        → Over text before between (HasNoConfig {X = List ℕ} (Err ended)) (GivesText (Err ended)) → Over text before between (HasNoConfig {X = X} (Err ended)) (GivesConfig view read (Err ended))
+        → Over text before between (HasNoConfig {X = List ℕ} (Err ended)) (GivesText (Err ended))
+        → Over text before between (HasNoConfig {X = X} (Err ended)) (GivesConfig view read (Err ended))
     config_unread long ended (inl missing) = inl (missing.0, still_none ended missing.1)
     config_unread long ended (inr is) = inr (is.0, is.1, is.2, λ rest known. gives_unread long ended is.0.told.taken rest (is.3 rest known))
 
@@ -173,7 +176,8 @@ judged openings before after uses ended sound unlimited = record {
 pub uses_read : {X S : Type 0} (view : X → S) (openings : List Opening) (before after : WorldState) (reading : Option S) (result : Result X Ended)
     → UsesWorld openings None before after Done → GivesRead view result reading → UsesWorld openings None before after (ended_by result)
 uses_read view openings before after reading (Ok x) uses gives = uses
-uses_read view openings before after reading (Err (NoSetup why)) uses gives = judged openings before after uses (NoSetup why) (λ is. absurd cc) (λ is. absurd cc)
+uses_read view openings before after reading (Err (NoSetup why)) uses gives =
+    judged openings before after uses (NoSetup why) (λ is. absurd cc) (λ is. absurd cc)
 uses_read view openings before after reading (Err Memory) uses gives = judged openings before after uses Memory (λ is. absurd cc) (λ is. absurd cc)
 uses_read view openings before after reading (Err Done) uses gives = absurd gives
 uses_read view openings before after reading (Err Failed) uses gives = absurd gives
@@ -186,7 +190,8 @@ uses_read view openings before after reading (Err TooLong) uses gives = absurd g
 module _ {X S : Type 0} (view : X → S) (read : List ℕ → Option S) (text : Option (List ℕ)) (before between : WorldState) (Then : WorldState → S → Type 0) where
   -- the setup was read
   pub by_setup_on : (setup : X) (after : WorldState) (out out_now : Told) (ended : Ended)
-      → Over text before between (HasNoConfig (Ok setup)) (GivesConfig view read (Ok setup)) → Then between (view setup) → BySetup read text before after out out_now ended Then
+      → Over text before between (HasNoConfig (Ok setup)) (GivesConfig view read (Ok setup)) → Then between (view setup)
+      → BySetup read text before after out out_now ended Then
   by_setup_on setup after out out_now ended (inl missing) follows = absurd (no_config_at setup missing.1)
   by_setup_on setup after out out_now ended (inr is) follows =
       inr (
@@ -199,7 +204,8 @@ module _ {X S : Type 0} (view : X → S) (read : List ℕ → Option S) (text : 
       )
 
   module _ (out : Told) (ended : Ended) (stops : (ended ≡ Failed) ⊎ (ended ≡ Memory) → (setup : S) → Then between setup) where
-    either : (o : Option S) (taken : List ℕ) → (ended ≡ Failed) ⊎ (ended ≡ Memory) → EndsWithoutConfig ended taken → Follows o taken between between out out ended (Then between)
+    either : (o : Option S) (taken : List ℕ) → (ended ≡ Failed) ⊎ (ended ≡ Memory) → EndsWithoutConfig ended taken
+        → Follows o taken between between out out ended (Then between)
     either None taken is ends = (refl, refl, ends)
     either (Some setup) taken is ends = stops is setup
 
@@ -222,26 +228,34 @@ module _ {X S : Type 0} (view : X → S) (read : List ℕ → Option S) (text : 
 
 -- ---- a further file
 
-module _ {X S : Type 0} (view : X → S) (read : List ℕ → Option S) (texts : List ℕ → Option (List ℕ)) (config file : List ℕ) (before between : WorldState) (out : Told) where
-  pub file_on : (later : List ℕ → Option (List ℕ)) (setup : X) (after : WorldState) (out_now : Told) (ended : Ended) (P : S → List ℕ → List ℕ → Type 0) → later ≡ texts
-      → Over (texts config) before between (HasNoConfig (Ok setup)) (GivesConfig view read (Ok setup)) → Over (later file) between after (Unopened out out_now ended) (P (view setup))
+module _ {X S : Type 0} (view : X → S) (read : List ℕ → Option S) (texts : List ℕ → Option (List ℕ)) (config file : List ℕ) (before between : WorldState)
+    (out : Told) where
+  pub file_on : (later : List ℕ → Option (List ℕ)) (setup : X) (after : WorldState) (out_now : Told) (ended : Ended) (P : S → List ℕ → List ℕ → Type 0)
+      → later ≡ texts
+      → Over (texts config) before between (HasNoConfig (Ok setup)) (GivesConfig view read (Ok setup))
+      → Over (later file) between after (Unopened out out_now ended) (P (view setup))
       → BySetup read (texts config) before after out out_now ended (λ b s. Over (texts file) b after (Unopened out out_now ended) (P s))
   file_on later setup after out_now ended P same over carried =
       let O : (List ℕ → Option (List ℕ)) → Type 0 = λ t. Over (t file) between after (Unopened out out_now ended) (P (view setup)) in
-      by_setup_on view read (texts config) before between (λ b s. Over (texts file) b after (Unopened out out_now ended) (P s)) setup after out out_now ended over (subst O same carried)
+      by_setup_on view read (texts config) before between
+      (λ b s. Over (texts file) b after (Unopened out out_now ended) (P s)) setup after out out_now ended over (subst O same carried)
 
-  pub file_off : (ended : Ended) (P : S → List ℕ → List ℕ → Type 0) → Over (texts config) before between (HasNoConfig {X = X} (Err ended)) (GivesConfig view read (Err ended))
+  pub file_off : (ended : Ended) (P : S → List ℕ → List ℕ → Type 0)
+      → Over (texts config) before between (HasNoConfig {X = X} (Err ended)) (GivesConfig view read (Err ended))
       → BySetup read (texts config) before between out out ended (λ b s. Over (texts file) b between (Unopened out out ended) (P s))
   file_off ended P over =
-      by_setup_off view read (texts config) before between (λ b s. Over (texts file) b between (Unopened out out ended) (P s)) out ended (λ is setup. inl (refl, (refl, is))) over
+      by_setup_off view read (texts config) before between (λ b s. Over (texts file) b between (Unopened out out ended) (P s)) out ended
+      (λ is setup. inl (refl, (refl, is))) over
 
 -- ---- the world
 
 -- where it failed, fewer bytes were taken of each file than of an input may be
 abbrev pub TookFew : Ended → WorldState → WorldState → Type 0
-TookFew ended before after = ended ≡ Failed → (place : ℕ) (file : Served) → slice_get (new_files before after) place ≡ Some file → length file.told.taken < 1073741824
+TookFew ended before after = ended ≡ Failed → (place : ℕ) (file : Served) → slice_get (new_files before after) place ≡ Some file
+    → length file.told.taken < 1073741824
 
-took_stopped : (ended : Ended) (input : Option ℕ) (before after : WorldState) → IsStopped ended → TookFew ended before after → InputTook ended input before after
+took_stopped : (ended : Ended) (input : Option ℕ) (before after : WorldState) → IsStopped ended → TookFew ended before after
+    → InputTook ended input before after
 took_stopped (NoSetup why) input before after stop few = λ place is file found. tt
 took_stopped Failed input before after stop few = λ place is file found. few refl place file found
 took_stopped Memory input before after stop few = λ place is file found. tt
@@ -250,7 +264,8 @@ took_stopped WriteFault input before after stop few = absurd stop
 took_stopped Refused input before after stop few = absurd stop
 took_stopped TooLong input before after stop few = absurd stop
 
-uses_stopped : (openings more : List Opening) (input : Option ℕ) (before after : WorldState) (ended : Ended) → UsesWorld openings None before after ended → IsStopped ended
+uses_stopped : (openings more : List Opening) (input : Option ℕ) (before after : WorldState) (ended : Ended) → UsesWorld openings None before after ended
+    → IsStopped ended
     → TookFew ended before after → UsesWorld (openings ++ more) input before after ended
 uses_stopped openings more input before after ended uses stop few = record {
   given_back = back-more openings more before after uses.given_back;
@@ -275,8 +290,10 @@ module _ {X S : Type 0} (view : X → S) (read : List ℕ → Option S) (text : 
       let one : new_files before between ≡ is.0 ∷ [] = ap (drop (length before.files)) is.1 ∙ drop-append_seam before.files (is.0 ∷ []) in
       subst (λ (f : Served). length f.told.taken < 1073741824) (one_file_at (new_files before between) place is.0 file one found) (omega (arith, few))
 
-  pub unread_used : (openings more : List Opening) (input : Option ℕ) → UsesWorld openings None before between ended → UsesWorld (openings ++ more) input before between ended
-  unread_used openings more input uses = uses_stopped openings more input before between ended uses (stopped view read text before between ended config) (few_taken config)
+  pub unread_used : (openings more : List Opening) (input : Option ℕ) → UsesWorld openings None before between ended
+      → UsesWorld (openings ++ more) input before between ended
+  unread_used openings more input uses =
+      uses_stopped openings more input before between ended uses (stopped view read text before between ended config) (few_taken config)
 
   pub unread_isnt_done : ended ≢ Done
   unread_isnt_done is = not_done ended (stopped view read text before between ended config) (inl is)
@@ -326,14 +343,17 @@ module _ (name : List ℕ) (before between after : WorldState) (first : UsesWorl
 
     all_files : new_files before after ≡ new_files before between ++ new_files between after
     all_files =
-        ap (drop (length before.files)) (next_gives.files_are ∙ ap (λ fs. fs ++ next_gives.files) opened.files_are ∙ append_assoc before.files opened.files next_gives.files)
+        ap (drop (length before.files))
+        (next_gives.files_are ∙ ap (λ fs. fs ++ next_gives.files) opened.files_are ∙ append_assoc before.files opened.files next_gives.files)
         ∙ drop-append_seam before.files (opened.files ++ next_gives.files)
         ∙ ap (λ fs. fs ++ next_gives.files) (sym (ap (drop (length before.files)) opened.files_are ∙ drop-append_seam before.files opened.files))
-        ∙ ap (λ fs. new_files before between ++ fs) (sym (ap (drop (length between.files)) next_gives.files_are ∙ drop-append_seam between.files next_gives.files))
+        ∙ ap (λ fs. new_files before between ++ fs)
+        (sym (ap (drop (length between.files)) next_gives.files_are ∙ drop-append_seam between.files next_gives.files))
 
     all_openings : new_openings before after ≡ File name ∷ new_openings between after
     all_openings =
-        ap (drop (length before.opened)) (next_gives.opened ∙ ap (λ os. os ++ next.given_back.done) opened.opened ∙ append_assoc before.opened (File name ∷ []) next.given_back.done)
+        ap (drop (length before.opened))
+        (next_gives.opened ∙ ap (λ os. os ++ next.given_back.done) opened.opened ∙ append_assoc before.opened (File name ∷ []) next.given_back.done)
         ∙ drop-append_seam before.opened (File name ∷ next.given_back.done)
         ∙ ap (λ os. File name ∷ os) (sym (ap (drop (length between.opened)) next_gives.opened ∙ drop-append_seam between.opened next.given_back.done))
 
@@ -342,7 +362,8 @@ module _ (name : List ℕ) (before between after : WorldState) (first : UsesWorl
 
     failed_later : HasFailed between after → HasFailed before after
     failed_later (inl rose) = inl (subst (λ n. Rose n after.faults) nothing.world rose)
-    failed_later (inr (inl any)) = inr (inl (subst (Any (λ (f : Served). f.faults ≢ 0)) (sym all_files) (any_behind (new_files before between) (new_files between after) any)))
+    failed_later (inr (inl any)) =
+        inr (inl (subst (Any (λ (f : Served). f.faults ≢ 0)) (sym all_files) (any_behind (new_files before between) (new_files between after) any)))
     failed_later (inr (inr doors)) = inr (inr (subst (λ (o : Option ℕ). IsSome o) (sym same_gears) doors.0, doors.1))
 
     one_file : length (new_files before between) ≡ 1

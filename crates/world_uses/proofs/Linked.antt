@@ -32,7 +32,8 @@ module _ (address : List ℕ) (link : LinkState) (more : List Opening) (input : 
   all_openings : new_openings before after ≡ Link address ∷ new_openings open_now middle
   all_openings =
       ap (λ (s : WorldState). drop (length before.opened) s.opened) back
-      ∙ ap (drop (length before.opened)) (opened_inside ∙ ap (λ os. os ++ inside.given_back.done) opened_before ∙ append_assoc before.opened (Link address ∷ []) inside.given_back.done)
+      ∙ ap (drop (length before.opened))
+      (opened_inside ∙ ap (λ os. os ++ inside.given_back.done) opened_before ∙ append_assoc before.opened (Link address ∷ []) inside.given_back.done)
       ∙ drop-append_seam before.opened (Link address ∷ inside.given_back.done)
       ∙ ap (λ os. Link address ∷ os) (sym (ap (drop (length open_now.opened)) opened_inside ∙ drop-append_seam open_now.opened inside.given_back.done))
 

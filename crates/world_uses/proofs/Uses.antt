@@ -99,10 +99,12 @@ pub nothing_used : (world : WorldState) (ended : Ended) → (ended ≡ Done) ⊎
 nothing_used world ended how = record {
   given_back = back-none [] world world refl;
   all = λ done. gives-none world world refl;
-  failed = λ is. absurd (elim how [ inl a ↦ (let bad = sym a ∙ is in cc) | inr (inl b) ↦ (let bad = sym b ∙ is in cc) | inr (inr d) ↦ (let bad = sym d ∙ is in cc) ]);
+  failed = λ is. absurd (elim how
+      [ inl a ↦ (let bad = sym a ∙ is in cc) | inr (inl b) ↦ (let bad = sym b ∙ is in cc) | inr (inr d) ↦ (let bad = sym d ∙ is in cc) ]);
   sound = λ isnt. unopened_sound world world refl refl;
   took = λ place is file found. absurd cc;
-  limited = λ is. absurd (elim how [ inl a ↦ (let bad = sym a ∙ is in cc) | inr (inl b) ↦ (let bad = sym b ∙ is in cc) | inr (inr d) ↦ (let bad = sym d ∙ is in cc) ]);
+  limited = λ is. absurd (elim how
+      [ inl a ↦ (let bad = sym a ∙ is in cc) | inr (inl b) ↦ (let bad = sym b ∙ is in cc) | inr (inr d) ↦ (let bad = sym d ∙ is in cc) ]);
   to_end = λ is. subst (All (λ (file : Served). IsAtEnd file.told)) (sym (files_none world world refl)) (All-nil (λ (file : Served). IsAtEnd file.told));
   configs = λ is. subst (AllButLast (λ (file : Served). IsAtEnd file.told)) (sym (files_none world world refl)) tt;
 }
@@ -145,7 +147,8 @@ module _ (name : List ℕ) (file : Served) (before open_now after : WorldState) 
   is_input : (place : ℕ) → input ≡ Some place → IsSome input
   is_input place is = subst (λ (o : Option ℕ). IsSome o) (sym is) refl
 
-  took_at : (files : List Served) (place : ℕ) → files ≡ file ∷ [] → input ≡ Some place → (other : Served) → slice_get files place ≡ Some other → Took ended other.told
+  took_at : (files : List Served) (place : ℕ) → files ≡ file ∷ [] → input ≡ Some place → (other : Served) → slice_get files place ≡ Some other
+      → Took ended other.told
   took_at files place are is other found = subst (λ (f : Served). Took ended f.told) (one_file_at files place file other are found) (took (is_input place is))
 
   pub opened_used : UsesWorld (File name ∷ []) input before after ended
@@ -168,8 +171,10 @@ module _ (name : List ℕ) (file : Served) (before open_now after : WorldState) 
   }
 
 -- what was done over it
-pub opened_over : (file : Served) (name : List ℕ) (before open_now after : WorldState) (text : Option (List ℕ)) (first : Told) (U : Type 0) (P : List ℕ → List ℕ → Type 0)
-    → open_now ≡ with_opened (File name) before → after ≡ with_returned file open_now → first ≡ untouched text → Leaves file.told.taken first.left file.told.left
+pub opened_over : (file : Served) (name : List ℕ) (before open_now after : WorldState) (text : Option (List ℕ)) (first : Told) (U : Type 0)
+    (P : List ℕ → List ℕ → Type 0)
+    → open_now ≡ with_opened (File name) before → after ≡ with_returned file open_now → first ≡ untouched text
+    → Leaves file.told.taken first.left file.told.left
     → ((rest : List ℕ) → IsRest file.told rest → P file.told.taken rest) → Over text before after U P
 opened_over file name before open_now after text first U P open_is back new leaves does =
     let L : Told → Type 0 = λ told. Leaves file.told.taken told.left file.told.left in
@@ -182,66 +187,7 @@ opened_over file name before open_now after text first U P open_is back new leav
 
 -- ---- what statuses say
 
-pub failed_at_4 : (openings : List Opening) (input : Option ℕ) (before after : WorldState) (ended : Ended) → UsesWorld openings input before after ended
-    → status_of ended ≡ 4 → HasFailed before after
-failed_at_4 openings input before after Failed uses is = uses.failed refl
-failed_at_4 openings input before after Done uses is = absurd cc
-failed_at_4 openings input before after (NoSetup why) uses is = absurd cc
-failed_at_4 openings input before after WriteFault uses is = absurd cc
-failed_at_4 openings input before after Memory uses is = absurd cc
-failed_at_4 openings input before after Refused uses is = absurd cc
-failed_at_4 openings input before after TooLong uses is = absurd cc
-
-pub full_at_8 : (openings : List Opening) (input : Option ℕ) (before after : WorldState) (ended : Ended) → UsesWorld openings input before after ended
-    → status_of ended ≡ 8 → IsSome input × InputTook TooLong input before after
-full_at_8 openings input before after TooLong uses is = (uses.limited refl, uses.took)
-full_at_8 openings input before after Done uses is = absurd cc
-full_at_8 openings input before after (NoSetup why) uses is = absurd cc
-full_at_8 openings input before after WriteFault uses is = absurd cc
-full_at_8 openings input before after Memory uses is = absurd cc
-full_at_8 openings input before after Refused uses is = absurd cc
-full_at_8 openings input before after Failed uses is = absurd cc
-
-pub whole_at_0 : (openings : List Opening) (input : Option ℕ) (before after : WorldState) (ended : Ended) → UsesWorld openings input before after ended
-    → (status_of ended ≡ 0) ⊎ (status_of ended ≡ 7) → InputTook Done input before after
-whole_at_0 openings input before after Done uses is = uses.took
-whole_at_0 openings input before after Refused uses is = uses.took
-whole_at_0 openings input before after (NoSetup why) uses is = elim is [ inl bad ↦ absurd cc | inr bad ↦ absurd cc ]
-whole_at_0 openings input before after WriteFault uses is = elim is [ inl bad ↦ absurd cc | inr bad ↦ absurd cc ]
-whole_at_0 openings input before after Memory uses is = elim is [ inl bad ↦ absurd cc | inr bad ↦ absurd cc ]
-whole_at_0 openings input before after Failed uses is = elim is [ inl bad ↦ absurd cc | inr bad ↦ absurd cc ]
-whole_at_0 openings input before after TooLong uses is = elim is [ inl bad ↦ absurd cc | inr bad ↦ absurd cc ]
-
-pub to_end_at_0 : (openings : List Opening) (input : Option ℕ) (before after : WorldState) (ended : Ended) → UsesWorld openings input before after ended
-    → status_of ended ≡ 0 → AreReadToEnd before after
-to_end_at_0 openings input before after Done uses is = uses.to_end refl
-to_end_at_0 openings input before after (NoSetup why) uses is = absurd cc
-to_end_at_0 openings input before after Failed uses is = absurd cc
-to_end_at_0 openings input before after WriteFault uses is = absurd cc
-to_end_at_0 openings input before after Memory uses is = absurd cc
-to_end_at_0 openings input before after Refused uses is = absurd cc
-to_end_at_0 openings input before after TooLong uses is = absurd cc
-
-pub configs_at_7 : (openings : List Opening) (input : Option ℕ) (before after : WorldState) (ended : Ended) → UsesWorld openings input before after ended
-    → status_of ended ≡ 7 → AreReadBeforeLast before after
-configs_at_7 openings input before after Refused uses is = uses.configs refl
-configs_at_7 openings input before after Done uses is = absurd cc
-configs_at_7 openings input before after (NoSetup why) uses is = absurd cc
-configs_at_7 openings input before after Failed uses is = absurd cc
-configs_at_7 openings input before after WriteFault uses is = absurd cc
-configs_at_7 openings input before after Memory uses is = absurd cc
-configs_at_7 openings input before after TooLong uses is = absurd cc
-
-pub short_at_4 : (openings : List Opening) (input : Option ℕ) (before after : WorldState) (ended : Ended) → UsesWorld openings input before after ended
-    → status_of ended ≡ 4 → InputTook Failed input before after
-short_at_4 openings input before after Failed uses is = uses.took
-short_at_4 openings input before after Done uses is = absurd cc
-short_at_4 openings input before after (NoSetup why) uses is = absurd cc
-short_at_4 openings input before after WriteFault uses is = absurd cc
-short_at_4 openings input before after Memory uses is = absurd cc
-short_at_4 openings input before after Refused uses is = absurd cc
-short_at_4 openings input before after TooLong uses is = absurd cc
-
+-- how a command ended that has this status
 pub done_at_0 : (ended : Ended) → status_of ended ≡ 0 → ended ≡ Done
 done_at_0 Done is = refl
 done_at_0 (NoSetup why) is = absurd cc
@@ -250,3 +196,53 @@ done_at_0 WriteFault is = absurd cc
 done_at_0 Memory is = absurd cc
 done_at_0 Refused is = absurd cc
 done_at_0 TooLong is = absurd cc
+
+stopped_at_4 : (ended : Ended) → status_of ended ≡ 4 → ended ≡ Failed
+stopped_at_4 Failed is = refl
+stopped_at_4 Done is = absurd cc
+stopped_at_4 (NoSetup why) is = absurd cc
+stopped_at_4 WriteFault is = absurd cc
+stopped_at_4 Memory is = absurd cc
+stopped_at_4 Refused is = absurd cc
+stopped_at_4 TooLong is = absurd cc
+
+refused_at_7 : (ended : Ended) → status_of ended ≡ 7 → ended ≡ Refused
+refused_at_7 Refused is = refl
+refused_at_7 Done is = absurd cc
+refused_at_7 (NoSetup why) is = absurd cc
+refused_at_7 Failed is = absurd cc
+refused_at_7 WriteFault is = absurd cc
+refused_at_7 Memory is = absurd cc
+refused_at_7 TooLong is = absurd cc
+
+too_long_at_8 : (ended : Ended) → status_of ended ≡ 8 → ended ≡ TooLong
+too_long_at_8 TooLong is = refl
+too_long_at_8 Done is = absurd cc
+too_long_at_8 (NoSetup why) is = absurd cc
+too_long_at_8 Failed is = absurd cc
+too_long_at_8 WriteFault is = absurd cc
+too_long_at_8 Memory is = absurd cc
+too_long_at_8 Refused is = absurd cc
+
+module _ (openings : List Opening) (input : Option ℕ) (before after : WorldState) (ended : Ended) (uses : UsesWorld openings input before after ended) where
+  took_as : (other : Ended) → ended ≡ other → InputTook other input before after
+  took_as other same = subst (λ (e : Ended). InputTook e input before after) same uses.took
+
+  pub failed_at_4 : status_of ended ≡ 4 → HasFailed before after
+  failed_at_4 is = uses.failed (stopped_at_4 ended is)
+
+  pub full_at_8 : status_of ended ≡ 8 → IsSome input × InputTook TooLong input before after
+  full_at_8 is = (uses.limited (too_long_at_8 ended is), took_as TooLong (too_long_at_8 ended is))
+
+  -- as much is taken at 7 as at 0
+  pub whole_at_0 : (status_of ended ≡ 0) ⊎ (status_of ended ≡ 7) → InputTook Done input before after
+  whole_at_0 is = elim is [ inl zero ↦ took_as Done (done_at_0 ended zero) | inr seven ↦ took_as Refused (refused_at_7 ended seven) ]
+
+  pub to_end_at_0 : status_of ended ≡ 0 → AreReadToEnd before after
+  to_end_at_0 is = uses.to_end (done_at_0 ended is)
+
+  pub configs_at_7 : status_of ended ≡ 7 → AreReadBeforeLast before after
+  configs_at_7 is = uses.configs (refused_at_7 ended is)
+
+  pub short_at_4 : status_of ended ≡ 4 → InputTook Failed input before after
+  short_at_4 is = took_as Failed (stopped_at_4 ended is)

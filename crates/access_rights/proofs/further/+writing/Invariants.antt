@@ -1,12 +1,8 @@
-use Rattle.std.proofs.Common.{◌≡◌, ◌≤◌, List, ◌++◌, drop, Some}
+use Rattle.std.proofs.Common.{◌≡◌, List, drop}
 use Rattle.json.specs.Token.{Token}
-use Rattle.json.specs.Json as json
-use Rattle.json.specs.Tree as tree
-use Rattle.serde_json.specs.Data.{members_depth}
-use Rattle.serde_json.specs.Read.{of_members}
-use Rattle.serde_json.specs.View.{items_view, members_view}
-use Rattle.serde_json.specs.Written.{blank_members, members_outline, WritesItems, WritesMembers}
-use Rattle.serde_json.proofs.Views.{Entry}
+use Rattle.serde_json.specs.View.{items_view}
+use Rattle.serde_json.specs.Written.{WritesItems}
+use Rattle.access_rights.proofs.WrittenParts.{EndsMembers}
 use Rattle.access_rights.proofs.further.+writing.Given as goal
 
 -- whatever ends the array well from here ends it well from the start
@@ -17,8 +13,4 @@ invariant-write_items-loop-item l =
 
 abbrev pub invariant-write_members-loop-key : goal.invariant-write_members-loop-key
 invariant-write_members-loop-key l =
-    let all = members_view l.members.entries in
-    (l.out.before ≡ l.initial.out.before) × (done : List Entry) × (l.members.entries ≡ done ++ l.key-iterator)
-    × ((ms : json.Members) → of_members ms (members_view done) ≡ Some all → tree.members_depth ms ≤ members_depth (members_view l.key-iterator)
-    → blank_members ms ≡ members_outline (members_view l.key-iterator)
-    → WritesMembers all l.initial.out.tokens (l.out.tokens ++ tree.members_tokens ms))
+    (l.out.before ≡ l.initial.out.before) × EndsMembers (λ ms. ms) l.members.entries l.key-iterator l.initial.out.tokens l.out.tokens

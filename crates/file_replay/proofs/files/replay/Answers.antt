@@ -16,12 +16,14 @@ returns-in-Whole-clause-replays g c = λ rest known.
 
 pub returns-in-Whole-clause-took : goal.returns-in-Whole-clause-took
 returns-in-Whole-clause-took g c =
-    took_all _ _ _ _ _ _ _ c.new-reader.ensures.held c.requires.fresh c.new-reader.ensures.taken line_ends.Whole c.in-Whole.ensures.read _ _ _ c.replay_after.ensures.came.1
+    took_all _ _ _ _ _ _ _ c.new-reader.ensures.held c.requires.fresh c.new-reader.ensures.taken line_ends.Whole c.in-Whole.ensures.read _ _ _
+    c.replay_after.ensures.came.1
     c.replay_after.result c.replay_after.ensures.took
 
 pub returns-in-Last-clause-replays : goal.returns-in-Last-clause-replays
 returns-in-Last-clause-replays g c = λ rest known.
-    last_replayed _ _ _ _ _ _ _ c.new-reader.ensures.held c.requires.fresh c.new-reader.ensures.taken c.in-Last.ensures.read _ c.only_setup.result c.only_setup.ensures
+    last_replayed _ _ _ _ _ _ _ c.new-reader.ensures.held c.requires.fresh c.new-reader.ensures.taken c.in-Last.ensures.read _ c.only_setup.result
+    c.only_setup.ensures
     (λ setup. c.what_holds.ensures setup [] (legal-nil gnap setup) (omega arith)) rest known
 
 pub returns-in-Last-clause-took : goal.returns-in-Last-clause-took
@@ -32,7 +34,8 @@ returns-in-Last-clause-took g c =
 
 pub returns-in-Long-clause-replays : goal.returns-in-Long-clause-replays
 returns-in-Long-clause-replays g c = λ rest known.
-    long_replayed _ _ _ _ _ _ _ c.new-reader.ensures.held c.requires.fresh c.new-reader.ensures.taken c.in-Long.ensures.read (c.in-Long.ensures.long refl).1 _ _ rest
+    long_replayed _ _ _ _ _ _ _ c.new-reader.ensures.held c.requires.fresh c.new-reader.ensures.taken c.in-Long.ensures.read
+    (c.in-Long.ensures.long refl).1 _ _ rest
 
 pub returns-in-Full-clause-replays : goal.returns-in-Full-clause-replays
 returns-in-Full-clause-replays g c = λ rest known.
@@ -41,7 +44,8 @@ returns-in-Full-clause-replays g c = λ rest known.
 
 pub returns-in-Full-clause-took : goal.returns-in-Full-clause-took
 returns-in-Full-clause-took g c =
-    took_all _ _ _ _ _ _ _ c.new-reader.ensures.held c.requires.fresh c.new-reader.ensures.taken line_ends.Full c.in-Full.ensures.read [] _ _ (came-none _ _) TooLong
+    took_all _ _ _ _ _ _ _ c.new-reader.ensures.held c.requires.fresh c.new-reader.ensures.taken line_ends.Full c.in-Full.ensures.read [] _ _
+    (came-none _ _) TooLong
     c.in-Full.ensures.full
 
 pub returns-in-Failed-clause-replays : goal.returns-in-Failed-clause-replays
@@ -51,7 +55,8 @@ returns-in-Failed-clause-replays g c = λ rest known.
 
 pub returns-in-Failed-clause-took : goal.returns-in-Failed-clause-took
 returns-in-Failed-clause-took g c =
-    took_all _ _ _ _ _ _ _ c.new-reader.ensures.held c.requires.fresh c.new-reader.ensures.taken line_ends.Failed c.in-Failed.ensures.read [] _ _ (came-none _ _) Failed
+    took_all _ _ _ _ _ _ _ c.new-reader.ensures.held c.requires.fresh c.new-reader.ensures.taken line_ends.Failed c.in-Failed.ensures.read [] _ _
+    (came-none _ _) Failed
     c.in-Failed.ensures.full
 
 pub returns-clause-replays : goal.returns-clause-replays
@@ -59,8 +64,10 @@ returns-clause-replays g c = λ rest known.
     starved_replayed _ rest _ (λ setup. c.what_holds.ensures setup [] (legal-nil gnap setup) (omega arith))
 
 pub returns-in-Whole-clause-leaves : goal.returns-in-Whole-clause-leaves
-returns-in-Whole-clause-leaves g c = leaves_more _ (g.S.Device.told c.args.source.now) (g.S.Device.told c.next_line.new.source) (g.S.Device.told c.replay_after.new.source)
-    (leaves_taken _ (g.S.Device.told c.args.source.now) (g.S.Device.told c.next_line.new.source) c.requires.fresh c.in-Whole.ensures.read.came.takes) c.replay_after.ensures.came.1.takes
+returns-in-Whole-clause-leaves g c =
+    leaves_more _ (g.S.Device.told c.args.source.now) (g.S.Device.told c.next_line.new.source) (g.S.Device.told c.replay_after.new.source)
+    (leaves_taken _ (g.S.Device.told c.args.source.now) (g.S.Device.told c.next_line.new.source) c.requires.fresh c.in-Whole.ensures.read.came.takes)
+    c.replay_after.ensures.came.1.takes
 
 pub returns-in-Last-clause-leaves : goal.returns-in-Last-clause-leaves
 returns-in-Last-clause-leaves g c = leaves_taken _ _ _ c.requires.fresh c.in-Last.ensures.read.came.takes

@@ -32,7 +32,8 @@ pub returns-in-Err-clause-took : goal.returns-in-Err-clause-took
 returns-in-Err-clause-took g c = refusal_at c.in-Err.ended _ _ (gives_refusal c.in-Err.ended _ c.in-Err.ensures.value)
 
 pub returns-in_default-clause-replays : goal.returns-in_default-clause-replays
-returns-in_default-clause-replays g c = λ setup is. runs-starved (Turns setup 0 (IsLoneHistory setup)) _ _ _ _ (none-had setup 0 (IsLoneHistory setup) (legal-nil gnap setup, tt)) c.requires.held
+returns-in_default-clause-replays g c = λ setup is.
+    runs-starved (Turns setup 0 (IsLoneHistory setup)) _ _ _ _ (none-had setup 0 (IsLoneHistory setup) (legal-nil gnap setup, tt)) c.requires.held
 
 pub returns-clause-replays : goal.returns-clause-replays
 returns-clause-replays g c = λ setup is.

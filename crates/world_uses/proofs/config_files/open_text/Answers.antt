@@ -10,13 +10,15 @@ pub returns-in-Err-clause-world : goal.returns-in-Err-clause-world
 returns-in-Err-clause-world g c = unopened_used _ _ _ _ c.in-Err.fault _ c.ended_by_fault.ensures c.in-Err.ensures.state c.in-Err.ensures.file
 
 pub returns-in-Err-clause-config : goal.returns-in-Err-clause-config
-returns-in-Err-clause-config g c = inl (ap (λ s. s.files) c.in-Err.ensures.state, unopened_config c.in-Err.fault c.ended_by_fault.result c.ended_by_fault.ensures)
+returns-in-Err-clause-config g c =
+    inl (ap (λ s. s.files) c.in-Err.ensures.state, unopened_config c.in-Err.fault c.ended_by_fault.result c.ended_by_fault.ensures)
 
 pub returns-in-Ok-clause-config : goal.returns-in-Ok-clause-config
 returns-in-Ok-clause-config g c =
     let source = c.read_config-text.new.source in
     let file = served_of (g.W.File.Device.told source) (g.W.File.Device.faults source) in
-    opened_over file _ _ _ _ _ _ _ _ c.in-Ok.ensures.state c.close_file.ensures.state c.in-Ok.ensures.file.1 c.read_config-text.ensures.leaves c.read_config-text.ensures.text
+    opened_over file _ _ _ _ _ _ _ _ c.in-Ok.ensures.state c.close_file.ensures.state c.in-Ok.ensures.file.1 c.read_config-text.ensures.leaves
+    c.read_config-text.ensures.text
 
 pub returns-in-Ok-clause-world : goal.returns-in-Ok-clause-world
 returns-in-Ok-clause-world g c =

@@ -1,0 +1,3 @@
+pub mod Behind
+pub mod SkippedEntries
+pub mod StringLists

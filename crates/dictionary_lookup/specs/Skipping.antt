@@ -1,0 +1,86 @@
+-- What is skipped in a text, and which members of a dictionary have a parameter with a given String.
+use Rattle.std.specs.Prelude.{◌≡◌, ℕ, Bool, false, if◌then◌else◌, List, [], ◌∷◌, filter, Option, Some, None, option_map}
+use Rattle.std.specs.Str.{bytes_eq}
+use Rattle.structured_fields.specs.declared.bare.Bare.{Bare}
+use Rattle.structured_fields.specs.declared.item.Item.{Item}
+use Rattle.structured_fields.specs.declared.item.InnerList.{InnerList}
+use Rattle.structured_fields.specs.declared.item.Member.{Member}
+use Rattle.structured_fields.specs.declared.item.Member.TheVariants.{Item as Single, Inner}
+use Rattle.dictionary_lookup.specs.declared.lookup.Matched.{Matched}
+use Rattle.dictionary_lookup.specs.declared.lookup.Matched.TheVariants.{Nowhere, Once, Unsettled}
+use Rattle.structured_fields.specs.Letters.{is_token_start}
+use Rattle.structured_fields.specs.Named.{value_at}
+use Rattle.structured_fields.specs.Reading.{entry_value_at}
+use Rattle.structured_fields.specs.Strings.{are_strings, holds_string}
+
+-- what stands behind what was read
+abbrev pub rest_of : {A : Type 0} → Option (A × List ℕ) → Option (List ℕ)
+rest_of read = option_map (λ x. x.1) read
+
+-- a token begins the text
+abbrev pub begins_token : List ℕ → Bool
+begins_token [] = false
+begins_token (c ∷ t) = is_token_start c
+
+-- ---- a parameter with a given String
+
+-- the member is an inner list whose parameter of this name is this String
+abbrev pub is_match : List ℕ → List ℕ → Member → Bool
+is_match name s (Inner list) = holds_string s (value_at list.params name)
+is_match name s (Single item) = false
+
+-- the same of what was read, with what stands behind it: of a value that may be asked for, and else what was so before
+abbrev pub value_matched : Bool → List ℕ → Bool → Bare × List ℕ → Bool × List ℕ
+value_matched asked s before v = ((if asked then holds_string s (Some v.0) else before), v.1)
+
+abbrev pub parameter_matched : List ℕ → List ℕ → Bool → (List ℕ × Bare) × List ℕ → Bool × List ℕ
+parameter_matched name s before g = ((if bytes_eq g.0.0 name then holds_string s (Some g.0.1) else before), g.1)
+
+abbrev pub params_matched : List ℕ → List ℕ → List (List ℕ × Bare) × List ℕ → Bool × List ℕ
+params_matched name s p = (holds_string s (value_at p.0 name), p.1)
+
+abbrev pub inner_matched : List ℕ → List ℕ → InnerList × List ℕ → Bool × List ℕ
+inner_matched name s l = (holds_string s (value_at l.0.params name), l.1)
+
+abbrev pub member_matched : List ℕ → List ℕ → Member × List ℕ → Bool × List ℕ
+member_matched name s m = (is_match name s m.0, m.1)
+
+abbrev pub entry_matched : List ℕ → List ℕ → (List ℕ × Member) × List ℕ → (List ℕ × Bool) × List ℕ
+entry_matched name s e = ((e.0.0, is_match name s e.0.1), e.1)
+
+-- the entries of a dictionary whose members are such
+abbrev pub matches_among : List ℕ → List ℕ → List (List ℕ × Member) → List (List ℕ × Member)
+matches_among name s d = filter (λ e. is_match name s e.1) d
+
+-- what was found of the entries that are such: none; one alone, by its key and the text of its member; or it is left open
+abbrev pub Tells : List ℕ → List ℕ → Matched → List (List ℕ × Member) → Type 0
+Tells name s Nowhere d = matches_among name s d ≡ []
+Tells name s (Once at) d = (m : Member) × (rest : List ℕ) × (entry_value_at at.value.now ≡ Some (m, rest)) × (matches_among name s d ≡ (at.key.now, m) ∷ [])
+Tells name s Unsettled d = Unit {0}
+
+-- ---- an inner list of Strings
+
+-- what is made of items, where all of them are Strings
+abbrev pub only_strings : {A : Type 0} → List Item → A → Option A
+only_strings items made = if are_strings items then Some made else None
+
+-- the inner list that the member is, where its items are Strings
+abbrev pub strings_in : Member → Option InnerList
+strings_in (Inner list) = only_strings list.items list
+strings_in (Single item) = None
+
+-- ---- the bare item under a key
+
+-- the bare item of a member that is an item
+abbrev pub single_of : Member → Option Bare
+single_of (Single item) = Some item.bare
+single_of (Inner list) = None
+
+abbrev pub bare_found : Option Member → Option Bare
+bare_found None = None
+bare_found (Some m) = single_of m
+
+-- the text is that of this member, or there is none
+abbrev pub IsUnder : Option (List ℕ) → Option Member → Type 0
+IsUnder None o = o ≡ None
+IsUnder (Some value) o = (m : Member) × (rest : List ℕ) × (entry_value_at value ≡ Some (m, rest)) × (o ≡ Some m)

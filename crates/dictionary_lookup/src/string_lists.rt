@@ -1,0 +1,67 @@
+//! Reading an inner list of Strings, up to the first item that is none.
+ghost use Rattle.std.specs.Prelude.{◌≡◌, ℕ, List, Some, Err, IfOk};
+ghost use Rattle.std.specs.Option.{option_map};
+ghost use Rattle.structured_fields.specs.declared.fault.FieldFault.TheVariants.{NotInGrammar as Refused};
+ghost use Rattle.structured_fields.specs.declared.item.Item.{Item as ItemValue};
+ghost use Rattle.structured_fields.specs.declared.item.InnerList.{InnerList as ListValue};
+ghost use Rattle.structured_fields.specs.declared.item.Member.{Member as MemberValue};
+ghost use Rattle.structured_fields.specs.Reading.{items_at, inner_at, entry_value_at};
+ghost use Rattle.dictionary_lookup.specs.Skipping.{only_strings, strings_in};
+
+use std::alloc::Global;
+use structured_fields::front::{is_item_end, item_in, params_of, strip, without_spaces};
+use structured_fields::{FieldFault, InnerList, Items, is_any_string};
+
+// The items up to the `)`, and what stands behind it. None where one is no String; what stands behind that one isn't read.
+fn strings_of(alloc: Global, bytes: &[u8]) -> Result<Option<(Items, &[u8])>, FieldFault>
+    ensures ok { (items : List ItemValue) (rest : List ℕ) → items_at bytes.now ≡ Some (items, rest) → IfOk result (λ o. option_map {U = List ItemValue × List ℕ} (λ x. (x.0, x.1.now)) o ≡ only_strings items (items, rest)) }
+    ensures err { (items : List ItemValue) (rest : List ℕ) → items_at bytes.now ≡ Some (items, rest) → result ≡ Err Refused → ⊥ }
+{
+    let mut items = Items::new(alloc);
+    let mut left = bytes;
+    for _ in 0..bytes.len() {
+        let next = without_spaces(left);
+        if let Some(after) = strip(b')', next) {
+            return Ok(Some((items, after)));
+        }
+        let (item, rest) = item_in(alloc, next)?;
+        if !is_item_end(rest) {
+            return Err(FieldFault::NotInGrammar);
+        }
+        if !is_any_string(&item.bare) {
+            return Ok(None);
+        }
+        items.push(item)?;
+        left = rest;
+    }
+    Err(FieldFault::NotInGrammar)
+}
+
+// The inner list behind a `(`. None where an item is no String.
+fn inner_strings(alloc: Global, bytes: &[u8]) -> Result<Option<InnerList>, FieldFault>
+    ensures ok { (list : ListValue) (rest : List ℕ) → inner_at bytes.now ≡ Some (list, rest) → IfOk result (λ o. o ≡ only_strings list.items list) }
+    ensures err { (list : ListValue) (rest : List ℕ) → inner_at bytes.now ≡ Some (list, rest) → result ≡ Err Refused → ⊥ }
+{
+    let Some((items, rest)) = strings_of(alloc, bytes)? else {
+        return Ok(None);
+    };
+    let (params, _) = params_of(alloc, rest)?;
+    Ok(Some(InnerList { items, params }))
+}
+
+/// The inner list of Strings that is the member at the front of a text behind a key (RFC 9651, section 4.2.2). None where another member is there, or an item of
+/// the list is no String; what stands behind that item isn't read.
+///
+/// Errors: NotInGrammar only where no member is there. OutOfMemory may come in place of any answer.
+pub fn strings_behind(alloc: Global, value: &[u8]) -> Result<Option<InnerList>, FieldFault>
+    ensures ok { (m : MemberValue) (rest : List ℕ) → entry_value_at value.now ≡ Some (m, rest) → IfOk result (λ o. o ≡ strings_in m) }
+    ensures err { (m : MemberValue) (rest : List ℕ) → entry_value_at value.now ≡ Some (m, rest) → result ≡ Err Refused → ⊥ }
+{
+    let Some(member) = strip(b'=', value) else {
+        return Ok(None);
+    };
+    let Some(items) = strip(b'(', member) else {
+        return Ok(None);
+    };
+    inner_strings(alloc, items)
+}

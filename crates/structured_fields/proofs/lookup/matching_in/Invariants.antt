@@ -1,8 +1,0 @@
-use Rattle.std.proofs.Common.{◌-◌, [], length}
-use Rattle.structured_fields.specs.Skipping.{Tells}
-use Rattle.structured_fields.specs.Reading.{members_from, entry_at, with_entry}
-use Rattle.structured_fields.proofs.SkippedEntries.{EntriesSoFar}
-use Rattle.structured_fields.proofs.lookup.matching_in.Given as goal
-
-abbrev pub invariant-loop : goal.invariant-loop
-invariant-loop l = EntriesSoFar (Tells l.name l.s l.found) (length l.bytes - l.counter) l.left (members_from entry_at with_entry (length l.bytes) [] l.bytes)

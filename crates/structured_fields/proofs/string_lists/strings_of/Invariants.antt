@@ -1,7 +1,0 @@
-use Rattle.std.proofs.Common.{◌-◌, length}
-use Rattle.structured_fields.specs.Reading.{items_at}
-use Rattle.structured_fields.proofs.StringLists.{StringsSoFar}
-use Rattle.structured_fields.proofs.string_lists.strings_of.Given as goal
-
-abbrev pub invariant-loop : goal.invariant-loop
-invariant-loop l = StringsSoFar (length l.bytes - l.counter) l.items l.left (items_at l.bytes)
