@@ -112,7 +112,8 @@ fn covers_privileges(
     location: Option<&Bytes>,
     datatype: Option<&Bytes>,
 ) -> bool
-    ensures { result ≡ covers_privileges granted.now wanted.now (option_map (λ b. b.now) action.entry) (option_map (λ b. b.now) location.entry) (option_map (λ b. b.now) datatype.entry) }
+    ensures { result ≡ covers_privileges granted.now wanted.now (option_map (λ b. b.now) action.entry) (option_map (λ b. b.now) location.entry)
+        (option_map (λ b. b.now) datatype.entry) }
 {
     let Some(privileges) = &wanted.privileges else {
         return has_parts(granted, wanted, action, location, datatype, None);

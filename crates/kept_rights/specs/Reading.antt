@@ -1,4 +1,5 @@
--- What is read from the front of bytes, and the bytes after it. Each run of bytes has a reading; where one ends too early, what is left out is read as 0 or as no bytes.
+-- What is read from the front of bytes, and the bytes after it. Each run of bytes has a reading; where one ends too early, what is left out is read as 0 or as
+-- no bytes.
 use Rattle.std.specs.Prelude.{ℕ, zero, suc, ◌+◌, Bool, List, [], ◌∷◌, length, take, drop, nat_lt, ◌==◌, not, Option, Some, None, if◌then◌else◌}
 use Rattle.gnap_model.specs.Common.{Text}
 use Rattle.gnap_model.specs.declared.rights.Right.{Right}
@@ -51,8 +52,18 @@ object_at bytes =
     let datatypes = option_at texts_at locations.1 in
     let privileges = option_at texts_at datatypes.1 in
     let identifier = option_at text_at privileges.1 in
-    let further = text_at identifier.1 in
-    (record { kind = kind.0; actions = actions.0; locations = locations.0; datatypes = datatypes.0; privileges = privileges.0; identifier = identifier.0; further = further.0 }, further.1)
+    let further = text_at identifier.1 in (
+      record {
+        kind = kind.0;
+        actions = actions.0;
+        locations = locations.0;
+        datatypes = datatypes.0;
+        privileges = privileges.0;
+        identifier = identifier.0;
+        further = further.0;
+      },
+      further.1,
+    )
 
 unfoldable pub right_at : List ℕ → Right × List ℕ
 right_at bytes = let flag = byte_at bytes in if flag.0 == 0 then read_as Reference (text_at flag.1) else read_as Object (object_at flag.1)

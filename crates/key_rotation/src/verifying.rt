@@ -188,10 +188,13 @@ fn is_chained(label: &Bytes, list: &InnerList) -> bool
 
 // ---- both
 
-/// The keys of both signatures of a message which came to the server with this base (RFC 9635, section 6.1.1): the first has the tag `gnap` and is verified as any (`message_signature::verify`), the second has the tag `gnap-rotate`, is verified by the same checks over the base that may cover another signature (`rotation_base`), and covers the first: `signature` and `signature-input` with its label as `key`.
+/// The keys of both signatures of a message which came to the server with this base (RFC 9635, section 6.1.1): the first has the tag `gnap` and is verified as
+/// any (`message_signature::verify`), the second has the tag `gnap-rotate`, is verified by the same checks over the base that may cover another signature
+/// (`rotation_base`), and covers the first: `signature` and `signature-input` with its label as `key`.
 /// The base is scheme, `://` and authority, without a `/` at its end. `now` is in seconds since 1970.
 ///
-/// Errors: First exactly where the first has a fault, and which is its first; else Second exactly where the second has one; else NotChained exactly where the second doesn't cover the first. OutOfMemory may come in place of any answer, and is never the fault in First and Second.
+/// Errors: First exactly where the first has a fault, and which is its first; else Second exactly where the second has one; else NotChained exactly where the
+/// second doesn't cover the first. OutOfMemory may come in place of any answer, and is never the fault in First and Second.
 #[tactic(auto, unfolding(crate::specs::Rotated::rotated_keys))]
 pub fn verify_rotation(
     alloc: Global,

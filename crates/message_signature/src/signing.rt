@@ -217,10 +217,12 @@ fn sign_under(
     Ok(())
 }
 
-/// Signs a message to the server with this base by HMAC-SHA-256 under the secret (RFC 9421, section 3.1), and covers what a GNAP request has to cover (RFC 9635, section 7.3.1): `@method`, `@target-uri`, `content-digest` where there is a body, and `authorization` where that field is there.
+/// Signs a message to the server with this base by HMAC-SHA-256 under the secret (RFC 9421, section 3.1), and covers what a GNAP request has to cover (RFC
+/// 9635, section 7.3.1): `@method`, `@target-uri`, `content-digest` where there is a body, and `authorization` where that field is there.
 ///
 /// The base is scheme, `://` and authority, without a `/` at its end. `created` is in seconds since 1970. The id and the tag hold characters from SP to `~`.
-/// Fields are added behind the others: `content-digest` (RFC 9530) where there is a body and no such field, then `signature-input` and `signature`, each with one member under the label `sig1`. The parameters are `created`, `keyid` and `tag`.
+/// Fields are added behind the others: `content-digest` (RFC 9530) where there is a body and no such field, then `signature-input` and `signature`, each with
+/// one member under the label `sig1`. The parameters are `created`, `keyid` and `tag`.
 /// HasSignature comes exactly where a `signature-input` or a `signature` field is there already. An `Err` changes nothing.
 pub fn sign(
     alloc: Global,

@@ -193,14 +193,17 @@ fn judged_list(
     list: &InnerList,
     bytes: &Bytes,
 ) -> Result<Bytes, SigFault>
-    ensures { (label : List ℕ) → Gives (λ id. id) result (judged message.now base.now ring.now now (record { label = label; list = list.now; bytes = bytes.now })) }
+    ensures { (label : List ℕ) → Gives (λ id. id) result
+        (judged message.now base.now ring.now now (record { label = label; list = list.now; bytes = bytes.now })) }
 {
     let text = base_under(alloc, message, base, list)?;
     check_tagged(alloc, message, &text, ring, now, list, bytes)
 }
 
-/// The id of the key that signed a message which came to the server with this base (RFC 9421, section 3.2). The signature is the one whose parameter `tag` is this tag, and others are passed over; it is the HMAC-SHA-256 (section 3.3.3) of the signature base (section 2.5) under a key of the ring.
-/// The base is scheme, `://` and authority, without a `/` at its end. `now`, `created` and `expires` are in seconds since 1970. Parameters of other names, as `nonce`, are signed and not looked at.
+/// The id of the key that signed a message which came to the server with this base (RFC 9421, section 3.2). The signature is the one whose parameter `tag` is
+/// this tag, and others are passed over; it is the HMAC-SHA-256 (section 3.3.3) of the signature base (section 2.5) under a key of the ring.
+/// The base is scheme, `://` and authority, without a `/` at its end. `now`, `created` and `expires` are in seconds since 1970. Parameters of other names, as
+/// `nonce`, are signed and not looked at.
 ///
 /// Errors: the first fault that is so, in the order of `SigFault`. OutOfMemory may come in place of any answer.
 pub fn verify(
@@ -226,7 +229,8 @@ fn id_and_mark_of(
     list: &InnerList,
     bytes: &Bytes,
 ) -> Result<(Bytes, Option<SignatureMark>), SigFault>
-    ensures { (label : List ℕ) → Gives (λ x. x) result (judged_with_mark message.now base.now ring.now now (record { label = label; list = list.now; bytes = bytes.now })) }
+    ensures { (label : List ℕ) → Gives (λ x. x) result
+        (judged_with_mark message.now base.now ring.now now (record { label = label; list = list.now; bytes = bytes.now })) }
 {
     let id = judged_list(alloc, message, base, ring, now, list, bytes)?;
     Ok((id, mark_in(list)?))

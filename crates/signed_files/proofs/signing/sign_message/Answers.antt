@@ -14,7 +14,8 @@ returns-in_default-clause-answer c =
 
 pub sign_with-requires-clause-id : goal.sign_with-requires-clause-id
 sign_with-requires-clause-id c =
-    key_id_text c.args.setup.now c.args.id.now c.in-Some.key.now c.requires.setup (ap (key_of c.args.setup.now) (sym c.as_slice.ensures.value) ∙ sym c.in-Some.ensures)
+    key_id_text c.args.setup.now c.args.id.now c.in-Some.key.now c.requires.setup
+    (ap (key_of c.args.setup.now) (sym c.as_slice.ensures.value) ∙ sym c.in-Some.ensures)
 
 pub returns-in-Ok-clause-answer : goal.returns-in-Ok-clause-answer
 returns-in-Ok-clause-answer c =
