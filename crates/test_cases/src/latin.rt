@@ -33,7 +33,7 @@ fn add_run(bytes: &mut Bytes, runs: &[Value], symbol: char) -> Result<(), Fault>
 }
 
 /// The bytes for which a text of the case stands.
-pub(crate) fn bytes_of(alloc: Global, case: &Case<'_>, value: &Value) -> Result<Bytes, Fault> {
+pub fn bytes_of(alloc: Global, case: &Case<'_>, value: &Value) -> Result<Bytes, Fault> {
     let mut bytes = Bytes::new(alloc);
     for symbol in text(value)?.chars() {
         match u8::try_from(symbol as u32) {
@@ -45,7 +45,7 @@ pub(crate) fn bytes_of(alloc: Global, case: &Case<'_>, value: &Value) -> Result<
 }
 
 /// A text for the bytes. Of more than 8,192 it is their number and their SHA-256 in hexadecimal digits.
-pub(crate) fn text_of(alloc: Global, bytes: &[u8]) -> Result<String, Fault> {
+pub fn text_of(alloc: Global, bytes: &[u8]) -> Result<String, Fault> {
     if bytes.len() > LONGEST {
         let digest = hex::encode(alloc, &Sha256::digest(bytes))?;
         return Ok(format!(in alloc; "{} bytes, SHA-256 {digest}", bytes.len())?);

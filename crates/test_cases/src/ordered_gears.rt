@@ -33,7 +33,7 @@ const LOOKS: u32 = 500_000_000;
 
 /// A gear in memory that gives each connection once all that come before it were served, by whatever worker.
 #[derive(Drop)]
-pub(crate) struct OrderedGear<'a> {
+pub struct OrderedGear<'a> {
     pub gear: MemGear,
     /// How many connections of all gears were served.
     served: &'a AtomicU64,
@@ -134,7 +134,7 @@ fn front(alloc: Global, case: &Case<'_>) -> Result<HttpFront<AuthorizationServer
 
 /// The gears of the case when they were served in one order, at one `TableCore`, under the setup that its first file is. They count in one place how many
 /// connections were served.
-pub(crate) fn served_in_order<'a, R: Threads + Wait + Sync>(
+pub fn served_in_order<'a, R: Threads + Wait + Sync>(
     rt: &R,
     alloc: Global,
     case: &Case<'_>,

@@ -34,7 +34,7 @@ const MEMBERS_OF_A_GEAR: [&str; 7] = [
 
 /// A command, and the world in which it is run. A list that its line doesn't have is empty.
 #[derive(Clone, Copy)]
-pub(crate) struct Case<'a> {
+pub struct Case<'a> {
     /// What the case shows.
     pub name: &'a Value,
     /// The words after the program's name.
@@ -65,7 +65,7 @@ pub(crate) struct Case<'a> {
 }
 
 impl<'a> Case<'a> {
-    pub(crate) fn read(line: &'a Value) -> Result<Case<'a>, Fault> {
+    pub fn read(line: &'a Value) -> Result<Case<'a>, Fault> {
         refuse_others(line, &MEMBERS_OF_A_CASE)?;
         Ok(Case {
             name: line.get("name").ok_or(Fault::NotACase)?,
@@ -87,7 +87,7 @@ impl<'a> Case<'a> {
 
 /// The connections, moments and words of one worker. A list that it doesn't have is empty.
 #[derive(Clone, Copy)]
-pub(crate) struct GearCase<'a> {
+pub struct GearCase<'a> {
     /// The bytes of each connection.
     pub connections: &'a [Value],
     /// What the clock gives, in seconds since 1970: one after another, and then the last one again. It gives 0 where there is none.
@@ -105,7 +105,7 @@ pub(crate) struct GearCase<'a> {
 }
 
 impl<'a> GearCase<'a> {
-    pub(crate) fn read(gear: &'a Value) -> Result<GearCase<'a>, Fault> {
+    pub fn read(gear: &'a Value) -> Result<GearCase<'a>, Fault> {
         refuse_others(gear, &MEMBERS_OF_A_GEAR)?;
         Ok(GearCase {
             connections: items(gear, "connections")?,
@@ -143,7 +143,7 @@ fn is_set(object: &Value, name: &str) -> Result<bool, Fault> {
 }
 
 /// The items of a list.
-pub(crate) fn items_of(list: &Value) -> Result<&[Value], Fault> {
+pub fn items_of(list: &Value) -> Result<&[Value], Fault> {
     match list {
         Value::Array(items) => Ok(items.as_slice()),
         _ => Err(Fault::NotACase),
@@ -151,22 +151,22 @@ pub(crate) fn items_of(list: &Value) -> Result<&[Value], Fault> {
 }
 
 /// The two items of a list.
-pub(crate) fn pair(list: &Value) -> Result<(&Value, &Value), Fault> {
+pub fn pair(list: &Value) -> Result<(&Value, &Value), Fault> {
     match items_of(list)? {
         [first, second] => Ok((first, second)),
         _ => Err(Fault::NotACase),
     }
 }
 
-pub(crate) fn text(value: &Value) -> Result<&str, Fault> {
+pub fn text(value: &Value) -> Result<&str, Fault> {
     value.as_str().ok_or(Fault::NotACase)
 }
 
-pub(crate) fn number(value: &Value) -> Result<u64, Fault> {
+pub fn number(value: &Value) -> Result<u64, Fault> {
     value.as_u64().ok_or(Fault::NotACase)
 }
 
-pub(crate) fn numbers(alloc: Global, values: &[Value]) -> Result<Vec<u64>, Fault> {
+pub fn numbers(alloc: Global, values: &[Value]) -> Result<Vec<u64>, Fault> {
     let mut numbers = Vec::new(alloc);
     for value in values {
         numbers.push(number(value)?)?;

@@ -1,7 +1,7 @@
 use Rattle.std.specs.Prelude.{◌≤◌, All}
 use Rattle.gnap_io.specs.Gears.{IsUnused}
 use Rattle.gnap_io.specs.MemoryForms.{gear_state}
-use Rattle.test_worlds.proofs.ordered_gears.gears_in_order.Given as goal
+use Rattle.test_cases.proofs.ordered_gears.gears_in_order.Given as goal
 
 abbrev pub invariant-loop-place : goal.invariant-loop-place
 invariant-loop-place l = All (λ ordered. IsUnused (gear_state ordered.gear)) l.gears.items

@@ -121,7 +121,7 @@ fn draws(alloc: Global, gear: &GearCase<'_>) -> Result<Vec<[u64; 48]>, Fault> {
 }
 
 /// A gear that has done nothing yet. Each of its connections has at most so many of its bytes.
-pub(crate) fn gear(
+pub fn gear(
     alloc: Global,
     case: &Case<'_>,
     gear: &GearCase<'_>,
@@ -163,7 +163,7 @@ fn link(alloc: Global, case: &Case<'_>) -> Result<MemLink, Fault>
 }
 
 /// The world of the case, whose connections have at most so many of their bytes.
-pub(crate) fn world(alloc: Global, case: &Case<'_>, most: usize) -> Result<MemWorld, Fault> {
+pub fn world(alloc: Global, case: &Case<'_>, most: usize) -> Result<MemWorld, Fault> {
     let mut at = Vec::new(alloc);
     at.push((Bytes::from_slice(alloc, b"a")?, gears(alloc, case, most)?))?;
     let mut links = Vec::new(alloc);
