@@ -112,6 +112,10 @@ module _ (body : List ℕ) (e : Entry) where
 
 -- ---- entries
 
+-- a lemma of its own, so that no digest is computed for it
+some_no_none : (q : Pair) → Some q ≡ None → ⊥
+some_no_none q h = cc
+
 module _ (body : List ℕ) where
   all_right : (d : List Entry) → are_sequences d ≡ true → first_difference body d ≡ None → AllByRecursion (IsRight body) d
   all_right [] kind none = tt
@@ -122,7 +126,7 @@ module _ (body : List ℕ) where
       by : (o : Option Pair) → difference body e ≡ o → or_some o (first_difference body d) ≡ None
           → (first_difference body d ≡ None → AllByRecursion (IsRight body) d) → IsRight body e × AllByRecursion (IsRight body) d
       by None p h again = (right_of body e (and_parts (has_right_kind e) (are_sequences d) kind).0 p, again h)
-      by (Some q) p h again = absurd cc
+      by (Some q) p h again = absurd (some_no_none q h)
 
   none_differs : (d : List Entry) → AllByRecursion (IsRight body) d → first_difference body d ≡ None
   none_differs [] all = refl

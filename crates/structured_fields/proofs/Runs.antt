@@ -7,6 +7,7 @@ use Rattle.structured_fields.specs.Letters.{is_digit, is_plain, is_quoted, is_un
 use Rattle.structured_fields.specs.Grammar.{in_string}
 use Rattle.structured_fields.specs.Reading.{front, behind, with_byte, string_rest}
 use Rattle.std.proofs.lemmas.List.{drop_more, drop_all, take_rest, append-nil}
+use Rattle.std.proofs.lemmas.List.Sums.{prefix_len-drop_all, prefix_len-drop_no}
 use Rattle.std.proofs.lemmas.Bool.Decides.{nat_tests}
 
 pub front_all : (p : ℕ → Bool) (xs : List ℕ) → list_all p (take (prefix_len p xs) xs) ≡ true
@@ -107,3 +108,16 @@ refused held bytes i total within not_quote not_slash other so_far =
     let slash : (get_or bytes i 0 == 92) ≡ false = grind (arith, nat_tests) in
     let e : string_rest false (drop i bytes) ≡ None = opened_false bytes i within ∙ rw (quote, slash, other) refl in
     sym so_far ∙ ap (with_front held) e
+
+-- a run as far as a loop has come
+module _ (p : ℕ → Bool) (bytes : List ℕ) (i : ℕ) (so_far : prefix_len p bytes ≡ i + prefix_len p (drop i bytes)) where
+  pub run_further : i < length bytes → p (get_or bytes i 0) ≡ true → prefix_len p bytes ≡ (i + 1) + prefix_len p (drop (i + 1) bytes)
+  run_further within is =
+      let one : prefix_len p (drop i bytes) ≡ 1 + prefix_len p (drop (i + 1) bytes) = ap (prefix_len p) (drop_more bytes i 0 within) ∙ rw is refl in
+      omega (arith, so_far, one)
+
+  pub run_stops : i < length bytes → p (get_or bytes i 0) ≡ false → i ≡ prefix_len p bytes
+  run_stops within is = let none = prefix_len-drop_no p bytes i 0 within is in omega (arith, so_far, none)
+
+  pub run_spent : length bytes ≤ i → i ≤ length bytes → length bytes ≡ prefix_len p bytes
+  run_spent least most = let none = prefix_len-drop_all p bytes i least in omega (arith, so_far, none, least, most)

@@ -30,3 +30,15 @@ returns-clause-ok c =
     is_noted c.note_at.new.notes.items c.args.name.now c.loop-byte.byte-index c.loop-byte.node (unwrap_or c.in_ok-before.before c.in_ok-number.number)
     (omega arith)
     (c.loop-byte.invariant.follows c.note_at.new.notes.items c.in_ok-before.ensures.extends) (rw c.cell_of.ensures.cell at c.in_ok-before.ensures.after)
+
+pub returns-in_err-node-clause-extends : goal.returns-in_err-node-clause-extends
+returns-in_err-node-clause-extends c =
+    extends_on c.args.notes.now.items c.loop-byte.notes.items c.below_noting.new.notes.items c.loop-byte.invariant.extends c.in_err-node.ensures.extends
+
+pub returns-in_err-before-clause-extends : goal.returns-in_err-before-clause-extends
+returns-in_err-before-clause-extends c =
+    extends_on c.args.notes.now.items c.loop-byte.notes.items c.note_at.new.notes.items c.loop-byte.invariant.extends c.in_err-before.ensures.extends
+
+pub returns-clause-extends : goal.returns-clause-extends
+returns-clause-extends c =
+    extends_on c.args.notes.now.items c.loop-byte.notes.items c.note_at.new.notes.items c.loop-byte.invariant.extends c.in_ok-before.ensures.extends

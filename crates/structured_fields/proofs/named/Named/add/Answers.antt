@@ -1,4 +1,4 @@
-use Rattle.std.proofs.Common.{◌≡◌, ◌∷◌, [], ◌++◌, ap, sym, subst, ◌∙◌}
+use Rattle.std.proofs.Common.{◌≡◌, ◌∷◌, [], ◌++◌, length, ap, sym, subst, ◌∙◌, arith}
 use Rattle.structured_fields.specs.Named.{IsDistinct, Covers, place_of}
 use Rattle.structured_fields.proofs.Entries.{distinct_set}
 use Rattle.structured_fields.proofs.Places.{put_last, covers_added}
@@ -22,3 +22,15 @@ invariant_of-self-2 g c =
           (rw (these, c.as_slice-2.ensures.value) at c.in_ok-note_first.ensures.ok)),
       subst IsDistinct (sym (is ∙ put_last es c.args.name c.args.value new)) (distinct_set es c.args.name c.args.value c.self.invariant.1),
     )
+
+pub invariant_of-self : goal.invariant_of-self
+invariant_of-self g c = (
+  λ many name none. absurd (omega (arith, many, ap length c.reserve.ensures.items, ap length c.self.view_is, c.requires.few)),
+  subst IsDistinct (sym c.reserve.ensures.items) c.self.invariant.1,
+)
+
+pub invariant_of-self-in_err-note_first : goal.invariant_of-self-in_err-note_first
+invariant_of-self-in_err-note_first g c = (
+  λ many name none. absurd (omega (arith, many, ap length c.reserve.ensures.items, ap length c.self.view_is, c.requires.few)),
+  subst IsDistinct (sym c.reserve.ensures.items) c.self.invariant.1,
+)

@@ -1,4 +1,4 @@
-use Rattle.std.proofs.Common.{◌≡◌, Some, ap, sym, subst, ◌∙◌}
+use Rattle.std.proofs.Common.{◌≡◌, length, Some, ap, sym, subst, ◌∙◌, arith}
 use Rattle.structured_fields.specs.Named.{IsDistinct, Covers, place_of, with_value}
 use Rattle.structured_fields.proofs.Entries.{distinct_set}
 use Rattle.structured_fields.proofs.Places.{written, covers_set}
@@ -22,3 +22,6 @@ invariant_of-self g c =
       subst (Covers c.self.inside.notes.items) is (covers_set c.self.inside.notes.items es c.args.name c.args.value c.in-Some.place there c.self.invariant.0),
       subst IsDistinct is (distinct_set es c.args.name c.args.value c.self.invariant.1),
     )
+
+pub index_mut-requires : goal.index_mut-requires
+index_mut-requires g c = omega (arith, c.self.inside.entries.ok.0, ap length c.self.view_is, c.in-Some.ensures.within)

@@ -1,5 +1,6 @@
 use Rattle.std.proofs.Common.{◌≡◌, ◌<◌, ◌∷◌, [], ◌++◌, length, Some, None, ap, sym, subst, ◌∙◌, arith}
 use Rattle.structured_fields.specs.Named.{IsDistinct, Covers, place_of, with_value, few}
+use Rattle.structured_fields.specs.NameNotes.{noted}
 use Rattle.structured_fields.proofs.Entries.{distinct_set}
 use Rattle.structured_fields.proofs.Places.{place_within, written, put_last, covers_more, covers_set, covers_added}
 use Rattle.structured_fields.proofs.named.Named.set_among.Goals as goal
@@ -68,3 +69,18 @@ returns-in-Ok-clause-ok g c =
     let new : place_of items c.args.name ≡ None = sym (c.in-None.ensures ∙ ap (place_of items) c.as_slice-2.ensures.value) in
     c.in-Ok.ensures.items ∙ put_last items c.args.name c.args.value new
     ∙ ap (λ l. with_value l c.args.name c.args.value) (c.reserve.ensures.items ∙ c.self.view_is)
+
+pub invariant_of-self : goal.invariant_of-self
+invariant_of-self g c =
+    let kept = sym c.reserve.ensures.items in (
+      subst (Covers c.self.inside.notes.items) kept c.self.invariant.0,
+      subst IsDistinct kept c.self.invariant.1,
+    )
+
+pub place_told-requires : goal.place_told-requires
+place_told-requires g c none =
+    let items = c.reserve.new.self.items in
+    let many : few < length items = subst (λ l. few < length l) (sym (c.reserve.ensures.items ∙ c.self.view_is)) c.requires in
+    let covers : Covers c.self.inside.notes.items items = subst (Covers c.self.inside.notes.items) (sym c.reserve.ensures.items) c.self.invariant.0 in
+    let unnoted : noted c.self.inside.notes.items c.args.name ≡ None = rw c.as_slice.ensures.value at (c.in_ok-told.ensures.before none) in
+    rw c.as_slice-2.ensures.value (covers many c.args.name unnoted)
