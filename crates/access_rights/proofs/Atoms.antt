@@ -1,5 +1,5 @@
 -- Tests of all atoms of a right, dimension by dimension.
-use Rattle.std.proofs.Common.{◌≡◌, Bool, true, false, ◌&&◌, ◌||◌, List, [], ◌∷◌, map, refl, sym, ap, ◌∙◌, Option, Some, None}
+use Rattle.std.proofs.Common.{◌≡◌, Bool, true, false, ◌&&◌, ◌||◌, List, [], ◌∷◌, map, arith, refl, sym, ap, ◌∙◌, Option, Some, None}
 use Rattle.std.specs.List.{list_any, list_all, flat_map}
 use Rattle.std.proofs.lemmas.List.Folds.{list_any-append, list_all-append, list_all-map}
 use Rattle.gnap_model.specs.Common.{Text, same_text, same_option}
@@ -92,19 +92,13 @@ after p c (x ∷ xs) = rw (after p c xs) (over (p x) c (list_any p xs))
 abbrev pub among : Option Text → Option (List Text) → Bool
 among v dimension = list_any (same_option v) (values_of dimension)
 
-arranged : (k a l d p i f : Bool) → (k && (a && (l && (d && (p && (i && (f && true))))))) ≡ (k && a && l && d && p && i && f)
+arranged : (k a l d p i f : Bool) → (k && (a && (l && (d && (p && (i && (f && true))))))) ≡ (k && i && f && a && l && d && p)
 arranged false a l d p i f = refl
-arranged true false l d p i f = refl
-arranged true true false d p i f = refl
-arranged true true true false p i f = refl
-arranged true true true true false i f = refl
-arranged true true true true true false f = refl
-arranged true true true true true true false = refl
-arranged true true true true true true true = refl
+arranged true a l d p i f = grind arith
 
 pub object_any : (o g : RightObject) (a l d p : Option Text) → list_any (same_atom (atom_at o a l d p)) (object_atoms g)
-    ≡ (same_text o.kind g.kind && among a g.actions && among l g.locations && among d g.datatypes && among p g.privileges
-    && same_option o.identifier g.identifier && same_text o.further g.further)
+    ≡ (same_text o.kind g.kind && same_option o.identifier g.identifier && same_text o.further g.further && among a g.actions && among l g.locations
+    && among d g.datatypes && among p g.privileges)
 object_any o g a l d p =
     let test = same_atom (atom_at o a l d p) in
     let k = same_text o.kind g.kind in

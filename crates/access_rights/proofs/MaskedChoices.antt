@@ -76,29 +76,15 @@ bits_from-some alike has (r ∷ rights) x = bits_from-some alike has rights _ �
 abbrev has_all : Option Text → Option Text → Option Text → Option Text → Right → Bool
 has_all a l d p r = ((has_value Actions a r && has_value Locations l r) && has_value Datatypes d r) && has_value Privileges p r
 
-arranged : (k i f a l d p : Bool) → ((k && i && f) && (((a && l) && d) && p)) ≡ (k && a && l && d && p && i && f)
-arranged false i f a l d p = refl
-arranged true false f false l d p = refl
-arranged true false f true false d p = refl
-arranged true false f true true false p = refl
-arranged true false f true true true false = refl
-arranged true false f true true true true = refl
-arranged true true false false l d p = refl
-arranged true true false true false d p = refl
-arranged true true false true true false p = refl
-arranged true true false true true true false = refl
-arranged true true false true true true true = refl
-arranged true true true false l d p = refl
-arranged true true true true false d p = refl
-arranged true true true true true false p = refl
-arranged true true true true true true false = refl
-arranged true true true true true true true = refl
+arranged : (k a l d p : Bool) → (k && (((a && l) && d) && p)) ≡ (k && a && l && d && p)
+arranged false a l d p = refl
+arranged true a l d p = refl
 
 in_right : (o : RightObject) (a l d p : Option Text) (r : Right)
     → (is_alike o r && has_all a l d p r) ≡ list_any (same_atom (atom_at o a l d p)) (right_atoms r)
 in_right o a l d p (Reference name) = refl
 in_right o a l d p (Object g) =
-    arranged (same_text o.kind g.kind) (same_option o.identifier g.identifier) (same_text o.further g.further) (among a g.actions) (among l g.locations)
+    arranged (same_text o.kind g.kind && same_option o.identifier g.identifier && same_text o.further g.further) (among a g.actions) (among l g.locations)
     (among d g.datatypes) (among p g.privileges)
     ∙ sym (object_any o g a l d p)
 

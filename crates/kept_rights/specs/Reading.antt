@@ -30,6 +30,10 @@ read_as f read = (f read.0, read.1)
 unfoldable pub option_at : {X : Type 0} → (List ℕ → X × List ℕ) → List ℕ → Option X × List ℕ
 option_at read bytes = let flag = byte_at bytes in if flag.0 == 0 then (None, flag.1) else read_as Some (read flag.1)
 
+-- two, one after the other
+abbrev pub two_at : {X Y : Type 0} → (List ℕ → X × List ℕ) → (List ℕ → Y × List ℕ) → List ℕ → (X × Y) × List ℕ
+two_at one other bytes = let first = one bytes in let second = other first.1 in ((first.0, second.0), second.1)
+
 -- this many items
 unfoldable pub items_at : {X : Type 0} → (List ℕ → X × List ℕ) → ℕ → List ℕ → List X × List ℕ
 items_at read zero bytes = ([], bytes)
