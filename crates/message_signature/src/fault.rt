@@ -5,7 +5,6 @@ ghost use Rattle.message_signature.specs.declared.fault.SignFault.TheVariants.{O
 ghost use Rattle.message_signature.specs.declared.fault.SigFault.TheVariants.{OutOfMemory};
 
 use bytes_and_lists::memory::Mem;
-use std::fmt;
 use thiserror::Error;
 
 /// Why there is no signature base.
@@ -29,68 +28,51 @@ pub enum SignFault {
 }
 
 /// Why a message's signature doesn't pass: the first of these that is so, in this order. Want of memory has no place in it.
-#[derive(Clone, Copy, Debug, PartialEq, Eq)]
+#[derive(Clone, Copy, Debug, PartialEq, Eq, Error)]
 pub enum SigFault {
     /// There is no `signature-input` or no `signature` field.
+    #[error("there is no `signature-input` or no `signature` field")]
     NoField,
     /// One of the two isn't a dictionary.
+    #[error("`signature-input` or `signature` isn't a dictionary")]
     NotAField,
     /// No inner list of `signature-input` has the tag.
+    #[error("no signature has the tag")]
     NoTag,
     /// More than one has it.
+    #[error("more than one signature has the tag")]
     SeveralTags,
     /// A covered component is no String; or `signature` has no byte sequence under the label; or `created` or `expires` is there and no
     /// Integer; or `keyid` or `alg` is there and no String.
+    #[error("the signature, one of its parameters or a covered component isn't of its form")]
     Malformed,
     /// A covered component has parameters, is named twice, isn't lower case, or isn't there.
+    #[error("a covered component has parameters, is named twice, isn't lower case or isn't there")]
     Unsupported,
     /// `@method` or `@target-uri` isn't covered; or `content-digest`, where there is a body; or `authorization`, where that field is there.
+    #[error("a component isn't covered that has to be")]
     Uncovered,
     /// `created` is absent, or more than 300 seconds from now.
+    #[error("`created` is absent, or more than 300 seconds from now")]
     Created,
     /// Now is past `expires`.
+    #[error("`expires` is past")]
     Expired,
     /// `alg` is there and isn't `hmac-sha256`.
+    #[error("`alg` isn't `hmac-sha256`")]
     Alg,
     /// `keyid` is absent, or no key of the ring.
+    #[error("`keyid` is absent, or no key is known by it")]
     UnknownKey,
     /// The signature isn't the HMAC of the signature base under that key.
+    #[error("the signature isn't the one of this message under this key")]
     Differs,
     /// There is a body and no `content-digest`, or that field doesn't fit the body.
+    #[error("`content-digest` is absent, or doesn't fit the body")]
     Digest,
+    #[error("memory ran out")]
     OutOfMemory,
 }
-
-impl SigFault {
-    fn words(self) -> &'static str {
-        match self {
-            SigFault::NoField => "there is no `signature-input` or no `signature` field",
-            SigFault::NotAField => "`signature-input` or `signature` isn't a dictionary",
-            SigFault::NoTag => "no signature has the tag",
-            SigFault::SeveralTags => "more than one signature has the tag",
-            SigFault::Malformed =>
-                "the signature, one of its parameters or a covered component isn't of its form",
-            SigFault::Unsupported =>
-                "a covered component has parameters, is named twice, isn't lower case or isn't there",
-            SigFault::Uncovered => "a component isn't covered that has to be",
-            SigFault::Created => "`created` is absent, or more than 300 seconds from now",
-            SigFault::Expired => "`expires` is past",
-            SigFault::Alg => "`alg` isn't `hmac-sha256`",
-            SigFault::UnknownKey => "`keyid` is absent, or no key is known by it",
-            SigFault::Differs => "the signature isn't the one of this message under this key",
-            SigFault::Digest => "`content-digest` is absent, or doesn't fit the body",
-            SigFault::OutOfMemory => "memory ran out",
-        }
-    }
-}
-
-impl fmt::Display for SigFault {
-    fn fmt<W: fmt::Write>(&self, f: &mut fmt::Formatter<W>) -> fmt::Result {
-        f.write_str(self.words())
-    }
-}
-
-impl std::error::Error for SigFault {}
 
 impl From<Mem> for BaseFault {
     ghost from_gives = { λ _ e. e ≡ NoBaseMemory };
