@@ -20,7 +20,7 @@ sign_with-requires-clause-id c =
 pub returns-in-Ok-clause-answer : goal.returns-in-Ok-clause-answer
 returns-in-Ok-clause-answer c =
     let key = c.in-Some.key.now in
-    let m = c.args.message in
+    let m = c.args.message.now in
     let n = c.sign_with.new.message in
     let nonce = option_copied c.args.nonce in
     let T : List ℕ → Type 0 = λ tag. signed_under m c.args.setup.now.base (params_of c.args.id.now c.args.created nonce tag) key.secret ≡ Some n in
