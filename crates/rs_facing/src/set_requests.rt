@@ -21,7 +21,7 @@ use serde_json::Value;
 use std::alloc::Global;
 
 /// What is served, each at a path of its own. `POST` is its one method.
-#[derive(Clone, Copy, Debug, PartialEq, Eq)]
+#[derive(Clone, Copy)]
 pub enum SetRoute {
     /// `/resource`, where resource servers register sets of rights (RFC 9767, section 3.4).
     Registration,
@@ -30,7 +30,7 @@ pub enum SetRoute {
 }
 
 /// An answer that needs no state.
-#[derive(Clone, Copy, Debug, PartialEq, Eq)]
+#[derive(Clone, Copy)]
 pub enum SetAnswer {
     /// Nothing has the path: 404.
     NotFound,
