@@ -6,7 +6,7 @@ ghost use Rattle.serde_json.specs.Find.{get};
 ghost use Rattle.serde_json.specs.Read.{max_depth};
 ghost use Rattle.serde_json.specs.View.{view};
 ghost use Rattle.json_objects.specs.Bodies.{IsBody};
-ghost use Rattle.json_objects.specs.Reading.{Gives};
+ghost use Rattle.json_objects.specs.Reading.{Gives, ◌>>=◌};
 ghost use Rattle.message_signature.specs.Marks.{is_nonce};
 ghost use Rattle.gnap_objects.specs.Grants.{request_of};
 ghost use Rattle.signed_requests.specs.Forms.{is_method, is_target};
@@ -135,10 +135,11 @@ fn line_request(alloc: Global, value: &Value, modify: bool) -> Result<GrantReque
     readable_request(alloc, body, modify)
 }
 
-fn method_in(text: Bytes) -> Result<Bytes, LineFault>
-    ensures value { Gives OutOfMemory (λ b. b) result (passing is_method forms.Method text) }
+fn line_method(alloc: Global, value: &Value) -> Result<Bytes, LineFault>
+    ensures value { Gives OutOfMemory (λ b. b) result (line_text forms.Method (view value.now) >>= passing is_method forms.Method) }
     ensures is { IfOk result (λ b. is_method b ≡ true) }
 {
+    let text = line_text(alloc, value, LineMember::Method)?;
     if is_method(text.as_slice()) {
         Ok(text)
     } else {
@@ -146,10 +147,11 @@ fn method_in(text: Bytes) -> Result<Bytes, LineFault>
     }
 }
 
-fn path_in(text: Bytes) -> Result<Bytes, LineFault>
-    ensures value { Gives OutOfMemory (λ b. b) result (passing is_target forms.Path text) }
+fn line_path(alloc: Global, value: &Value) -> Result<Bytes, LineFault>
+    ensures value { Gives OutOfMemory (λ b. b) result (line_text forms.Path (view value.now) >>= passing is_target forms.Path) }
     ensures is { IfOk result (λ b. is_target b ≡ true) }
 {
+    let text = line_text(alloc, value, LineMember::Path)?;
     if is_target(text.as_slice()) {
         Ok(text)
     } else {
@@ -173,8 +175,8 @@ fn use_in(alloc: Global, value: &Value) -> Result<Deed, LineFault>
     ensures fits { IfOk result DeedFits }
 {
     let token = line_number(value, LineMember::Token)? as usize;
-    let method = method_in(line_text(alloc, value, LineMember::Method)?)?;
-    let path = path_in(line_text(alloc, value, LineMember::Path)?)?;
+    let method = line_method(alloc, value)?;
+    let path = line_path(alloc, value)?;
     Ok(Deed::Use {
         token,
         method,
