@@ -33,9 +33,10 @@ use Rattle.gnap_tables.specs.Tables.{Tables, change_grant, drop_grant, drop_toke
 use Rattle.gnap_tables.specs.RowSearches.{opening_of, round_of, terms_of_row}
 use Rattle.table_laws.proofs.NotesAsOneChange.{all_issued}
 use Rattle.grant_rules.specs.Drawn.{finish_told}
-use Rattle.token_manager.specs.Tokens.{IsTokenRow}
+use Rattle.token_manager.specs.Tokens.{IsTokenRow, StoredTokens}
+use Rattle.grant_states.specs.Grants.{StoredGrants}
 use Rattle.grant_states.specs.declared.changes.Change.TheVariants.{Decide}
-use Rattle.table_core.specs.CallEffects.{ActsBy, tables_in}
+use Rattle.table_core.specs.CallEffects.{ActsBy, HasRoom, tables_in}
 use Rattle.table_core.specs.Entries.{supply, tables}
 use Rattle.table_core.specs.Plans.{Plans, rows_in, carried, opened_by, IsDrawn, RiseFrom}
 use Rattle.table_core.specs.declared.answered.Answered.{Answered}
@@ -43,6 +44,22 @@ use Rattle.table_core.specs.declared.entering.Entering.{Entering}
 use Rattle.table_core.specs.declared.entering.Plan.{Plan}
 use Rattle.table_core.specs.declared.entering.TableChange.{TableChange}
 use Rattle.table_core.specs.declared.entering.TableChange.TheVariants.{Nothing, Open, Alter, End, Renew, Pend}
+
+-- ---- the room for a call stays where no row changes
+
+pub room_kept : (next first : ℕ) (grants kept_grants : StoredGrants) (tokens kept_tokens : StoredTokens) → kept_grants.rows ≡ grants.rows
+    → kept_grants.doors_below ≡ grants.doors_below → kept_tokens.rows ≡ tokens.rows → HasRoom next first grants tokens
+    → HasRoom next first kept_grants kept_tokens
+room_kept next first grants kept_grants tokens kept_tokens rows doors token_rows room = record {
+  next_small = room.next_small;
+  first_small = room.first_small;
+  numbers = rw rows room.numbers;
+  serials = rw token_rows room.serials;
+  doors = rw doors room.doors;
+  wrongs = rw rows room.wrongs;
+  asks = rw rows room.asks;
+  approved = rw (rows, token_rows) room.approved;
+}
 
 -- ---- a plan that was carried out, and another name of its action
 

@@ -1,6 +1,7 @@
 -- What was chosen for a rotation, and done, is the action's outcome.
 use Rattle.std.proofs.Common.{ℕ, ◌≡◌, ◌∙◌, ◌<◌, ◌+◌, ◌^◌, Bool, true, false, List, [], ◌∷◌, refl, sym, ap, subst, arith, Option, Some, None}
-use Rattle.std.specs.Prelude.{◌++◌, slice_index, if◌then◌else◌}
+use Rattle.std.specs.Prelude.{◌++◌, Result, Ok, Err, IfOk, OnOk, slice_index, if◌then◌else◌}
+use Rattle.bytes_and_lists.specs.declared.memory.Mem.{Mem}
 use Rattle.gnap_model.specs.Common.{Text, same_text}
 use Rattle.gnap_model.specs.Values.{value_text}
 use Rattle.gnap_model.specs.Manage.{can_bind, rotate_key}
@@ -9,18 +10,19 @@ use Rattle.gnap_model.specs.Actions.Action.{Refuse, RotateToken}
 use Rattle.gnap_model.specs.declared.objects.Setup.{Setup}
 use Rattle.gnap_model.specs.declared.objects.ErrorCode.TheVariants.{InvalidClient, InvalidRotation}
 use Rattle.gnap_model.specs.declared.calls.Reply.TheVariants.{Error, Rotated}
+use Rattle.gnap_model.specs.declared.calls.Call.{Call}
 use Rattle.gnap_model.specs.declared.calls.Call.TheVariants.{Rotate}
 use Rattle.gnap_model.specs.declared.notes.OpeningNote.{OpeningNote}
 use Rattle.gnap_model.specs.declared.notes.TokenNote.{TokenNote}
 use Rattle.gnap_tables.specs.declared.rows.GrantRow.{GrantRow}
 use Rattle.gnap_tables.specs.declared.rows.TokenRow.{TokenRow}
-use Rattle.gnap_tables.specs.Tables.{drop_token, new_token}
+use Rattle.gnap_tables.specs.Tables.{Tables, drop_token, new_token}
 use Rattle.gnap_tables.specs.RowSearches.{opening_of, token_of, row_by_number, row_by_manage, is_live_row}
 use Rattle.gnap_tables.specs.ActionsByRows.{on_row, row_action, row_supply}
 use Rattle.grant_rules.specs.declared.supply.Supply.{Supply as EntrySupply}
 use Rattle.grant_rules.specs.Drawn.{supply_with}
 use Rattle.token_manager.specs.Tokens.{IsTokenRow}
-use Rattle.table_core.specs.CallEffects.{ActsBy, tables_in}
+use Rattle.table_core.specs.CallEffects.{ActsBy, AnswersCall, tables_in}
 use Rattle.table_core.specs.Choices.{rotated_to, rotation_to_key, rotation_for, rotation_of}
 use Rattle.table_core.specs.declared.answered.Answered.{Answered}
 use Rattle.table_core.specs.declared.rotating.Rotation.{Rotation}
@@ -108,6 +110,15 @@ successor_is entry rules key new_key grants found r serial row out small says is
     let all = subst (λ (x : Rotation). RotationActs supply x grants [] (rotate_with rules key new_key supply.now grants found)) chosen
     (rotation_acts rules supply key new_key grants [] found small) in
     (all.1, all.2)
+
+-- what may run out of memory
+pub replaced_ok : (rules : Setup) (entry : EntrySupply) (call : Call) (old : Tables) (grants : List GrantRow) (rows after : List TokenRow) (told : Answered)
+    (result : Result Answered Mem)
+    → ((next : ℕ) → AnswersCall rules next entry call old (tables_in grants rows) told)
+    → IfOk result (λ (answered : Answered). answered ≡ told) → OnOk result (after ≡ rows)
+    → IfOk result (λ (answered : Answered). (next : ℕ) → AnswersCall rules next entry call old (tables_in grants after) answered)
+replaced_ok rules entry call old grants rows after told (Ok answered) acts is becomes = λ next. rw (is, becomes) (acts next)
+replaced_ok rules entry call old grants rows after told (Err e) acts is becomes = tt
 
 -- what is done, as the code has it
 pub rotation_done : (entry : EntrySupply) (rules : Setup) (next : ℕ) (key value key' value' : Text) (new_key : Option Text) (grants : List GrantRow)

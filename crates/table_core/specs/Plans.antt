@@ -88,6 +88,13 @@ CanCarry next first drawn (Renew renewal) = IsDrawn first drawn renewal.serial r
 CanCarry next first drawn (Pend terms round door serial earliest) = IsDrawn first drawn serial door
 CanCarry next first drawn _ = Unit {0}
 
+-- the change takes no more than this room in the tables of grants and of tokens
+abbrev pub FitsIn : TableChange → ℕ → ℕ → Type 0
+FitsIn (Open row serial tokens) room token_room = (2 ≤ room) × (length tokens ≤ token_room)
+FitsIn (Renew renewal) room token_room = (2 ≤ room) × (length renewal.tokens ≤ token_room)
+FitsIn (Pend terms round door serial earliest) room token_room = 2 ≤ room
+FitsIn _ room token_room = Unit {0}
+
 -- The plan is to do the action.
 pub record Plans (entering : Entering) (action : Action) (plan : Plan) : Type 0 where
   pub reply : plan.reply ≡ (outcome_of (supply entering) action).reply

@@ -4,7 +4,7 @@ ghost use Rattle.std.specs.List.{All};
 ghost use Rattle.gnap_tables.specs.declared.rows.TokenRow.{TokenRow};
 ghost use Rattle.grant_states.specs.Grants.{BeginsWith};
 ghost use Rattle.table_core.specs.CallEffects.{HasRoom, tables_in};
-ghost use Rattle.table_core.specs.Plans.{rows_in, RiseFrom, retermed, approved, unretired, carried, opened_by, renewed, pended, CanCarry};
+ghost use Rattle.table_core.specs.Plans.{rows_in, RiseFrom, retermed, approved, unretired, carried, opened_by, renewed, pended, CanCarry, FitsIn};
 
 use crate::answered::Answered;
 use crate::entering::{NewTokens, Plan, Renewal, TableChange};
@@ -130,6 +130,29 @@ fn take_room(grants: &mut GrantTable, tokens: &mut TokenTable, more: usize) -> R
     grants.reserve()
 }
 
+// Takes the memory that a change takes. An `Err` changes no row.
+fn take_room_for(
+    grants: &mut GrantTable,
+    tokens: &mut TokenTable,
+    change: &TableChange,
+) -> Result<(), Mem>
+    ensures grants { grants.new.rows ≡ grants.old.rows }
+    ensures doors { grants.new.doors_below ≡ grants.old.doors_below }
+    ensures tokens { tokens.new.rows ≡ tokens.old.rows }
+    ensures room { OnOk result (FitsIn change.now grants.new.spare tokens.new.spare) }
+{
+    match change {
+        TableChange::Open {
+            row: _,
+            serial: _,
+            tokens: rows,
+        } => take_room(grants, tokens, rows.len()),
+        TableChange::Renew(renewal) => take_room(grants, tokens, renewal.tokens.len()),
+        TableChange::Pend { .. } => take_room(grants, tokens, 0),
+        _ => Ok(()),
+    }
+}
+
 // The change is made. It answers how many grants were opened.
 fn carry(
     grants: &mut GrantTable,
@@ -138,43 +161,39 @@ fn carry(
     first: u64,
     drawn: u64,
     change: TableChange,
-) -> Result<u64, Mem>
+) -> u64
     requires room { HasRoom next first grants.old tokens.old }
+    requires fits { FitsIn change grants.old.spare tokens.old.spare }
     requires few { drawn ≤ 17 }
     requires can { CanCarry next first drawn change }
-    ensures opened { IfOk result (λ opened. opened ≡ opened_by change) }
-    ensures tables { OnOk result (tables_in grants.new.rows tokens.new.rows ≡ carried change (tables_in grants.old.rows tokens.old.rows)) }
-    ensures doors { OnOk result (grants.new.doors_below ≤ first + drawn) }
-    ensures grants { OnErr result (grants.new.rows ≡ grants.old.rows) }
-    ensures tokens { OnErr result (tokens.new.rows ≡ tokens.old.rows) }
-    ensures same_doors { OnErr result (grants.new.doors_below ≡ grants.old.doors_below) }
+    ensures opened { result ≡ opened_by change }
+    ensures tables { tables_in grants.new.rows tokens.new.rows ≡ carried change (tables_in grants.old.rows tokens.old.rows) }
+    ensures doors { grants.new.doors_below ≤ first + drawn }
 {
     let _numbers = (next, drawn);
     match change {
-        TableChange::Nothing => Ok(0),
+        TableChange::Nothing => 0,
         TableChange::Open {
             row,
             serial,
             tokens: rows,
         } => {
-            take_room(grants, tokens, rows.len())?;
             grants.insert(row, serial);
             issue_all(tokens, rows, first);
-            Ok(1)
+            1
         }
         TableChange::End { number } => {
             grants.finalize(number);
             tokens.retire_all(number);
-            Ok(0)
+            0
         }
         TableChange::Alter { number, change } => {
             grants.change(number, change);
-            Ok(0)
+            0
         }
         TableChange::Renew(renewal) => {
-            take_room(grants, tokens, renewal.tokens.len())?;
             renew(grants, tokens, first, renewal);
-            Ok(0)
+            0
         }
         TableChange::Pend {
             terms,
@@ -183,10 +202,9 @@ fn carry(
             serial,
             earliest,
         } => {
-            take_room(grants, tokens, 0)?;
             tokens.retire_all(terms.grant);
             pend(grants, terms, round, door, serial, earliest);
-            Ok(0)
+            0
         }
     }
 }
@@ -214,7 +232,8 @@ pub fn carry_out(
         drawn,
         change,
     } = plan;
-    let opened = carry(grants, tokens, next, first, drawn, change)?;
+    take_room_for(grants, tokens, &change)?;
+    let opened = carry(grants, tokens, next, first, drawn, change);
     Ok(Answered {
         reply,
         opened,

@@ -1,5 +1,5 @@
 //! The tokens of a grant, as they are issued and handed out (RFC 9635, section 3.2).
-ghost use Rattle.std.specs.Prelude.{◌≡◌, ◌≤◌, ◌<◌, ◌*◌, length, map, IfOk};
+ghost use Rattle.std.specs.Prelude.{◌≡◌, ◌≤◌, ◌<◌, ◌*◌, ◌∷◌, ◌++◌, [], length, map, IfOk, OnOk};
 ghost use Rattle.gnap_model.specs.Actions.{token_for, tokens_for, token_out as token_shown, drawn_value};
 ghost use Rattle.gnap_model.specs.declared.calls.Reply.TheVariants.{Granted};
 ghost use Rattle.gnap_tables.specs.RowSearches.{opening_of};
@@ -40,6 +40,23 @@ fn token(entering: &Entering, row: &GrantRow, ask: &Ask, index: usize) -> Result
     )
 }
 
+// One more token, as a row and as it is handed out at this moment.
+fn add_token(
+    alloc: Global,
+    issued: TokenNote,
+    moment: u64,
+    rows: &mut NewTokens,
+    told: &mut Tokens,
+) -> Result<(), Mem>
+    ensures rows { OnOk result (rows_in rows.new ≡ rows_in rows.old ++ new_token issued ∷ []) }
+    ensures told { OnOk result (told.new ≡ told.old ++ token_shown moment issued ∷ []) }
+{
+    told.push(token_out(&issued, moment)?)?;
+    let row = stored_token(alloc, issued)?;
+    rows.push(Box::new(alloc, row)?)?;
+    Ok(())
+}
+
 /// A token for each ask, the values in turn, for the grant of the row.
 pub fn issue(
     alloc: Global,
@@ -57,8 +74,7 @@ pub fn issue(
     let mut index = 0;
     for ask in asks {
         let issued = token(entering, row, ask, index)?;
-        told.push(token_out(&issued, entering.supply.moment)?)?;
-        rows.push(Box::new(alloc, stored_token(alloc, issued)?)?)?;
+        add_token(alloc, issued, entering.supply.moment, &mut rows, &mut told)?;
         index += 2;
     }
     Ok(IssuedTokens { rows, told })

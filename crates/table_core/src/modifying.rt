@@ -13,13 +13,12 @@ use crate::asking::ask;
 use crate::entering::{Entering, Plan, Renewal, TableChange};
 use crate::issuing::grant;
 use crate::refusing::refused;
-use crate::stored::stored_terms;
+use crate::stored::requested_terms;
 use bytes_and_lists::bytes::Bytes;
 use bytes_and_lists::memory::{Duplicate, Mem};
 use gnap_model::objects::{ErrorCode, GrantRequest, Modes, Setup};
 use gnap_tables::rows::GrantRow;
 use grant_rules::limits::WAIT;
-use grant_rules::opening::terms;
 use grant_rules::settling::{Course, settle};
 use std::alloc::Global;
 
@@ -36,6 +35,8 @@ fn grant_anew(
 {
     let _rows = entering.tokens.len();
     let count = request.asks.len();
+    let terms = requested_terms(alloc, row.number, request)?;
+    let consent = row.consent.copy()?;
     let granting = grant(
         alloc,
         entering,
@@ -46,8 +47,6 @@ fn grant_anew(
         None,
     )?;
     let door = entering.supply.value(2 * count);
-    let wanted = terms(row.number, request)?;
-    let terms = stored_terms(alloc, &wanted)?;
     Ok(Plan {
         reply: granting.reply,
         drawn: 2 * count as u64 + 1,
@@ -55,7 +54,7 @@ fn grant_anew(
             number: row.number,
             retires: true,
             terms: Some(terms),
-            consent: Some(row.consent.copy()?),
+            consent: Some(consent),
             door,
             serial: entering.supply.first + 2 * count as u64,
             earliest: entering.supply.moment + WAIT,
@@ -97,10 +96,9 @@ fn modify_asking(
         (ModifyAsking (opening_of row.now) (map token_of (rows_of_grant row.now.number (tables entering.now).tokens)) request.now modes.now)) }
 {
     let _rows = entering.tokens.len();
+    let terms = requested_terms(alloc, row.number, request)?;
     let asking = ask(alloc, entering, row.number, row.end, modes, None)?;
     let door = asking.door;
-    let wanted = terms(row.number, request)?;
-    let terms = stored_terms(alloc, &wanted)?;
     Ok(Plan {
         reply: asking.reply,
         drawn: asking.drawn,

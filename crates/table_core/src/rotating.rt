@@ -1,9 +1,14 @@
 //! The rotation of a token (RFC 9635, section 6.1). All memory is taken before the tables change.
-ghost use Rattle.std.specs.Prelude.{◌≡◌, ◌≤◌, ℕ, List, option_map, IfOk, OnErr};
+ghost use Rattle.std.specs.Prelude.{◌≡◌, ◌≤◌, ◌<◌, ◌∷◌, ◌++◌, [], ℕ, List, option_map, IfOk, OnOk, OnErr};
+ghost use Rattle.std.specs.List.{All};
 ghost use Rattle.gnap_model.specs.Common.{Text};
+ghost use Rattle.gnap_model.specs.Actions.{successor};
+ghost use Rattle.gnap_model.specs.declared.calls.Reply.TheVariants.{Rotated};
 ghost use Rattle.gnap_model.specs.declared.calls.Call.TheVariants.{Rotate};
-ghost use Rattle.gnap_tables.specs.RowSearches.{is_live_row};
+ghost use Rattle.gnap_tables.specs.Tables.{drop_token};
+ghost use Rattle.gnap_tables.specs.RowSearches.{is_live_row, opening_of, token_of};
 ghost use Rattle.grant_rules.specs.Drawn.{supply_with};
+ghost use Rattle.token_manager.specs.Tokens.{IsTokenRow};
 ghost use Rattle.table_core.specs.CallEffects.{HasRoom, AnswersCall, tables_in};
 ghost use Rattle.table_core.specs.Choices.{rotated_to, rotation_to_key, rotation_for, rotation_of};
 
@@ -12,6 +17,7 @@ use crate::stored::stored_token;
 use bytes_and_lists::bytes::Bytes;
 use bytes_and_lists::memory::{Duplicate, Mem};
 use gnap_model::calls::{Reply, TokenOut};
+use gnap_model::notes::TokenNote;
 use gnap_model::objects::{ErrorCode, Setup};
 use gnap_tables::rows::{GrantRow, TokenRow};
 use grant_rules::drawing::Supply;
@@ -44,7 +50,22 @@ fn is_live(grants: &GrantTable, row: &TokenRow, now: u64) -> bool
     !row.retired && now < row.until && grants.is_approved(row.grant)
 }
 
-// The token's successor, which is bound to this key, and what the client is told.
+// The token's successor, which is bound to this key.
+fn successor_of(
+    alloc: Global,
+    token: &TokenRow,
+    grant: &GrantRow,
+    supply: &Supply,
+    key: &Bytes,
+) -> Result<TokenNote, Mem>
+    ensures { IfOk result (λ note. (taken : List Text) → note ≡ successor (supply_with supply.now taken) (opening_of grant.now) (token_of token.now) key.now) }
+{
+    let label = token.label.copy()?;
+    let rights = token.rights.rights(alloc)?;
+    supply.token(grant.number, key, grant.end, label, rights, token.bearer, 0)
+}
+
+// The same as a row, and what the client is told.
 fn succeed(
     alloc: Global,
     token: &TokenRow,
@@ -54,15 +75,7 @@ fn succeed(
 ) -> Result<Rotation, Mem>
     ensures { IfOk result (λ r. (taken : List Text) → r ≡ rotated_to (supply_with supply.now taken) token.now grant.now key.now) }
 {
-    let successor = supply.token(
-        grant.number,
-        key,
-        grant.end,
-        token.label.copy()?,
-        token.rights.rights(alloc)?,
-        token.bearer,
-        0,
-    )?;
+    let successor = successor_of(alloc, token, grant, supply, key)?;
     let out = token_out(&successor, supply.moment)?;
     Ok(Rotation::Succeeded {
         serial: token.serial,
@@ -151,6 +164,31 @@ fn rotation_by(
     }
 }
 
+// Puts the successor in the place of the token with this serial. An `Err` changes no row.
+fn replace(
+    alloc: Global,
+    tokens: &mut TokenTable,
+    serial: u64,
+    row: TokenRow,
+    out: TokenOut,
+) -> Result<Answered, Mem>
+    requires is { IsTokenRow row }
+    requires above { All (λ (other : TokenRow). other.serial < row.serial) tokens.old.rows }
+    ensures answered { IfOk result (λ answered. answered ≡ record { reply = Rotated out; opened = 0; drawn = 2 }) }
+    ensures rows { OnOk result (tokens.new.rows ≡ drop_token serial tokens.old.rows ++ row ∷ []) }
+    ensures err { OnErr result (tokens.new.rows ≡ tokens.old.rows) }
+{
+    tokens.reserve(1)?;
+    let row = Box::new(alloc, row)?;
+    tokens.retire(serial);
+    tokens.issue(row);
+    Ok(Answered {
+        reply: Reply::Rotated { token: out },
+        opened: 0,
+        drawn: 2,
+    })
+}
+
 /// Rotates a token. An `Err` changes nothing.
 pub fn rotate(
     alloc: Global,
@@ -172,16 +210,6 @@ pub fn rotate(
     let rotation = rotation_by(alloc, rules, grants, token, supply, key.as_slice(), new_key)?;
     match rotation {
         Rotation::Denied(code) => Ok(undrawn(Reply::Error { code })),
-        Rotation::Succeeded { serial, row, out } => {
-            tokens.reserve(1)?;
-            let row = Box::new(alloc, row)?;
-            tokens.retire(serial);
-            tokens.issue(row);
-            Ok(Answered {
-                reply: Reply::Rotated { token: out },
-                opened: 0,
-                drawn: 2,
-            })
-        }
+        Rotation::Succeeded { serial, row, out } => replace(alloc, tokens, serial, row, out),
     }
 }

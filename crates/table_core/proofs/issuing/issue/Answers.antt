@@ -1,9 +1,6 @@
-use Rattle.std.proofs.Common.{◌+◌, ◌∷◌, [], take, ap, ◌∙◌, arith}
-use Rattle.std.specs.Global.{Box}
-use Rattle.std.proofs.lemmas.List.{map-append}
+use Rattle.std.proofs.Common.{◌+◌, [], take, refl, arith}
 use Rattle.gnap_model.specs.Actions.{tokens_for, token_out}
 use Rattle.grant_rules.proofs.Issuing.{issued_more, made_more}
-use Rattle.gnap_tables.specs.declared.rows.TokenRow.{TokenRow}
 use Rattle.gnap_tables.specs.RowSearches.{opening_of}
 use Rattle.gnap_tables.specs.Tables.{new_token}
 use Rattle.table_core.specs.Entries.{supply}
@@ -23,9 +20,8 @@ loop-ask-preserved c =
     c.in_ok-issued.ensures in
     record {
       next = omega arith;
-      handed = made_more (token_out entering.supply.moment) before after token [] c.loop-ask.told c.push.new.self c.in_ok-token_out.field-0
-          more c.loop-ask.invariant.handed c.in_ok-token_out.ensures c.in_ok-push.ensures.ok;
-      stored = made_more new_token before after token [] (rows_in c.loop-ask.rows) (rows_in c.push-in-loop-ask.new.self) c.in_ok-new.field-0.value
-          more c.loop-ask.invariant.stored (c.in_ok-new.ensures.ok ∙ c.in_ok-stored_token.ensures)
-          (ap rows_in c.in_ok-push-2.ensures.ok ∙ map-append (λ (box : Box TokenRow). box.value) c.loop-ask.rows (c.in_ok-new.field-0 ∷ []));
+      handed = made_more (token_out entering.supply.moment) before after token [] c.loop-ask.told c.add_token.new.told (token_out entering.supply.moment token)
+          more c.loop-ask.invariant.handed refl c.in_ok-add_token.ensures.told;
+      stored = made_more new_token before after token [] (rows_in c.loop-ask.rows) (rows_in c.add_token.new.rows) (new_token token)
+          more c.loop-ask.invariant.stored refl c.in_ok-add_token.ensures.rows;
     }

@@ -1,4 +1,4 @@
-use Rattle.std.proofs.Common.{◌∙◌, refl}
+use Rattle.std.proofs.Common.{refl}
 use Rattle.gnap_tables.specs.RowSearches.{opening_of}
 use Rattle.gnap_tables.specs.Tables.{new_token}
 use Rattle.table_core.specs.Entries.{supply}
@@ -12,8 +12,8 @@ returns c =
     let row = c.args.row.now in
     let request = c.args.request.now in
     let granting = c.in_ok-granting.granting in
-    granted_anew entering row request c.len-count.result granting.reply c.in_ok-terms.terms c.in_ok-copy.field-0 c.value-door.result granting.tokens
-    c.len-rows.ensures.ordered c.len-count.ensures c.requires entering.supply.room (c.in_ok-terms.ensures ∙ c.in_ok-wanted.ensures) c.in_ok-copy.ensures
+    granted_anew entering row request c.len-count.result granting.reply c.in_ok-terms.terms c.in_ok-consent.consent c.value-door.result granting.tokens
+    c.len-rows.ensures.ordered c.len-count.ensures c.requires entering.supply.room c.in_ok-terms.ensures c.in_ok-consent.ensures
     (granted_as (supply entering) (opening_of row) (opening_of row) c.as_slice.result.now request.asks request.single _ _ _ _ granting.reply refl
     c.as_slice.ensures refl refl c.in_ok-granting.ensures.reply)
     c.value-door.ensures
