@@ -12,8 +12,10 @@ use crate::link::Link;
 use crate::real_gear::RealGear;
 use crate::real_link::RealLink;
 use crate::shared_listener::SharedListener;
-use crate::standard_error::{tell_address, tell_no_entropy, tell_no_text, tell_unopened};
-use crate::world::{Opening, World, WorldFault};
+use crate::standard_error::{
+    tell_address, tell_listening, tell_no_entropy, tell_no_text, tell_unopened,
+};
+use crate::world::{Opening, World, WorldFault, name_to_keep};
 use bytes_and_lists::bytes::Bytes;
 use bytes_and_lists::memory::Duplicate;
 use http_server::Log;
@@ -108,12 +110,13 @@ impl<
             self.faults = self.faults.saturating_add(1);
             return Err(WorldFault::Failed);
         };
-        let Ok(name) = name.copy() else {
-            return Err(WorldFault::OutOfMemory);
-        };
-        if self.lent == usize::MAX || self.opened.push(Opening::File(name)).is_err() {
+        if self.lent == usize::MAX {
             return Err(WorldFault::OutOfMemory);
         }
+        let Some(name) = name_to_keep(&mut self.opened, name) else {
+            return Err(WorldFault::OutOfMemory);
+        };
+        self.opened.push_reserved(Opening::File(name));
         self.lent += 1;
         Ok(file)
     }
@@ -136,12 +139,10 @@ impl<
             }
             Err(WorldFault::OutOfMemory) => Err(WorldFault::OutOfMemory),
             Ok(gears) => {
-                let Ok(name) = address.copy() else {
+                let Some(name) = name_to_keep(&mut self.opened, address) else {
                     return Err(WorldFault::OutOfMemory);
                 };
-                if self.opened.push(Opening::Gears(name, n, quota)).is_err() {
-                    return Err(WorldFault::OutOfMemory);
-                }
+                self.opened.push_reserved(Opening::Gears(name, n, quota));
                 Ok(gears)
             }
         }
@@ -165,12 +166,13 @@ impl<
     }
 
     fn open_link(&mut self, address: &Bytes) -> Result<RealLink<'a, R>, WorldFault> {
-        let (Ok(name), Ok(kept)) = (address.copy(), address.copy()) else {
+        let Some(name) = name_to_keep(&mut self.opened, address) else {
             return Err(WorldFault::OutOfMemory);
         };
-        if self.opened.push(Opening::Link(name)).is_err() {
+        let Ok(kept) = address.copy() else {
             return Err(WorldFault::OutOfMemory);
-        }
+        };
+        self.opened.push_reserved(Opening::Link(name));
         Ok(RealLink::new(self.rt, self.alloc, kept))
     }
 
@@ -215,6 +217,32 @@ fn listening<R: Net<Listener = TcpListener, Stream = TcpStream> + Eprint>(
     }
 }
 
+// The listener at this address, for workers to share. A fault is told.
+fn shared_listener<R: Net<Listener = TcpListener, Stream = TcpStream> + Eprint>(
+    rt: &R,
+    alloc: Global,
+    address: &Bytes,
+) -> Result<Arc<SharedListener, Global>, WorldFault> {
+    let Ok(listener) = listening(rt, address) else {
+        return Err(WorldFault::Failed);
+    };
+    match Arc::new(alloc, listener) {
+        Ok(shared) => Ok(shared),
+        Err(_) => Err(WorldFault::OutOfMemory),
+    }
+}
+
+// A seed of the system's. A fault is told.
+fn seed_of_system<R: RandomSource + Eprint>(rt: &R) -> Result<[u8; 32], WorldFault> {
+    // From `getentropy`, the system's generator, so no file such as /dev/urandom is opened.
+    let mut seed = [0u8; 32];
+    if rt.fill_bytes(&mut seed).is_err() {
+        tell_no_entropy(rt);
+        return Err(WorldFault::Failed);
+    }
+    Ok(seed)
+}
+
 // So many gears that share one listener, each with the words of a stream of its own under one seed of the system's.
 fn started<'a, R: Net<Listener = TcpListener, Stream = TcpStream> + Clock + RandomSource + Eprint>(
     rt: &'a R,
@@ -226,26 +254,14 @@ fn started<'a, R: Net<Listener = TcpListener, Stream = TcpStream> + Clock + Rand
     ensures started { IfOk result (λ gears. AreStarted ⟦<RealGear<'a, R> as Counted>⟧.state n quota gears.items) }
     ensures full { IfOk result (λ gears. AreFull ⟦<RealGear<'a, R> as Counted>⟧.state quota gears.items) }
 {
-    // From `getentropy`, the system's generator, so no file such as /dev/urandom is opened.
-    let mut seed = [0u8; 32];
-    if rt.fill_bytes(&mut seed).is_err() {
-        tell_no_entropy(rt);
-        return Err(WorldFault::Failed);
-    }
+    let seed = seed_of_system(rt)?;
     let Ok(room) = Vec::with_capacity(alloc, n) else {
         return Err(WorldFault::OutOfMemory);
     };
-    let Ok(listener) = listening(rt, address) else {
-        return Err(WorldFault::Failed);
-    };
-    let Ok(shared) = Arc::new(alloc, listener) else {
-        return Err(WorldFault::OutOfMemory);
-    };
+    let shared = shared_listener(rt, alloc, address)?;
     let gears = fill_gears(rt, &shared, seed, n, quota, room)?;
     if let Ok(bound) = shared.address() {
-        let _ = eprintln!(rt;
-            "gnap: listens at {bound} with {n} workers, each for {quota} connections"
-        );
+        tell_listening(rt, &bound, n, quota);
     }
     Ok(gears)
 }

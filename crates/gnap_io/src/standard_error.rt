@@ -2,6 +2,7 @@
 //! of it. Nothing that came from a peer stands in it.
 use std::io;
 use std::io::ErrorKind;
+use std::net::SocketAddr;
 
 /// Why a file can't be opened.
 pub(crate) fn tell_unopened(err: &impl Eprint, path: &str, error: &io::Error) {
@@ -45,4 +46,11 @@ pub(crate) fn tell_no_text(err: &impl Eprint) {
 /// That the system gave no random bytes.
 pub(crate) fn tell_no_entropy(err: &impl Eprint) {
     let _ = eprintln!(err; "gnap: the system's random generator gave nothing");
+}
+
+/// Where a listener listens, and for how many.
+pub(crate) fn tell_listening(err: &impl Eprint, bound: &SocketAddr, workers: usize, quota: u32) {
+    let _ = eprintln!(err;
+        "gnap: listens at {bound} with {workers} workers, each for {quota} connections"
+    );
 }

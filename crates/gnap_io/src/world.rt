@@ -1,5 +1,5 @@
 //! The world, which hands files, gears and links out and takes them back.
-ghost use Rattle.std.specs.Prelude.{◌≡◌, ℕ, ◌<◌, List, Option, Bool, true, MatchResult, IfOk, map};
+ghost use Rattle.std.specs.Prelude.{◌≡◌, ℕ, ◌<◌, List, Option, Bool, true, MatchResult, IfOk, IfSome, map, vec_len, vec_capacity};
 ghost use Rattle.gnap_io.specs.Outside.{untouched, served_of};
 ghost use Rattle.gnap_io.specs.Gears.{AreStarted, AreFull};
 ghost use Rattle.gnap_io.specs.Links.{new_link};
@@ -9,6 +9,7 @@ use crate::device::Source;
 use crate::gear::Gear;
 use crate::link::Link;
 use bytes_and_lists::bytes::Bytes;
+use bytes_and_lists::memory::Duplicate;
 use thiserror::Error;
 
 /// Why the world handed nothing out.
@@ -31,6 +32,17 @@ pub enum Opening {
     Gears(Bytes, usize, u32),
     /// A link to this address.
     Link(Bytes),
+}
+
+/// A copy of the name, where there is memory for it and for one more opening.
+pub(crate) fn name_to_keep(opened: &mut Vec<Opening>, name: &Bytes) -> Option<Bytes>
+    ensures items { opened.new.items ≡ opened.old.items }
+    ensures room { IfSome result (λ copy. (copy ≡ name.now) × (vec_len opened.new < vec_capacity opened.new)) }
+{
+    if opened.reserve(1).is_err() {
+        return None;
+    }
+    name.copy().ok()
 }
 
 /// Hands out named files, gears and links, and takes them back.

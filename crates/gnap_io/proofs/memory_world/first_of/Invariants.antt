@@ -1,5 +1,5 @@
 use Rattle.gnap_io.proofs.NamedLemmas.{Passed}
-use Rattle.gnap_io.proofs.memory_world.place_of.Given as goal
+use Rattle.gnap_io.proofs.memory_world.first_of.Given as goal
 
 abbrev pub invariant-loop-place : goal.invariant-loop-place
 invariant-loop-place g l = Passed l.named l.name l.place
