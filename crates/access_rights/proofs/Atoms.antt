@@ -1,5 +1,5 @@
 -- Tests of all atoms of a right, dimension by dimension.
-use Rattle.std.proofs.Common.{◌≡◌, Bool, true, false, ◌&&◌, ◌||◌, List, [], ◌∷◌, map, refl, sym, ap, ◌∙◌, Option, Some, None}
+use Rattle.std.proofs.Common.{◌≡◌, Bool, true, false, ◌&&◌, ◌||◌, List, [], ◌∷◌, map, arith, refl, sym, ap, ◌∙◌, Option, Some, None}
 use Rattle.std.specs.List.{list_any, list_all, flat_map}
 use Rattle.std.proofs.lemmas.List.Folds.{list_any-append, list_all-append, list_all-map}
 use Rattle.gnap_model.specs.Common.{Text, same_text, same_option}
@@ -56,7 +56,8 @@ pub none_of : (ts : List Text) → list_any (same_option None) (map Some ts) ≡
 none_of [] = refl
 none_of (t ∷ ts) = none_of ts
 
-no_part : (n : Text) (h : Option Text → Atom) (xs : List (Option Text)) → ((x : Option Text) → same_atom (Name n) (h x) ≡ false) → list_any (same_atom (Name n)) (map h xs) ≡ false
+no_part : (n : Text) (h : Option Text → Atom) (xs : List (Option Text)) → ((x : Option Text) → same_atom (Name n) (h x) ≡ false)
+    → list_any (same_atom (Name n)) (map h xs) ≡ false
 no_part n h [] e = refl
 no_part n h (x ∷ xs) e = rw (e x) (no_part n h xs e)
 
@@ -91,24 +92,21 @@ after p c (x ∷ xs) = rw (after p c xs) (over (p x) c (list_any p xs))
 abbrev pub among : Option Text → Option (List Text) → Bool
 among v dimension = list_any (same_option v) (values_of dimension)
 
-arranged : (k a l d p i f : Bool) → (k && (a && (l && (d && (p && (i && (f && true))))))) ≡ (k && a && l && d && p && i && f)
+arranged : (k a l d p i f : Bool) → (k && (a && (l && (d && (p && (i && (f && true))))))) ≡ (k && i && f && a && l && d && p)
 arranged false a l d p i f = refl
-arranged true false l d p i f = refl
-arranged true true false d p i f = refl
-arranged true true true false p i f = refl
-arranged true true true true false i f = refl
-arranged true true true true true false f = refl
-arranged true true true true true true false = refl
-arranged true true true true true true true = refl
+arranged true a l d p i f = grind arith
 
 pub object_any : (o g : RightObject) (a l d p : Option Text) → list_any (same_atom (atom_at o a l d p)) (object_atoms g)
-    ≡ (same_text o.kind g.kind && among a g.actions && among l g.locations && among d g.datatypes && among p g.privileges && same_option o.identifier g.identifier && same_text o.further g.further)
+    ≡ (same_text o.kind g.kind && same_option o.identifier g.identifier && same_text o.further g.further && among a g.actions && among l g.locations
+    && among d g.datatypes && among p g.privileges)
 object_any o g a l d p =
     let test = same_atom (atom_at o a l d p) in
     let k = same_text o.kind g.kind in
     let e = same_option o.identifier g.identifier && (same_text o.further g.further && true) in
     let in_privileges = λ (x y z : Option Text). map_any test (λ v. atom_at g x y z v) (values_of g.privileges) ∙
-    before k _ (values_of g.privileges) _ (before (same_option a x) _ (values_of g.privileges) _ (before (same_option l y) _ (values_of g.privileges) _ (before (same_option d z) _ (values_of g.privileges) _
+    before k _ (values_of g.privileges) _
+    (before (same_option a x) _ (values_of g.privileges) _
+    (before (same_option l y) _ (values_of g.privileges) _ (before (same_option d z) _ (values_of g.privileges) _
     (after (same_option p) e (values_of g.privileges))))) in
     flat_any test _ (values_of g.actions)
     ∙ any_same _ _ (values_of g.actions) (λ x. flat_any test _ (values_of g.locations)
@@ -116,6 +114,9 @@ object_any o g a l d p =
     ∙ any_same _ _ (values_of g.datatypes) (λ z. in_privileges x y z)
     ∙ before k _ (values_of g.datatypes) _ (before (same_option a x) _ (values_of g.datatypes) _ (before (same_option l y) _ (values_of g.datatypes) _
     (after (same_option d) (among p g.privileges && e) (values_of g.datatypes)))))
-    ∙ before k _ (values_of g.locations) _ (before (same_option a x) _ (values_of g.locations) _ (after (same_option l) (among d g.datatypes && (among p g.privileges && e)) (values_of g.locations))))
-    ∙ before k _ (values_of g.actions) _ (after (same_option a) (among l g.locations && (among d g.datatypes && (among p g.privileges && e))) (values_of g.actions))
-    ∙ arranged k (among a g.actions) (among l g.locations) (among d g.datatypes) (among p g.privileges) (same_option o.identifier g.identifier) (same_text o.further g.further)
+    ∙ before k _ (values_of g.locations) _
+    (before (same_option a x) _ (values_of g.locations) _ (after (same_option l) (among d g.datatypes && (among p g.privileges && e)) (values_of g.locations))))
+    ∙ before k _ (values_of g.actions) _
+    (after (same_option a) (among l g.locations && (among d g.datatypes && (among p g.privileges && e))) (values_of g.actions))
+    ∙ arranged k (among a g.actions) (among l g.locations) (among d g.datatypes) (among p g.privileges) (same_option o.identifier g.identifier)
+    (same_text o.further g.further)

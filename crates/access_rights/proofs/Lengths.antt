@@ -31,11 +31,13 @@ differ k l false e p q = refl
 
 pub get_member-others : (k : List ℕ) (ms : Members) → is_own k ≡ true → HasOthersOnly ms → get_member k ms ≡ None
 get_member-others k no_members own h = refl
-get_member-others k (member l e ms) own h = at_other (slice_cmp nat_cmp k l) _ e (is_eq-slice_cmp k l ∙ differ k l _ refl own h.0) (get_member-others k ms own h.1)
+get_member-others k (member l e ms) own h = at_other (slice_cmp nat_cmp k l) _ e (is_eq-slice_cmp k l ∙ differ k l _ refl own h.0)
+    (get_member-others k ms own h.1)
 
 -- ---- the object of further members
 
-pub two_or_more : (ms : Members) (f : List ℕ) → length f ≡ enclosed_size (members_size ms) → (length f ≡ 2 → members_size ms ≡ 0) × ((length f ≡ 2 → ⊥) → members_size ms ≡ length f - 1)
+pub two_or_more : (ms : Members) (f : List ℕ) → length f ≡ enclosed_size (members_size ms)
+    → (length f ≡ 2 → members_size ms ≡ 0) × ((length f ≡ 2 → ⊥) → members_size ms ≡ length f - 1)
 two_or_more no_members f is = (λ two. refl, λ more. absurd (more is))
 two_or_more (member k d ms) f is =
     let q = length-quoted k in
@@ -72,7 +74,8 @@ sizes_of r =
 sum_of_seven : (a b c d e f g : ℕ) → sum (a ∷ b ∷ c ∷ d ∷ e ∷ f ∷ g ∷ []) ≡ a + (b + (c + (d + (e + (f + 0))))) + g
 sum_of_seven a b c d e f g = omega arith
 
-pub told_object : (r : RightObject) → FitsObject r → capped (enclosed_size (capped (sum (map capped (sizes_of r))))) ≡ capped (length (compact_text (object (right_members r))))
+pub told_object : (r : RightObject) → FitsObject r
+    → capped (enclosed_size (capped (sum (map capped (sizes_of r))))) ≡ capped (length (compact_text (object (right_members r))))
 unfolding right_members
 told_object r fits =
     let ms = members_read (read r.further) in

@@ -1,4 +1,5 @@
 pub mod Atoms
+pub mod Dimensions
 pub mod Kept
 pub mod Lengths
 pub mod MaskedChoices

@@ -36,12 +36,17 @@ odd_rest : (x : ℕ) → (2 * x + 1) % 2 ≡ 1
 odd_rest x = omega arith
 
 bit_and-with_bit : (x y : ℕ) (b c : Bool) → bit_and (with_bit x b) (with_bit y c) ≡ with_bit (bit_and x y) (b && c)
-bit_and-with_bit x y true true = bit_and-halves (2 * x + 1) (2 * y + 1) (bit_and x y) 1 (ap₂ bit_and (odd_half x) (odd_half y)) (ap₂ bit_and (odd_rest x) (odd_rest y))
-bit_and-with_bit x y true false = let e = bit_and-halves (2 * x + 1) (2 * y) (bit_and x y) 0 (ap₂ bit_and (odd_half x) (even_half y)) (ap₂ bit_and (odd_rest x) (even_rest y)) in omega (arith, e)
-bit_and-with_bit x y false true = let e = bit_and-halves (2 * x) (2 * y + 1) (bit_and x y) 0 (ap₂ bit_and (even_half x) (odd_half y)) (ap₂ bit_and (even_rest x) (odd_rest y)) in omega (arith, e)
-bit_and-with_bit x y false false = let e = bit_and-halves (2 * x) (2 * y) (bit_and x y) 0 (ap₂ bit_and (even_half x) (even_half y)) (ap₂ bit_and (even_rest x) (even_rest y)) in omega (arith, e)
+bit_and-with_bit x y true true = bit_and-halves (2 * x + 1) (2 * y + 1) (bit_and x y) 1 (ap₂ bit_and (odd_half x) (odd_half y))
+    (ap₂ bit_and (odd_rest x) (odd_rest y))
+bit_and-with_bit x y true false = let e = bit_and-halves (2 * x + 1) (2 * y) (bit_and x y) 0 (ap₂ bit_and (odd_half x) (even_half y))
+    (ap₂ bit_and (odd_rest x) (even_rest y)) in omega (arith, e)
+bit_and-with_bit x y false true = let e = bit_and-halves (2 * x) (2 * y + 1) (bit_and x y) 0 (ap₂ bit_and (even_half x) (odd_half y))
+    (ap₂ bit_and (even_rest x) (odd_rest y)) in omega (arith, e)
+bit_and-with_bit x y false false = let e = bit_and-halves (2 * x) (2 * y) (bit_and x y) 0 (ap₂ bit_and (even_half x) (even_half y))
+    (ap₂ bit_and (even_rest x) (even_rest y)) in omega (arith, e)
 
-next_and : (alike : Bool) (x y : ℕ) (b c : Bool) → bit_and (cond alike (with_bit x b) x) (cond alike (with_bit y c) y) ≡ cond alike (with_bit (bit_and x y) (b && c)) (bit_and x y)
+next_and : (alike : Bool) (x y : ℕ) (b c : Bool)
+    → bit_and (cond alike (with_bit x b) x) (cond alike (with_bit y c) y) ≡ cond alike (with_bit (bit_and x y) (b && c)) (bit_and x y)
 next_and true x y b c = bit_and-with_bit x y b c
 next_and false x y b c = refl
 
@@ -61,7 +66,8 @@ next_some : (alike : Bool) (x : ℕ) (b c : Bool) → (not (cond alike (with_bit
 next_some true x b c = ap (λ a. a || c) (some_bit x b) ∙ or_assoc (not (x == 0)) b c
 next_some false x b c = refl
 
-bits_from-some : (alike has : Right → Bool) (rights : List Right) (x : ℕ) → not (bits_from alike has x rights == 0) ≡ (not (x == 0) || list_any (λ r. alike r && has r) rights)
+bits_from-some : (alike has : Right → Bool) (rights : List Right) (x : ℕ)
+    → not (bits_from alike has x rights == 0) ≡ (not (x == 0) || list_any (λ r. alike r && has r) rights)
 bits_from-some alike has [] x = sym (or-false (not (x == 0)))
 bits_from-some alike has (r ∷ rights) x = bits_from-some alike has rights _ ∙ next_some (alike r) x (has r) (list_any (λ r. alike r && has r) rights)
 
@@ -70,54 +76,49 @@ bits_from-some alike has (r ∷ rights) x = bits_from-some alike has rights _ �
 abbrev has_all : Option Text → Option Text → Option Text → Option Text → Right → Bool
 has_all a l d p r = ((has_value Actions a r && has_value Locations l r) && has_value Datatypes d r) && has_value Privileges p r
 
-arranged : (k i f a l d p : Bool) → ((k && i && f) && (((a && l) && d) && p)) ≡ (k && a && l && d && p && i && f)
-arranged false i f a l d p = refl
-arranged true false f false l d p = refl
-arranged true false f true false d p = refl
-arranged true false f true true false p = refl
-arranged true false f true true true false = refl
-arranged true false f true true true true = refl
-arranged true true false false l d p = refl
-arranged true true false true false d p = refl
-arranged true true false true true false p = refl
-arranged true true false true true true false = refl
-arranged true true false true true true true = refl
-arranged true true true false l d p = refl
-arranged true true true true false d p = refl
-arranged true true true true true false p = refl
-arranged true true true true true true false = refl
-arranged true true true true true true true = refl
+arranged : (k a l d p : Bool) → (k && (((a && l) && d) && p)) ≡ (k && a && l && d && p)
+arranged false a l d p = refl
+arranged true a l d p = refl
 
-in_right : (o : RightObject) (a l d p : Option Text) (r : Right) → (is_alike o r && has_all a l d p r) ≡ list_any (same_atom (atom_at o a l d p)) (right_atoms r)
+in_right : (o : RightObject) (a l d p : Option Text) (r : Right)
+    → (is_alike o r && has_all a l d p r) ≡ list_any (same_atom (atom_at o a l d p)) (right_atoms r)
 in_right o a l d p (Reference name) = refl
 in_right o a l d p (Object g) =
-    arranged (same_text o.kind g.kind) (same_option o.identifier g.identifier) (same_text o.further g.further) (among a g.actions) (among l g.locations) (among d g.datatypes) (among p g.privileges)
+    arranged (same_text o.kind g.kind && same_option o.identifier g.identifier && same_text o.further g.further) (among a g.actions) (among l g.locations)
+    (among d g.datatypes) (among p g.privileges)
     ∙ sym (object_any o g a l d p)
 
 choice : (granted : List Right) (o : RightObject) (a l d p : Option Text)
-    → not (bit_and (bit_and (bit_and (mask_of granted o Actions a) (mask_of granted o Locations l)) (mask_of granted o Datatypes d)) (mask_of granted o Privileges p) == 0)
+    → not (bit_and (bit_and (bit_and (mask_of granted o Actions a) (mask_of granted o Locations l)) (mask_of granted o Datatypes d))
+    (mask_of granted o Privileges p) == 0)
     ≡ has_atom granted (atom_at o a l d p)
 choice granted o a l d p =
     let alike = is_alike o in
-    ap (λ n. not (bit_and (bit_and n (mask_of granted o Datatypes d)) (mask_of granted o Privileges p) == 0)) (bit_and-bits_from alike (has_value Actions a) (has_value Locations l) granted 0 0)
-    ∙ ap (λ n. not (bit_and n (mask_of granted o Privileges p) == 0)) (bit_and-bits_from alike (λ r. has_value Actions a r && has_value Locations l r) (has_value Datatypes d) granted 0 0)
-    ∙ ap (λ n. not (n == 0)) (bit_and-bits_from alike (λ r. (has_value Actions a r && has_value Locations l r) && has_value Datatypes d r) (has_value Privileges p) granted 0 0)
+    ap (λ n. not (bit_and (bit_and n (mask_of granted o Datatypes d)) (mask_of granted o Privileges p) == 0))
+    (bit_and-bits_from alike (has_value Actions a) (has_value Locations l) granted 0 0)
+    ∙ ap (λ n. not (bit_and n (mask_of granted o Privileges p) == 0))
+    (bit_and-bits_from alike (λ r. has_value Actions a r && has_value Locations l r) (has_value Datatypes d) granted 0 0)
+    ∙ ap (λ n. not (n == 0)) (bit_and-bits_from alike (λ r. (has_value Actions a r && has_value Locations l r) && has_value Datatypes d r)
+    (has_value Privileges p) granted 0 0)
     ∙ bits_from-some alike (has_all a l d p) granted 0
     ∙ any_same (λ r. alike r && has_all a l d p r) (λ r. list_any (same_atom (atom_at o a l d p)) (right_atoms r)) granted (in_right o a l d p)
     ∙ has_each (atom_at o a l d p) granted
 
 privileges_met : (granted : List Right) (o : RightObject) (a l d : Option Text) (ps : List (Option Text))
-    → privileges_meet (bit_and (bit_and (mask_of granted o Actions a) (mask_of granted o Locations l)) (mask_of granted o Datatypes d)) (map (λ v. mask_of granted o Privileges v) ps)
+    → privileges_meet (bit_and (bit_and (mask_of granted o Actions a) (mask_of granted o Locations l)) (mask_of granted o Datatypes d))
+    (map (λ v. mask_of granted o Privileges v) ps)
     ≡ list_all (λ p. has_atom granted (atom_at o a l d p)) ps
 privileges_met granted o a l d ps = list_all-map _ (λ v. mask_of granted o Privileges v) ps ∙ all_same _ _ ps (λ p. choice granted o a l d p)
 
 datatypes_met : (granted : List Right) (o : RightObject) (a l : Option Text) (ps ds : List (Option Text))
-    → datatypes_meet (bit_and (mask_of granted o Actions a) (mask_of granted o Locations l)) (map (λ v. mask_of granted o Datatypes v) ds) (map (λ v. mask_of granted o Privileges v) ps)
+    → datatypes_meet (bit_and (mask_of granted o Actions a) (mask_of granted o Locations l)) (map (λ v. mask_of granted o Datatypes v) ds)
+    (map (λ v. mask_of granted o Privileges v) ps)
     ≡ list_all (λ d. list_all (λ p. has_atom granted (atom_at o a l d p)) ps) ds
 datatypes_met granted o a l ps ds = list_all-map _ (λ v. mask_of granted o Datatypes v) ds ∙ all_same _ _ ds (λ d. privileges_met granted o a l d ps)
 
 locations_met : (granted : List Right) (o : RightObject) (a : Option Text) (ps ds ls : List (Option Text))
-    → locations_meet (mask_of granted o Actions a) (map (λ v. mask_of granted o Locations v) ls) (map (λ v. mask_of granted o Datatypes v) ds) (map (λ v. mask_of granted o Privileges v) ps)
+    → locations_meet (mask_of granted o Actions a) (map (λ v. mask_of granted o Locations v) ls) (map (λ v. mask_of granted o Datatypes v) ds)
+    (map (λ v. mask_of granted o Privileges v) ps)
     ≡ list_all (λ l. list_all (λ d. list_all (λ p. has_atom granted (atom_at o a l d p)) ps) ds) ls
 locations_met granted o a ps ds ls = list_all-map _ (λ v. mask_of granted o Locations v) ls ∙ all_same _ _ ls (λ l. datatypes_met granted o a l ps ds)
 

@@ -14,7 +14,8 @@ use Rattle.serde_json.proofs.Views.{Entry}
 use Rattle.access_rights.specs.Fits.{is_own, HasOthersOnly}
 use Rattle.access_rights.specs.Reading.{others}
 
-whole_at : (b : Bool) (k : List ℕ) (d : Data) (ms : Members) → has_float d ≡ false → members_have_float ms ≡ false → members_have_float (cond b ms (member k d ms)) ≡ false
+whole_at : (b : Bool) (k : List ℕ) (d : Data) (ms : Members) → has_float d ≡ false → members_have_float ms ≡ false
+    → members_have_float (cond b ms (member k d ms)) ≡ false
 whole_at true k d ms p q = q
 whole_at false k d ms p q = rw (p, q)
 
@@ -26,20 +27,24 @@ pub others_skip : (done : List Entry) (e : Entry) → is_own (string_bytes e.0) 
 others_skip [] e own = rw own
 others_skip (x ∷ done) e own = ap (λ ms. cond (is_own (string_bytes x.0)) ms (member (string_bytes x.0) (view x.1) ms)) (others_skip done e own)
 
-below_middle : (first : Entry) (es : List Entry) (e : Entry) (more : List Entry) → AllByRecursion (λ y. string_cmp first.0 y ≡ Less) (keys_of (es ++ e ∷ more)) → string_cmp first.0 e.0 ≡ Less
+below_middle : (first : Entry) (es : List Entry) (e : Entry) (more : List Entry) → AllByRecursion (λ y. string_cmp first.0 y ≡ Less) (keys_of (es ++ e ∷ more))
+    → string_cmp first.0 e.0 ≡ Less
 below_middle first [] e more h = h.0
 below_middle first (x ∷ es) e more h = below_middle first es e more h.1
 
-put_over : (b : Bool) (k l : List ℕ) (d e : Data) (old new : Members) → slice_cmp nat_cmp k l ≡ Greater → put k d old ≡ new → put k d (cond b old (member l e old)) ≡ cond b new (member l e new)
+put_over : (b : Bool) (k l : List ℕ) (d e : Data) (old new : Members) → slice_cmp nat_cmp k l ≡ Greater → put k d old ≡ new
+    → put k d (cond b old (member l e old)) ≡ cond b new (member l e new)
 put_over true k l d e old new above h = h
 put_over false k l d e old new above h = rw above (ap (member l e) h)
 
-pub others_put : (done : List Entry) (e : Entry) (more : List Entry) → IsStrictlySortedBy string_cmp (keys_of (done ++ e ∷ more)) → is_own (string_bytes e.0) ≡ false
+pub others_put : (done : List Entry) (e : Entry) (more : List Entry) → IsStrictlySortedBy string_cmp (keys_of (done ++ e ∷ more))
+    → is_own (string_bytes e.0) ≡ false
     → put (string_bytes e.0) (view e.1) (others (members_view done)) ≡ others (members_view (done ++ e ∷ []))
 unfolding IsStrictlySortedBy
 others_put [] e more h other = rw other
 others_put (x ∷ done) e more h other =
-    let above : slice_cmp nat_cmp (string_bytes e.0) (string_bytes x.0) ≡ Greater = nat_list_cmp_total.antisymm (string_bytes e.0) (string_bytes x.0) ∙ ap ordering_reverse (below_middle x done e more h.0) in
+    let above : slice_cmp nat_cmp (string_bytes e.0) (string_bytes x.0) ≡ Greater = nat_list_cmp_total.antisymm (string_bytes e.0) (string_bytes x.0)
+    ∙ ap ordering_reverse (below_middle x done e more h.0) in
     put_over (is_own (string_bytes x.0)) (string_bytes e.0) (string_bytes x.0) (view e.1) (view x.1) _ _ above (others_put done e more h.1 other)
 
 depth_at : (b : Bool) (k : List ℕ) (d : Data) (ms : Members) (n : ℕ) → members_depth ms ≤ n → members_depth (cond b ms (member k d ms)) ≤ max (depth d) n

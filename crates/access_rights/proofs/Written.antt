@@ -16,7 +16,8 @@ use Rattle.access_rights.proofs.WrittenParts.{object_written}
 abbrev whole : Option (json.Json × List Token) → Option Data
 whole o = option_and_then of_json (option_and_then (λ p. json.if_last p.0 p.1) o)
 
-module _ (ms : Members) (begun ts : List Token) (text : List ℕ) (opened : begun ≡ begin_object ∷ []) (w : WritesMembers (others ms) begun ts) (printed : text ≡ print ts) (same : tokens (print ts) ≡ ts) where
+module _ (ms : Members) (begun ts : List Token) (text : List ℕ) (opened : begun ≡ begin_object ∷ []) (w : WritesMembers (others ms) begun ts)
+    (printed : text ≡ print ts) (same : tokens (print ts) ≡ ts) where
   written : WritesValue (object (others ms)) [] ts
   written = object_written (others ms) _ [] begun ts refl opened w
 
@@ -24,7 +25,9 @@ module _ (ms : Members) (begun ts : List Token) (text : List ℕ) (opened : begu
   lexed = ap tokens printed ∙ same
 
   pub text_is : members_have_float ms ≡ false → text ≡ further_of ms
-  text_is whole = printed ∙ ap print (sym lexed ∙ tokens_from_order text (object (others ms)) (written.0, lexed ∙ written.1, written.4) (others_whole ms whole)) ∙ print-outline (object (others ms))
+  text_is whole = printed ∙ ap print (sym lexed ∙ tokens_from_order text (object (others ms)) (written.0, lexed ∙ written.1, written.4) (others_whole ms whole))
+      ∙ print-outline (object (others ms))
 
   pub text_reads : depth (object (others ms)) ≤ max_depth → read text ≡ Some (object (others ms))
-  text_reads shallow = ap whole (ap (json.value max_depth) (lexed ∙ written.1 ∙ sym (append-nil _)) ∙ value-json_tokens written.0 max_depth [] (omega (arith, written.3, shallow))) ∙ written.2
+  text_reads shallow = ap whole (ap (json.value max_depth) (lexed ∙ written.1 ∙ sym (append-nil _))
+      ∙ value-json_tokens written.0 max_depth [] (omega (arith, written.3, shallow))) ∙ written.2

@@ -21,8 +21,14 @@ array_written ds d old begun new seen opened w = subst (λ e. WritesValue e old 
 
 pub object_written : (ms : Members) (d : Data) (old begun new : List Token) → d ≡ object ms → begun ≡ old ++ begin_object ∷ []
     → WritesMembers ms begun new → WritesValue d old new
-object_written ms d old begun new seen opened w = subst (λ e. WritesValue e old new) (sym seen)
-    (json.object w.0, behind begin_object old begun (tree.members_tokens w.0) new opened w.1, ap (option_map object) w.2, omega (arith, w.3), ap json.object w.4)
+object_written ms d old begun new seen opened w = subst (λ e. WritesValue e old new) (sym seen) (
+  json.object w.0,
+  behind begin_object old begun (tree.members_tokens w.0) new opened w.1,
+  ap (option_map object) w.2,
+  omega (arith, w.3),
+  ap json.object
+      w.4,
+)
 
 pub item_written : (d : Data) (ds : Items) (old mid new : List Token) → WritesValue d old mid → WritesItems ds mid new → WritesItems (item d ds) old new
 item_written d ds old mid new w rest = (

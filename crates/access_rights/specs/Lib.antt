@@ -3,4 +3,5 @@ pub mod Inclusion
 pub mod Masks
 pub mod Fits
 pub mod Reading
+pub mod Dimensions
 pub mod Printing

@@ -75,7 +75,16 @@ right_object_of d ms = do
   datatypes ← dimension_of (codes "datatypes") d
   privileges ← dimension_of (codes "privileges") d
   identifier ← identifier_of d
-  few_atoms (record { kind = kind; actions = actions; locations = locations; datatypes = datatypes; privileges = privileges; identifier = identifier; further = further_of ms })
+  few_atoms (record {
+    kind = kind;
+    actions = actions;
+    locations = locations;
+    datatypes = datatypes;
+    privileges = privileges;
+    identifier = identifier;
+    further =
+        further_of ms;
+  })
 
 -- ---- rights
 

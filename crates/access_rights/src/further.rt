@@ -84,12 +84,10 @@ fn write_members(members: &Map<String, Value>, out: &mut Writer) -> Result<(), A
 fn is_own(name: &str) -> bool
     ensures { result ≡ is_own name.now }
 {
-    name == "type"
-        || name == "actions"
-        || name == "locations"
-        || name == "datatypes"
-        || name == "privileges"
-        || name == "identifier"
+    matches!(
+        name,
+        "type" | "actions" | "locations" | "datatypes" | "privileges" | "identifier"
+    )
 }
 
 // The members that no field is for, and the brace behind them.

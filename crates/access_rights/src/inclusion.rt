@@ -1,5 +1,5 @@
 //! Whether rights cover others (RFC 9635, section 8).
-ghost use Rattle.std.specs.Prelude.{◌≡◌, option_map};
+ghost use Rattle.std.specs.Prelude.{◌≡◌, ◌&&◌, option_map};
 ghost use Rattle.std.specs.List.{list_any, list_all};
 ghost use Rattle.gnap_model.specs.Common.{same_text, same_option};
 ghost use Rattle.gnap_model.specs.Rights.Atom.{Name};
@@ -112,7 +112,8 @@ fn covers_privileges(
     location: Option<&Bytes>,
     datatype: Option<&Bytes>,
 ) -> bool
-    ensures { result ≡ covers_privileges granted.now wanted.now (option_map (λ b. b.now) action.entry) (option_map (λ b. b.now) location.entry) (option_map (λ b. b.now) datatype.entry) }
+    ensures { result ≡ covers_privileges granted.now wanted.now (option_map (λ b. b.now) action.entry) (option_map (λ b. b.now) location.entry)
+        (option_map (λ b. b.now) datatype.entry) }
 {
     let Some(privileges) = &wanted.privileges else {
         return has_parts(granted, wanted, action, location, datatype, None);
@@ -159,18 +160,26 @@ fn right_has_parts(
     match right {
         Right::Reference(_) => false,
         Right::Object(own) => {
-            wanted.kind.as_slice() == own.kind.as_slice()
+            is_of_kind(wanted, own)
                 && is_value(action, &own.actions)
                 && is_value(location, &own.locations)
                 && is_value(datatype, &own.datatypes)
                 && is_value(privilege, &own.privileges)
-                && same_option(&wanted.identifier, &own.identifier)
-                && wanted.further.as_slice() == own.further.as_slice()
         }
     }
 }
 
-pub(crate) fn same_option(a: &Option<Bytes>, b: &Option<Bytes>) -> bool
+// The rights have one type, one identifier, and the same further members.
+pub(crate) fn is_of_kind(wanted: &RightObject, own: &RightObject) -> bool
+    ensures { result ≡ (same_text wanted.now.kind own.now.kind && same_option wanted.now.identifier own.now.identifier
+        && same_text wanted.now.further own.now.further) }
+{
+    wanted.kind.as_slice() == own.kind.as_slice()
+        && same_option(&wanted.identifier, &own.identifier)
+        && wanted.further.as_slice() == own.further.as_slice()
+}
+
+fn same_option(a: &Option<Bytes>, b: &Option<Bytes>) -> bool
     ensures { result ≡ same_option a.now b.now }
 {
     match (a, b) {

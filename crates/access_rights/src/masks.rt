@@ -5,7 +5,7 @@ ghost use Rattle.gnap_model.specs.Rights.{values_of};
 ghost use Rattle.access_rights.specs.Inclusion.{covers_object};
 ghost use Rattle.access_rights.specs.Masks.{texts_in, is_alike, has_value, with_bit, mask_of, privileges_meet, datatypes_meet, locations_meet, choices_meet};
 
-use crate::inclusion::{is_value, same_option};
+use crate::inclusion::{is_of_kind, is_value};
 use arrayvec::ArrayVec;
 use bytes_and_lists::bytes::Bytes;
 use gnap_model::rights::{Right, RightObject, Rights, Texts};
@@ -37,11 +37,7 @@ fn is_alike(wanted: &RightObject, right: &Right) -> bool
 {
     match right {
         Right::Reference(_) => false,
-        Right::Object(own) => {
-            wanted.kind.as_slice() == own.kind.as_slice()
-                && same_option(&wanted.identifier, &own.identifier)
-                && wanted.further.as_slice() == own.further.as_slice()
-        }
+        Right::Object(own) => is_of_kind(wanted, own),
     }
 }
 

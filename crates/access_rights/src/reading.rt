@@ -7,8 +7,9 @@ ghost use Rattle.json_objects.specs.Bodies.{IsBody, AreBodies};
 ghost use Rattle.json_objects.specs.Reading.{Gives, each};
 ghost use Rattle.json_objects.specs.Texts.{IsUtf8Or, AreUtf8};
 ghost use Rattle.access_rights.specs.declared.reading.RightsFault.TheVariants.{OutOfMemory};
-ghost use Rattle.access_rights.specs.Fits.{FitsObject, Fits};
-ghost use Rattle.access_rights.specs.Reading.{any_text, sized, type_of, dimension_of, identifier_of, extent, right_object_of, right_of, rights_of};
+ghost use Rattle.access_rights.specs.Fits.{IsFurther, FitsObject, Fits};
+ghost use Rattle.access_rights.specs.Reading.{any_text, sized, type_of, dimension_of, identifier_of, further_of, extent, few_atoms, right_object_of, right_of, rights_of};
+ghost use Rattle.access_rights.specs.Dimensions.{dimensions_of, choice_count, right_with, AreFew, DimensionsFit};
 
 use crate::further::further_of;
 use bytes_and_lists::bytes::Bytes;
@@ -127,7 +128,82 @@ fn extent(dimension: &Option<Texts>) -> usize
     }
 }
 
-#[tactic(auto, unfolding(crate::specs::Reading::right_object_of))]
+// What a right in full is narrowed to by several values.
+#[derive(Drop)]
+struct Dimensions {
+    actions: Option<Texts>,
+    locations: Option<Texts>,
+    datatypes: Option<Texts>,
+    privileges: Option<Texts>,
+}
+
+fn dimensions_of(alloc: Global, right: &Value) -> Result<Dimensions, RightsFault>
+    ensures value { Gives OutOfMemory (λ s. s) result (dimensions_of (view right.now)) }
+    ensures few { IfOk result AreFew }
+    ensures utf8 { IfOk result DimensionsFit }
+{
+    Ok(Dimensions {
+        actions: dimension_of(alloc, right, "actions")?,
+        locations: dimension_of(alloc, right, "locations")?,
+        datatypes: dimension_of(alloc, right, "datatypes")?,
+        privileges: dimension_of(alloc, right, "privileges")?,
+    })
+}
+
+// How many choices of one value from each dimension there are.
+fn choice_count(dimensions: &Dimensions) -> usize
+    requires { AreFew dimensions.now }
+    ensures { result ≡ choice_count dimensions.now }
+{
+    extent(&dimensions.actions)
+        * extent(&dimensions.locations)
+        * extent(&dimensions.datatypes)
+        * extent(&dimensions.privileges)
+}
+
+// The right in full of these parts.
+fn right_with(
+    kind: Bytes,
+    dimensions: Dimensions,
+    identifier: Option<Bytes>,
+    further: Bytes,
+) -> RightObject
+    ensures { result ≡ right_with kind dimensions identifier further }
+{
+    RightObject {
+        kind,
+        actions: dimensions.actions,
+        locations: dimensions.locations,
+        datatypes: dimensions.datatypes,
+        privileges: dimensions.privileges,
+        identifier,
+        further,
+    }
+}
+
+// The right in full of these parts and of the further members, where it has at most 1,024 atoms.
+fn counted_right(
+    alloc: Global,
+    kind: Bytes,
+    dimensions: Dimensions,
+    identifier: Option<Bytes>,
+    members: &Map<String, Value>,
+) -> Result<RightObject, RightsFault>
+    requires few { AreFew dimensions }
+    requires body { IsBody (object (members_view members.now.entries)) }
+    ensures value { Gives OutOfMemory (λ r. r) result
+        (few_atoms (right_with kind dimensions identifier (further_of (members_view members.now.entries)))) }
+    ensures parts { IfOk result (λ r. r ≡ right_with kind dimensions identifier r.further) }
+    ensures further { IfOk result (λ r. IsFurther r.further) }
+{
+    if 1024 < choice_count(&dimensions) {
+        return Err(RightsFault::TooMany);
+    }
+    let further = further_of(alloc, members)?;
+    Ok(right_with(kind, dimensions, identifier, further))
+}
+
+#[tactic(auto, unfolding(crate::specs::Reading::right_object_of), using(crate::proofs::Dimensions::dimensions_then))]
 fn right_object_of(
     alloc: Global,
     right: &Value,
@@ -138,25 +214,9 @@ fn right_object_of(
     ensures fits { IfOk result FitsObject }
 {
     let kind = type_of(alloc, right)?;
-    let actions = dimension_of(alloc, right, "actions")?;
-    let locations = dimension_of(alloc, right, "locations")?;
-    let datatypes = dimension_of(alloc, right, "datatypes")?;
-    let privileges = dimension_of(alloc, right, "privileges")?;
+    let dimensions = dimensions_of(alloc, right)?;
     let identifier = identifier_of(alloc, right)?;
-    let atoms = extent(&actions) * extent(&locations) * extent(&datatypes) * extent(&privileges);
-    let further = further_of(alloc, members)?;
-    if 1024 < atoms {
-        return Err(RightsFault::TooMany);
-    }
-    Ok(RightObject {
-        kind,
-        actions,
-        locations,
-        datatypes,
-        privileges,
-        identifier,
-        further,
-    })
+    counted_right(alloc, kind, dimensions, identifier, members)
 }
 
 #[tactic(auto, unfolding(crate::specs::Reading::right_of))]

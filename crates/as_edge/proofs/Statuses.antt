@@ -57,7 +57,8 @@ text_used : (r : Response) (printed : ℕ × Option (List ℕ)) → printed ≡ 
 text_used r printed is w = ap (λ (p : ℕ × Option (List ℕ)). is_used p.0) is ∙ w.used
 
 text_empty : (r : Response) (printed : ℕ × Option (List ℕ)) → printed ≡ text_of r → IsWritable r → printed.0 ≡ 204 → printed.1 ≡ None
-text_empty r printed is w e = ap (λ (p : ℕ × Option (List ℕ)). p.1) is ∙ ap (option_map compact_text) (w.no_content (sym (ap (λ (p : ℕ × Option (List ℕ)). p.0) is) ∙ e))
+text_empty r printed is w e = ap (λ (p : ℕ × Option (List ℕ)). p.1) is
+    ∙ ap (option_map compact_text) (w.no_content (sym (ap (λ (p : ℕ × Option (List ℕ)). p.0) is) ∙ e))
 
 pub printed_used : (setup : Setup) (r : Reply) (printed : ℕ × Option (List ℕ)) → printed ≡ text_of (response_of setup r) → is_used printed.0 ≡ true
 printed_used setup r printed is = text_used (response_of setup r) printed is (response_writable setup r)

@@ -14,7 +14,8 @@ use Rattle.as_edge.specs.DirectReplies.{http_reply, direct_reply}
 
 -- the request is answered without a call, by these bytes
 abbrev pub IsAnsweredBy : Setup → Bool → Message → ℕ → List ℕ → Type 0
-IsAnsweredBy setup last m moment bytes = (answer : DirectAnswer) × (desk_call setup m moment ≡ Direct answer) × (bytes ≡ reply_bytes (direct_reply setup last answer))
+IsAnsweredBy setup last m moment bytes = (answer : DirectAnswer) × (desk_call setup m moment ≡ Direct answer)
+    × (bytes ≡ reply_bytes (direct_reply setup last answer))
 
 -- The words that are drawn don't change what a request asks. Where memory ran out it is answered by 503.
 abbrev pub edge_face : Face Message Setup Signed Reply

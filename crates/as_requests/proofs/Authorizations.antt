@@ -13,7 +13,8 @@ held None values = values
 held (Some value) values = value ∷ values
 
 -- how the code holds it: see gives its value
-module _ {X : Type 0} (see : X → List ℕ) (fields : List Field) (i : ℕ) (field : Field) (within : i < length fields) (is : field ≡ get_or fields i field) (found : Option X)
+module _ {X : Type 0} (see : X → List ℕ) (fields : List Field) (i : ℕ) (field : Field) (within : i < length fields) (is : field ≡ get_or fields i field)
+    (found : Option X)
     (so_far : held (option_map see found) (authorizations (drop i fields)) ≡ authorizations fields) where
   opened : drop i fields ≡ field ∷ drop (i + 1) fields
   opened = drop-cons fields i field within ∙ ap (λ f. f ∷ drop (suc i) fields) (sym is) ∙ ap (λ j. field ∷ drop j fields) (sym (add-one i))

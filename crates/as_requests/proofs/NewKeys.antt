@@ -77,7 +77,11 @@ keys_new before (item d ds) ks e =
     record {
       more = k ∷ others.more;
       split = others.split ∙ append_assoc before (k ∷ []) others.more;
-      new = (key_new before d k (key_ok (length before) (key_row_of before d) k first.1), subst (λ ring. AreNew ring others.more) (map-append (λ k. (k.id, k.secret)) before (k ∷ [])) others.new);
+      new = (
+        key_new before d k (key_ok (length before) (key_row_of before d) k first.1),
+        subst (λ ring. AreNew ring others.more)
+            (map-append (λ k. (k.id, k.secret)) before (k ∷ [])) others.new,
+      );
     }
 
 read_new : (d : Data) (ks : List KeyRow) → keys_of d ≡ Ok ks → AreNew [] ks
@@ -98,7 +102,8 @@ setup_new s is =
     let keys = bind_ok (keys_of d.0) _ s front.2 in
     let setup : Setup = record { base = base.0; front = front.0; keys = keys.0 } in
     let names = codes "base" ∷ codes "front" ∷ codes "keys" ∷ [] in
-    subst (λ (x : Setup). AreNew [] x.keys) (others_ok (other_member names d.0) setup s (setup_ok (without_others names d.0 setup) s keys.2)) (read_new d.0 keys.0 keys.1)
+    subst (λ (x : Setup). AreNew [] x.keys) (others_ok (other_member names d.0) setup s (setup_ok (without_others names d.0 setup) s keys.2))
+    (read_new d.0 keys.0 keys.1)
 
 -- ---- the ring, key by key
 
@@ -112,9 +117,11 @@ none_added s is = record { whole = refl; new = setup_new s is }
 
 pub next_key : (keys : List KeyRow) (i : ℕ) (ring : List (Text × Text)) (k : KeyRow) → i < length keys → k ≡ get_or keys i k → IsUpTo keys i ring
     → IsUpTo keys (i + 1) (with_secret ring k.id k.secret)
-next_key keys i ring k within is so_far = at (drop i keys) (drop-cons keys i k within ∙ ap (λ x. x ∷ drop (suc i) keys) (sym is) ∙ ap (λ j. k ∷ drop j keys) (sym (add-one i))) so_far.whole so_far.new
+next_key keys i ring k within is so_far = at (drop i keys)
+    (drop-cons keys i k within ∙ ap (λ x. x ∷ drop (suc i) keys) (sym is) ∙ ap (λ j. k ∷ drop j keys) (sym (add-one i))) so_far.whole so_far.new
   where
-    at : (rest : List KeyRow) → rest ≡ k ∷ drop (i + 1) keys → ring ++ secrets rest ≡ secrets keys → AreNew ring rest → IsUpTo keys (i + 1) (with_secret ring k.id k.secret)
+    at : (rest : List KeyRow) → rest ≡ k ∷ drop (i + 1) keys → ring ++ secrets rest ≡ secrets keys → AreNew ring rest
+        → IsUpTo keys (i + 1) (with_secret ring k.id k.secret)
     at rest opened whole new =
         let here = subst (AreNew ring) opened new in
         let added : with_secret ring k.id k.secret ≡ ring ++ (k.id, k.secret) ∷ [] = rw here.0 refl in

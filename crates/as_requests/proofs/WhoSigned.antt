@@ -30,11 +30,13 @@ id_text (k ∷ ks) id secret fit e = by (bytes_eq id k.id) refl e (id_text ks id
     secrets : List (Text × Text)
     secrets = map (λ k. (k.id, k.secret)) ks
 
-    by : (b : Bool) → bytes_eq id k.id ≡ b → (if b then Some k.secret else value_at secrets id) ≡ Some secret → (value_at secrets id ≡ Some secret → IsUtf8 id) → IsUtf8 id
+    by : (b : Bool) → bytes_eq id k.id ≡ b → (if b then Some k.secret else value_at secrets id) ≡ Some secret → (value_at secrets id ≡ Some secret → IsUtf8 id)
+        → IsUtf8 id
     by true same e others = subst IsUtf8 (sym ((bytes_eq-Decides id k.id).0 same)) fit.0.id
     by false other e others = others e
 
-pub signer_text : (setup : Setup) (m : Message) (moment : ℕ) (id : Text) → IsSetup setup → verified m setup.base (secrets_of setup) moment (codes "gnap") ≡ Ok id → IsUtf8 id
+pub signer_text : (setup : Setup) (m : Message) (moment : ℕ) (id : Text) → IsSetup setup
+    → verified m setup.base (secrets_of setup) moment (codes "gnap") ≡ Ok id → IsUtf8 id
 signer_text setup m moment id is e =
     let known = verified_key m setup.base (secrets_of setup) moment (codes "gnap") id e in
     id_text setup.keys id known.0 is.fits.keys known.1

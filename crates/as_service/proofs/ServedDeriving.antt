@@ -39,7 +39,8 @@ turn_few pairs setup last t (derived.unsaid m begin e asks gone) = omega arith
 turn_few pairs setup last t (derived.begin_lapsed m begin e f end on is) = omega arith
 turn_few pairs setup last t (derived.begin_unsaid m begin e f end on is) = omega arith
 
-turns_few : (pairs : List Pair) (setup : Setup) (place : ℕ) (turns : List (Turn Message GnapEntry)) → AreTurns edge_wire (IsDerivingTurn pairs setup) place turns
+turns_few : (pairs : List Pair) (setup : Setup) (place : ℕ) (turns : List (Turn Message GnapEntry))
+    → AreTurns edge_wire (IsDerivingTurn pairs setup) place turns
     → length (entries_in turns) ≤ 2 * length turns
 turns_few pairs setup place [] each = omega arith
 turns_few pairs setup place (t ∷ ts) each =
@@ -48,14 +49,16 @@ turns_few pairs setup place (t ∷ ts) each =
     let all = length-append t.entries (entries_in ts) in
     omega (arith, first, rest, all)
 
-session_few : (pairs : List Pair) (setup : Setup) (conn : Served) (turns : List (Turn Message GnapEntry)) → IsDerivingSession pairs setup conn turns → length (entries_in turns) ≤ 2000
+session_few : (pairs : List Pair) (setup : Setup) (conn : Served) (turns : List (Turn Message GnapEntry)) → IsDerivingSession pairs setup conn turns
+    → length (entries_in turns) ≤ 2000
 session_few pairs setup conn turns is =
     let most = is.1.few in
     let two_each = turns_few pairs setup 0 turns is.1.each in
     omega (arith, most, two_each)
 
 -- the history that at most 64 gears account for is short enough for what is known of legal histories
-few_enough : (pairs : List Pair) (setup : Setup) (gears : List GearState) (one : OneHistory gnap setup (accounts_of (IsDerivingSession pairs setup) gears)) → length gears ≤ 64
+few_enough : (pairs : List Pair) (setup : Setup) (gears : List GearState) (one : OneHistory gnap setup (accounts_of (IsDerivingSession pairs setup) gears))
+    → length gears ≤ 64
     → connections_of gears ≤ 4294967295 * length gears → length one.history ≤ 2 ^ 58
 few_enough pairs setup gears one few connections =
     let entries = history_few (IsDerivingSession pairs setup) (session_few pairs setup) gnap setup gears one in
@@ -63,7 +66,8 @@ few_enough pairs setup gears one few connections =
 
 -- ---- the service
 
-module _ {Done : Type 0} (pairs : List Pair) (setup : Setup) (address : List ℕ) (n quota : ℕ) (before after : WorldState) (few : n ≤ 64) (most : quota ≤ 4294967295)
+module _ {Done : Type 0} (pairs : List Pair) (setup : Setup) (address : List ℕ) (n quota : ℕ) (before after : WorldState) (few : n ≤ 64)
+    (most : quota ≤ 4294967295)
     (known : (rules : Setup) (h : List GnapEntry) → Legal gnap rules h → length h ≤ 2 ^ 58 → WhatHolds rules h) (ends : EndsWithItsTerm) where
   derives : (result : Result Done WorldFault) → serving.IsService gnap setup (IsDerivingSession pairs setup) address n quota before after result
       → IsDerivingService pairs setup address n quota before after result
@@ -79,7 +83,8 @@ module _ {Done : Type 0} (pairs : List Pair) (setup : Setup) (address : List ℕ
       }) ended
 
 -- a service of a server's setup and pairs is one of those that it was made of
-pub deriving_service : {Done : Type 0} (pairs : List Pair) (setup edge : Setup) (server : DerivingSetup) (address : List ℕ) (n quota : ℕ) (before after : WorldState) (result : Result Done WorldFault)
+pub deriving_service : {Done : Type 0} (pairs : List Pair) (setup edge : Setup) (server : DerivingSetup) (address : List ℕ) (n quota : ℕ)
+    (before after : WorldState) (result : Result Done WorldFault)
     → server ≡ record { setup = edge; pairs = pairs } → edge ≡ setup → n ≤ 64 → quota ≤ 4294967295
     → ((rules : Setup) (h : List GnapEntry) → Legal gnap rules h → length h ≤ 2 ^ 58 → WhatHolds rules h) → EndsWithItsTerm
     → serving.IsService gnap server.setup (IsDerivingSession server.pairs server.setup) address n quota before after result

@@ -20,7 +20,8 @@ use std::sync::Wait;
 use std::thread::Threads;
 use table_core::TableCore;
 
-/// Serves the authorization server of a setup, to which these pairs of it are known, at an address of the world, by 1 to 64 workers on threads of their own, each
+/// Serves the authorization server of a setup, to which these pairs of it are known, at an address of the world, by 1 to 64 workers on threads of their own,
+/// each
 /// for at most `quota` connections, and gives the workers' gears back to the world.
 ///
 /// `Ok` where all these connections came and were served. `Failed` where the address couldn't be listened at, or later no connection be accepted any more;

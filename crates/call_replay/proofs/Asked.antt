@@ -16,7 +16,8 @@ use Rattle.call_replay.specs.declared.call_lines.LineStep.TheVariants.{Ask}
 use Rattle.call_replay.specs.Asked.{IsAsked}
 
 -- a mark whose nonce has 1 to 64 bytes, and whose moment is in time
-pub mark_fits : (nonce : List ℕ) (created : ℕ) → has_nonce_length nonce ≡ true → created ≤ last_moment → MarkFits (Some (record { nonce = nonce; created = created }))
+pub mark_fits : (nonce : List ℕ) (created : ℕ) → has_nonce_length nonce ≡ true → created ≤ last_moment
+    → MarkFits (Some (record { nonce = nonce; created = created }))
 mark_fits nonce created sized in_time =
     let both = and_parts (nat_lt 0 (length nonce)) (nat_le (length nonce) longest_nonce) sized in
     (ltb-true 0 (length nonce) both.0, leb-true (length nonce) longest_nonce both.1, omega (arith, in_time))

@@ -36,7 +36,8 @@ filled_at : (front : List ℕ) → length front ≤ 48 → filled front ≡ Some
 filled_at front short = grind (arith, nat_tests)
 
 -- the words that were not given are 0
-pub filled_up : (words : List ℕ) (place : ℕ) → place ≤ 48 → length words ≡ 48 → drop place words ≡ replicate (48 - place) 0 → filled (take place words) ≡ Some words
+pub filled_up : (words : List ℕ) (place : ℕ) → place ≤ 48 → length words ≡ 48 → drop place words ≡ replicate (48 - place) 0
+    → filled (take place words) ≡ Some words
 filled_up words place within size rest =
     let front : length (take place words) ≡ place = length-take-le place words (omega (arith, size)) in
     filled_at (take place words) (omega (arith, front))
@@ -49,7 +50,8 @@ word_next words place word d ds within is =
     ap (λ w. words_from w ds) (ap (λ n. take n (set words place word)) (add-one place) ∙ take-suc-set words place word within)
     ∙ ap (option_and_then (λ w. words_from (take place words ++ w ∷ []) ds)) (sym is)
 
-pub rest_next : (words : List ℕ) (place word : ℕ) → place < 48 → drop place words ≡ replicate (48 - place) 0 → drop (place + 1) (set words place word) ≡ replicate (48 - (place + 1)) 0
+pub rest_next : (words : List ℕ) (place word : ℕ) → place < 48 → drop place words ≡ replicate (48 - place) 0
+    → drop (place + 1) (set words place word) ≡ replicate (48 - (place + 1)) 0
 rest_next words place word within rest =
     drop-set-lt (place + 1) words place word (omega arith)
     ∙ sym (drop-drop 1 place words) ∙ ap (drop 1) rest ∙ drop-replicate 1 (48 - place) 0 ∙ ap (λ n. replicate n 0) (omega arith)
@@ -63,7 +65,8 @@ view_next values i x within is =
 
 -- ---- the text of a line
 
-pub text_is : (setup : Setup) (number : ℕ) (line : List ℕ) (d : Data) → IsUtf8 line × (read line ≡ Some d) → text_step setup number line ≡ read_step setup number (Some d)
+pub text_is : (setup : Setup) (number : ℕ) (line : List ℕ) (d : Data) → IsUtf8 line × (read line ≡ Some d)
+    → text_step setup number line ≡ read_step setup number (Some d)
 text_is setup number line d h = rw (is_utf8-from_IsUtf8 line h.0) (ap (read_step setup number) h.1)
 
 none_at : (setup : Setup) (number : ℕ) (line : List ℕ) (b : Bool) → is_utf8 line ≡ b → (IsUtf8 line → read line ≡ None)

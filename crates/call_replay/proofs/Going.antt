@@ -49,7 +49,8 @@ had-next setup worker seen seen2 turns full o1 o2 result had answer = record {
 }
 
 pub replays-weaker : (setup : Setup) (worker : ℕ) (seen more : List GnapEntry → Type 0) (held : List ℕ) (taken taken2 : ℕ) (s s2 o o2 : Told) (ended : Ended)
-    → ((h : List GnapEntry) → seen h → more h) → Replays setup worker seen held taken taken2 s s2 o o2 ended → Replays setup worker more held taken taken2 s s2 o o2 ended
+    → ((h : List GnapEntry) → seen h → more h) → Replays setup worker seen held taken taken2 s s2 o o2 ended
+    → Replays setup worker more held taken taken2 s s2 o o2 ended
 replays-weaker setup worker seen more held taken taken2 s s2 o o2 ended weaker r =
     runs-weaker (Turns setup worker seen) (Turns setup worker more) EndsAs EndsAs held taken taken2 s s2 o o2 ended ended
     (λ turns had. record { each = had.each; history = had.history; seen_now = weaker had.history had.seen_now; own = had.own })

@@ -39,7 +39,8 @@ module _ (setup : Setup) (worker number : ℕ) (line : List ℕ) (seen : List Gn
   }
 
   with_one : (others : List GnapEntry) (e : GnapEntry) → NoneOf worker others → e.number ≡ worker → seen (h ++ others ++ e ∷ [])
-      → IsLineTurn setup number (record { message = line; moment = moment; entries = e ∷ []; bytes = bytes; on = on }) → AnswersLine setup worker number line seen h before after result
+      → IsLineTurn setup number (record { message = line; moment = moment; entries = e ∷ []; bytes = bytes; on = on })
+      → AnswersLine setup worker number line seen h before after result
   with_one others e not_mine mine seen_now is = record {
     turn = record { message = line; moment = moment; entries = e ∷ []; bytes = bytes; on = on };
     is_turn = is;
@@ -52,11 +53,13 @@ module _ (setup : Setup) (worker number : ℕ) (line : List ℕ) (seen : List Gn
   }
 
   pub with_entry : (rules : Setup) (draw : List ℕ) (signed : Signed) (reply : Reply) → (x : Enters gnap rules worker h moment draw signed reply seen)
-      → IsLineTurn setup number (record { message = line; moment = moment; entries = entry_of gnap rules (h ++ x.others) worker moment draw signed ∷ []; bytes = bytes; on = on })
+      → IsLineTurn setup number (record
+      { message = line; moment = moment; entries = entry_of gnap rules (h ++ x.others) worker moment draw signed ∷ []; bytes = bytes; on = on })
       → AnswersLine setup worker number line seen h before after result
   with_entry rules draw signed reply x is = with_one x.others (entry_of gnap rules (h ++ x.others) worker moment draw signed) x.not_mine refl x.seen_now is
 
   pub with_lapse : (rules : Setup) (draw : List ℕ) → (x : EntersLapse gnap rules worker h moment draw seen)
-      → IsLineTurn setup number (record { message = line; moment = moment; entries = entry_of gnap rules (h ++ x.others) worker moment draw unmarked_lapse ∷ []; bytes = bytes; on = on })
+      → IsLineTurn setup number (record
+      { message = line; moment = moment; entries = entry_of gnap rules (h ++ x.others) worker moment draw unmarked_lapse ∷ []; bytes = bytes; on = on })
       → AnswersLine setup worker number line seen h before after result
   with_lapse rules draw x is = with_one x.others (entry_of gnap rules (h ++ x.others) worker moment draw unmarked_lapse) x.not_mine refl x.seen_now is

@@ -162,7 +162,8 @@ fn call_step(
     requires sized { IfSome (option_copied fields.nonce) (λ n. has_nonce_length n ≡ true) }
     requires signed_in_time { IfSome fields.created (λ moment. moment ≤ last_moment) }
     requires readable { IsReadable body }
-    ensures step { IfOk result (λ s. s ≡ call_step setup.now fields.entry.at draw (line_mark fields.entry.at fields.entry.number (option_copied fields.entry.nonce) fields.entry.created)
+    ensures step { IfOk result (λ s. s
+        ≡ call_step setup.now fields.entry.at draw (line_mark fields.entry.at fields.entry.number (option_copied fields.entry.nonce) fields.entry.created)
         kind key.now presented.now (body_in body.entry)) }
     ensures asked { IfOk result IsAsked }
 {

@@ -106,7 +106,8 @@ pub(crate) fn mark_for(
     requires in_time { fields.at ≤ last_moment }
     requires sized { IfSome (option_copied fields.nonce) (λ n. has_nonce_length n ≡ true) }
     requires signed_in_time { IfSome fields.created (λ moment. moment ≤ last_moment) }
-    ensures mark { IfOk result (λ mark. mark ≡ mark_for kind (line_mark fields.entry.at fields.entry.number (option_copied fields.entry.nonce) fields.entry.created)) }
+    ensures mark { IfOk result (λ mark. mark
+        ≡ mark_for kind (line_mark fields.entry.at fields.entry.number (option_copied fields.entry.nonce) fields.entry.created)) }
     ensures fits { IfOk result MarkFits }
 {
     match kind {

@@ -26,7 +26,8 @@ adds_exchange request before after (Err link_faults.Failed) is = ap (λ (s : Lin
 adds_exchange request before after (Err link_faults.OutOfMemory) is = ap (λ (s : LinkState). s.asked) is ∙ sym (append-nil before.asked)
 
 pub bad_turn : (number : ℕ) (line text : List ℕ) (c : Client) (asked : List Exchange) (why : BadLine)
-    → line_step number line ≡ Err (LineFault.BadLine why) → text ≡ bad_line → HasScriptTurn number line c c asked asked (Some (record { text = text; fine = false }))
+    → line_step number line ≡ Err (LineFault.BadLine why) → text ≡ bad_line
+    → HasScriptTurn number line c c asked asked (Some (record { text = text; fine = false }))
 bad_turn number line text c asked why none is = rw is (record { at = 0; exchanges = []; turn = turns.bad line 0 c why none; adds = sym (append-nil asked) })
 
 pub starved_turn : (number : ℕ) (line : List ℕ) (c : Client) (asked : List Exchange) → HasScriptTurn number line c c asked asked None

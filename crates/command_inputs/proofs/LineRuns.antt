@@ -50,7 +50,8 @@ module _ {E : Type 0} where
     came_next bytes taken2 s2 came = came-more goes.bytes bytes taken taken1 taken2 s s1 s2 goes.came came.takes came.counted
 
     pub whole_next : (bytes : List ℕ) → held ++ (goes.bytes ++ bytes) ≡ ended_lines (messages_in goes.turns) ++ (held1 ++ bytes)
-    whole_next bytes = sym (append_assoc held goes.bytes bytes) ∙ ap (λ x. x ++ bytes) goes.parts ∙ append_assoc (ended_lines (messages_in goes.turns)) held1 bytes
+    whole_next bytes = sym (append_assoc held goes.bytes bytes) ∙ ap (λ x. x ++ bytes) goes.parts
+        ∙ append_assoc (ended_lines (messages_in goes.turns)) held1 bytes
 
     -- the lines of the whole are those that had their turns, and those of the rest
     lines_next : (bytes left : List ℕ) → lines_of (held ++ (goes.bytes ++ bytes) ++ left) ≡ messages_in goes.turns ++ lines_of (held1 ++ bytes ++ left)
@@ -66,7 +67,8 @@ module _ {E : Type 0} where
     module _ (bytes : List ℕ) (taken2 : ℕ) (s2 : Told) (came : Came bytes taken1 taken2 s1 s2) (o2 : Told) (out : o2 ≡ o1) where
       -- these lines are left
       stops_with : (Ends : Ended → List (Turn (List ℕ) E) → List (List ℕ) → List (List ℕ) → List ℕ → Type 0) (ended : Ended)
-          → ((rest : List ℕ) → IsRest s2 rest → Ends ended goes.turns (whole_lines (held ++ (goes.bytes ++ bytes))) (lines_of (held1 ++ bytes ++ rest)) (bytes_in goes.turns))
+          → ((rest : List ℕ) → IsRest s2 rest
+          → Ends ended goes.turns (whole_lines (held ++ (goes.bytes ++ bytes))) (lines_of (held1 ++ bytes ++ rest)) (bytes_in goes.turns))
           → RunsLines Had Ends held taken taken2 s s2 o o2 ended
       stops_with Ends ended ends = record {
         turns = goes.turns;
@@ -89,7 +91,8 @@ module _ {E : Type 0} where
           → RunsLines Had Ends held taken taken2 s s2 o o2 ended
       stops-behind Ends ended none end ends = stops_with Ends ended (λ rest known.
           let left : rest ≡ [] = none_left s2 rest known end in
-          let same : lines_of (held1 ++ bytes ++ rest) ≡ [] ∷ [] = ap (λ (x : List ℕ). lines_of (held1 ++ bytes ++ x)) left ∙ ap lines_of (append-nil (held1 ++ bytes) ∙ none) in
+          let same : lines_of (held1 ++ bytes ++ rest) ≡ [] ∷ [] = ap (λ (x : List ℕ). lines_of (held1 ++ bytes ++ x)) left
+          ∙ ap lines_of (append-nil (held1 ++ bytes) ∙ none) in
           subst (λ (ls : List (List ℕ)). Ends ended goes.turns (whole_lines (held ++ (goes.bytes ++ bytes))) ls (bytes_in goes.turns)) (sym same) ends)
 
       -- what was read of a line is no whole line
@@ -129,8 +132,12 @@ module _ {E : Type 0} where
         came = came_next bytes taken2 s2 came;
         sent = sent;
         prints = prints;
-        lines = λ rest known. let l = ends rest known in
-            (l.0, lines_next bytes rest ∙ ap (λ ls. messages_in goes.turns ++ ls) l.1 ∙ sym (append_assoc (messages_in goes.turns) (full ∷ []) l.0) ∙ ap (λ ms. ms ++ l.0) (sym messages_now), l.2);
+        lines = λ rest known. let l = ends rest known in (
+          l.0,
+          lines_next bytes rest ∙ ap (λ ls. messages_in goes.turns ++ ls) l.1 ∙ sym (append_assoc (messages_in goes.turns) (full ∷ []) l.0)
+              ∙ ap (λ ms. ms ++ l.0) (sym messages_now),
+          l.2,
+        );
       }
 
       pub out_on : Writes turn.bytes o1 o2 → Writes (bytes_in (goes.turns ++ turn ∷ [])) o o2
@@ -187,10 +194,12 @@ module _ {E : Type 0} where
       stops-starved Had held held taken taken s s o o (goes-start Had held taken s o had few) [] taken s (came-none taken s) o refl
 
   -- more is known of the turns, and of how they ended
-  pub runs-weaker : (Had More : List (Turn (List ℕ) E) → Type 0) (Ends Ended2 : Ended → List (Turn (List ℕ) E) → List (List ℕ) → List (List ℕ) → List ℕ → Type 0)
+  pub runs-weaker : (Had More : List (Turn (List ℕ) E) → Type 0)
+      (Ends Ended2 : Ended → List (Turn (List ℕ) E) → List (List ℕ) → List (List ℕ) → List ℕ → Type 0)
       (held : List ℕ) (taken taken2 : ℕ) (s s2 o o2 : Told) (ended ended2 : Ended)
       → ((turns : List (Turn (List ℕ) E)) → Had turns → More turns)
-      → ((turns : List (Turn (List ℕ) E)) (whole later : List (List ℕ)) (sent : List ℕ) → Ends ended turns whole later sent → Ended2 ended2 turns whole later sent)
+      → ((turns : List (Turn (List ℕ) E)) (whole later : List (List ℕ)) (sent : List ℕ) → Ends ended turns whole later sent
+      → Ended2 ended2 turns whole later sent)
       → RunsLines Had Ends held taken taken2 s s2 o o2 ended → RunsLines More Ended2 held taken taken2 s s2 o o2 ended2
   runs-weaker Had More Ends Ended2 held taken taken2 s s2 o o2 ended ended2 weaker ends r = record {
     turns = r.turns;

@@ -61,13 +61,16 @@ stopped_reads line_ends.Failed ended faults faults_then faults_now is same count
 stopped_reads line_ends.Memory ended faults faults_then faults_now is same counts =
     let at : Memory ≡ ended = cc in subst (λ (e : Ended). CountsReads e faults faults_now) at (counts ∙ same)
 
-pub stopped_writes : (end : LineEnd) (ended : Ended) (faults faults_now : ℕ) → stopped end ≡ Some ended → faults_now ≡ faults → CountsWrites ended faults faults_now
+pub stopped_writes : (end : LineEnd) (ended : Ended) (faults faults_now : ℕ) → stopped end ≡ Some ended → faults_now ≡ faults
+    → CountsWrites ended faults faults_now
 stopped_writes line_ends.Whole ended faults faults_now is same = absurd cc
 stopped_writes line_ends.Last ended faults faults_now is same = absurd cc
 stopped_writes line_ends.Long ended faults faults_now is same = absurd cc
 stopped_writes line_ends.Full ended faults faults_now is same = let at : TooLong ≡ ended = cc in subst (λ (e : Ended). CountsWrites e faults faults_now) at same
-stopped_writes line_ends.Failed ended faults faults_now is same = let at : Failed ≡ ended = cc in subst (λ (e : Ended). CountsWrites e faults faults_now) at same
-stopped_writes line_ends.Memory ended faults faults_now is same = let at : Memory ≡ ended = cc in subst (λ (e : Ended). CountsWrites e faults faults_now) at same
+stopped_writes line_ends.Failed ended faults faults_now is same = let at : Failed
+    ≡ ended = cc in subst (λ (e : Ended). CountsWrites e faults faults_now) at same
+stopped_writes line_ends.Memory ended faults faults_now is same = let at : Memory
+    ≡ ended = cc in subst (λ (e : Ended). CountsWrites e faults faults_now) at same
 
 pub stopped_at : (end : LineEnd) (ended : Ended) (taken : ℕ) (told : Told) → stopped end ≡ Some ended → CountsTaken end taken → EndsAt ended taken told
 stopped_at line_ends.Whole ended taken told is counts = absurd cc
@@ -106,7 +109,8 @@ module _ {E : Type 0} (Had : List (Turn (List ℕ) E) → Type 0) (held held1 : 
 -- ---- a line that came to its end
 
 module _ (limit : ℕ) (line held held2 : List ℕ) (taken taken2 : ℕ) (s s2 : Told) where
-  pub whole_parts : (end : LineEnd) → stopped end ≡ None → is_last end ≡ false → end ≢ line_ends.Long → (read : ReadsLine limit line held held2 taken taken2 s s2 end)
+  pub whole_parts : (end : LineEnd) → stopped end ≡ None → is_last end ≡ false → end ≢ line_ends.Long
+      → (read : ReadsLine limit line held held2 taken taken2 s s2 end)
       → held ++ read.bytes ≡ read.full ++ 10 ∷ held2
   whole_parts end none last short read = subst (λ (e : LineEnd). EndsBy e (held ++ read.bytes) read.full held2 s2) (is_whole end none last short) read.ends
 
@@ -117,8 +121,11 @@ module _ (limit : ℕ) (line held held2 : List ℕ) (taken taken2 : ℕ) (s s2 :
   -- other lines follow, or none
   pub line_later : (end : LineEnd) → stopped end ≡ None → end ≢ line_ends.Long → (read : ReadsLine limit line held held2 taken taken2 s s2 end)
       → (rest : List ℕ) → IsRest s2 rest → (later : List (List ℕ)) × (lines_of (held ++ read.bytes ++ rest) ≡ read.full ∷ later)
-  line_later line_ends.Whole none short read rest known =
-      (lines_of (held2 ++ rest), ap (λ x. lines_of (x ++ rest)) read.ends ∙ ap lines_of (append_assoc read.full (10 ∷ held2) rest) ∙ line_ended read.full (held2 ++ rest) read.is_line)
+  line_later line_ends.Whole none short read rest known = (
+    lines_of (held2 ++ rest),
+    ap (λ x. lines_of (x ++ rest)) read.ends ∙ ap lines_of (append_assoc read.full (10 ∷ held2) rest)
+        ∙ line_ended read.full (held2 ++ rest) read.is_line,
+  )
   line_later line_ends.Last none short read rest known = (
     [],
     ap (λ x. lines_of (held ++ read.bytes ++ x)) (none_left s2 rest known read.ends.2) ∙ ap lines_of (append-nil (held ++ read.bytes) ∙ read.ends.0)

@@ -85,11 +85,13 @@ module _ (limit : ℕ) (line held held_now : List ℕ) (taken taken_now : ℕ) (
     came = came-same gathers.bytes taken taken_now taken_next x y y gathers.came count refl;
     full = gathers.full ++ moves.part;
     is_kept = kept-more limit line grown gathers.full moves.part gathers.is_kept moves.is_line moves.grows;
-    parts = gathers.parts ∙ ap (λ h. gathers.full ++ h) moves.is_next.0 ∙ sym (append-nil (gathers.full ++ moves.part)) ∙ ap (λ h. gathers.full ++ moves.part ++ h) (sym moves.is_next.1);
+    parts = gathers.parts ∙ ap (λ h. gathers.full ++ h) moves.is_next.0 ∙ sym (append-nil (gathers.full ++ moves.part))
+        ∙ ap (λ h. gathers.full ++ moves.part ++ h) (sym moves.is_next.1);
   }
 
   -- memory ran out
-  pub reads-starved : (held_next grown : List ℕ) (taken_next : ℕ) (z : Told) → taken_next ≡ taken_now → z ≡ y → ReadsLine limit grown held held_next taken taken_next x z Memory
+  pub reads-starved : (held_next grown : List ℕ) (taken_next : ℕ) (z : Told) → taken_next ≡ taken_now → z ≡ y
+      → ReadsLine limit grown held held_next taken taken_next x z Memory
   reads-starved held_next grown taken_next z count told = record {
     bytes = gathers.bytes;
     came = came-same gathers.bytes taken taken_now taken_next x y z gathers.came count told;
@@ -125,29 +127,37 @@ module _ (limit : ℕ) (line held held_now : List ℕ) (taken taken_now : ℕ) (
 
   -- the line has no end yet
   pub reads-long : ReadsLine limit line held held_now taken taken_now x y Long
-  reads-long = record { bytes = gathers.bytes; came = gathers.came; full = gathers.full; is_line = gathers.is_kept.is_line; kept = λ _. gathers.is_kept.kept; ends = gathers.parts }
+  reads-long = record {
+    bytes = gathers.bytes;
+    came = gathers.came;
+    full = gathers.full;
+    is_line = gathers.is_kept.is_line;
+    kept = λ _. gathers.is_kept.kept;
+    ends = gathers.parts;
+  }
 
   -- it was read no further: all that was read is of the line
-  module _ (held_next : List ℕ) (taken_next : ℕ) (z : Told) (none : held_now ≡ []) (held_is : held_next ≡ []) (count : taken_next ≡ taken_now) (told : z ≡ y) where
-    cut_off : (held ++ gathers.bytes ≡ gathers.full) × (held_next ≡ [])
-    cut_off = (gathers.parts ∙ ap (λ h. gathers.full ++ h) none ∙ append-nil gathers.full, held_is)
+  module _ (held_next : List ℕ) (taken_next : ℕ) (z : Told) (none : held_now ≡ []) (held_is : held_next ≡ []) (count : taken_next ≡ taken_now) (told : z ≡ y)
+    where
+      cut_off : (held ++ gathers.bytes ≡ gathers.full) × (held_next ≡ [])
+      cut_off = (gathers.parts ∙ ap (λ h. gathers.full ++ h) none ∙ append-nil gathers.full, held_is)
 
-    pub reads-full : ReadsLine limit line held held_next taken taken_next x z Full
-    reads-full = record {
-      bytes = gathers.bytes;
-      came = came-same gathers.bytes taken taken_now taken_next x y z gathers.came count told;
-      full = gathers.full;
-      is_line = gathers.is_kept.is_line;
-      kept = λ _. gathers.is_kept.kept;
-      ends = cut_off;
-    }
+      pub reads-full : ReadsLine limit line held held_next taken taken_next x z Full
+      reads-full = record {
+        bytes = gathers.bytes;
+        came = came-same gathers.bytes taken taken_now taken_next x y z gathers.came count told;
+        full = gathers.full;
+        is_line = gathers.is_kept.is_line;
+        kept = λ _. gathers.is_kept.kept;
+        ends = cut_off;
+      }
 
-    pub reads-failed : ReadsLine limit line held held_next taken taken_next x z Failed
-    reads-failed = record {
-      bytes = gathers.bytes;
-      came = came-same gathers.bytes taken taken_now taken_next x y z gathers.came count told;
-      full = gathers.full;
-      is_line = gathers.is_kept.is_line;
-      kept = λ _. gathers.is_kept.kept;
-      ends = cut_off;
-    }
+      pub reads-failed : ReadsLine limit line held held_next taken taken_next x z Failed
+      reads-failed = record {
+        bytes = gathers.bytes;
+        came = came-same gathers.bytes taken taken_now taken_next x y z gathers.came count told;
+        full = gathers.full;
+        is_line = gathers.is_kept.is_line;
+        kept = λ _. gathers.is_kept.kept;
+        ends = cut_off;
+      }

@@ -19,7 +19,8 @@ pub record ComesNone (old new : LineReader) : Type 0 where
 
 abbrev pub Refills : Refill → Told → Told → ℕ → ℕ → LineReader → LineReader → Type 0
 Refills More before after faults faults_now old new = Comes before after old new × (faults_now ≡ faults)
-Refills End before after faults faults_now old new = Takes [] before after × IsAtEnd after × ComesNone old new × (faults_now ≡ faults) × (old.taken < 1073741824)
+Refills End before after faults faults_now old new = Takes [] before after × IsAtEnd after × ComesNone old new × (faults_now ≡ faults)
+    × (old.taken < 1073741824)
 Refills Full before after faults faults_now old new = (after ≡ before) × ComesNone old new × (faults_now ≡ faults) × (old.taken ≡ 1073741824)
 Refills Failed before after faults faults_now old new = (after ≡ before) × ComesNone old new × Rose faults faults_now × (old.taken < 1073741824)
 Refills Memory before after faults faults_now old new = (after ≡ before) × ComesNone old new × (faults_now ≡ faults)

@@ -75,7 +75,8 @@ faults = by_count (λ count. (words : List Text) → Faults count words (fault_o
 
 -- the values of the arguments are the words, in order
 abbrev pub Values : ℕ → List Text → Type 0
-Values count words = length words ≡ count → (place : ℕ) → place < count → first_of (name_of place) (matches_of (taking count) (after_dashes words)) ≡ slice_get words place
+Values count words = length words ≡ count → (place : ℕ) → place < count
+    → first_of (name_of place) (matches_of (taking count) (after_dashes words)) ≡ slice_get words place
 
 values1 : (words : List Text) → Values 1 words
 unfolding clap_on_literals

@@ -74,7 +74,8 @@ taken (Some own) m count least most words has is =
 taken None m count least most words has is = cc
 
 -- the values of the arguments before a place, and one more
-pub one_more : (found : Found) (words : List Text) → HasValues found words → (place : ℕ) → place < length words → (value : Text) → Some value ≡ first_value found (name_of place)
+pub one_more : (found : Found) (words : List Text) → HasValues found words → (place : ℕ) → place < length words → (value : Text)
+    → Some value ≡ first_value found (name_of place)
     → take place words ++ value ∷ [] ≡ take (place + 1) words
 one_more found words has place below value is =
     let here = is ∙ has place below ∙ slice_get-get_or words place [] below in

@@ -128,7 +128,8 @@ same_none false = refl
 
 -- four words of which this is served
 module _ (service : Service) (words : List (List ℕ)) (a b c d : List ℕ) (are : words ≡ a ∷ b ∷ c ∷ d ∷ []) where
-  pub service_wrong : (fault : WrongWords) → AreWrong fault (a ∷ b ∷ c ∷ d ∷ []) (served_setup a b c d) → AreWrong fault words (with_four (service_words service) words)
+  pub service_wrong : (fault : WrongWords) → AreWrong fault (a ∷ b ∷ c ∷ d ∷ []) (served_setup a b c d)
+      → AreWrong fault words (with_four (service_words service) words)
   service_wrong fault wrong = subst (λ ws. AreWrong fault ws (with_four (service_words service) ws)) (sym are)
       (still_wrong (option_map (Serve service)) refl fault (a ∷ b ∷ c ∷ d ∷ []) (served_setup a b c d) wrong)
 
@@ -140,7 +141,8 @@ module _ (words : List (List ℕ)) (a b c d e : List ℕ) (are : words ≡ a ∷
   abbrev with_pairs : Option ServedSetup → Option Command
   with_pairs served = if is_argument e then option_map (Serve (Derivations e)) served else None
 
-  pub deriving_wrong : (fault : WrongWords) → AreWrong fault (a ∷ b ∷ c ∷ d ∷ e ∷ []) (served_setup a b c d) → AreWrong fault words (with_five deriving_words words)
+  pub deriving_wrong : (fault : WrongWords) → AreWrong fault (a ∷ b ∷ c ∷ d ∷ e ∷ []) (served_setup a b c d)
+      → AreWrong fault words (with_five deriving_words words)
   deriving_wrong fault wrong = subst (λ ws. AreWrong fault ws (with_five deriving_words ws)) (sym are)
       (still_wrong with_pairs (same_none (is_argument e)) fault (a ∷ b ∷ c ∷ d ∷ e ∷ []) (served_setup a b c d) wrong)
 

@@ -109,7 +109,8 @@ rs_words config listen server quota =
 abbrev pub cached_rs_words : List ℕ → List ℕ → List ℕ → List ℕ → List ℕ → Option Command
 cached_rs_words config listen server quota cache =
     if are_arguments (config ∷ listen ∷ server ∷ [])
-    then option_and_then (λ most. option_map (λ n. Rs config listen server most (Some n)) (number_within 1 16384 cache)) (number_within 0 1000000 quota) else None
+    then option_and_then (λ most. option_map (λ n. Rs config listen server most (Some n)) (number_within 1 16384 cache)) (number_within 0 1000000 quota)
+    else None
 
 -- four words, or five
 abbrev pub rs_of : List (List ℕ) → Option Command
@@ -125,7 +126,8 @@ long_method word = if bytes_eq word (codes "sha-256") then Some false else if by
 abbrev pub hash_words : List ℕ → List ℕ → List ℕ → List ℕ → List ℕ → Option Command
 hash_words method client server reference uri =
     if are_arguments (client ∷ server ∷ reference ∷ uri ∷ [])
-    then option_map (λ long. Hash (record { long = long; client_nonce = client; server_nonce = server; reference = reference; endpoint = uri })) (long_method method)
+    then option_map (λ long. Hash (record { long = long; client_nonce = client; server_nonce = server; reference = reference; endpoint = uri }))
+    (long_method method)
     else None
 
 abbrev pub hash_of : List (List ℕ) → Option Command

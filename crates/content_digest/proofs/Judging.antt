@@ -60,7 +60,8 @@ module _ (body : List ℕ) (e : Entry) where
   right_of : has_right_kind e ≡ true → difference body e ≡ None → IsRight body e
   right_of kind none = by (digest_by e.0 body) refl (sequence_of e.1) refl none
     where
-      by : (w : Option (List ℕ)) → digest_by e.0 body ≡ w → (f : Option (List ℕ)) → sequence_of e.1 ≡ f → compared w f ≡ None → IfSome w (λ wanted. f ≡ Some wanted)
+      by : (w : Option (List ℕ)) → digest_by e.0 body ≡ w → (f : Option (List ℕ)) → sequence_of e.1 ≡ f → compared w f ≡ None
+          → IfSome w (λ wanted. f ≡ Some wanted)
       by None p f q h = tt
       by (Some wanted) p None q h =
           let known = known_digest e.0 body wanted p in
@@ -105,10 +106,15 @@ module _ (body : List ℕ) (e : Entry) where
               let pair : Pair = (wanted, found) in let same : pair ≡ p = cc in
               subst Other same (record { wants = a; finds = b; differ = unequal wanted found t })
 
-  difference_of : (wanted found : List ℕ) → digest_by e.0 body ≡ Some wanted → sequence_of e.1 ≡ Some found → wanted ≢ found → difference body e ≡ Some (wanted, found)
+  difference_of : (wanted found : List ℕ) → digest_by e.0 body ≡ Some wanted → sequence_of e.1 ≡ Some found → wanted ≢ found
+      → difference body e ≡ Some (wanted, found)
   difference_of wanted found a b differ = rw (a, b, differs_eq wanted found differ) refl
 
 -- ---- entries
+
+-- a lemma of its own, so that no digest is computed for it
+some_no_none : (q : Pair) → Some q ≡ None → ⊥
+some_no_none q h = cc
 
 module _ (body : List ℕ) where
   all_right : (d : List Entry) → are_sequences d ≡ true → first_difference body d ≡ None → AllByRecursion (IsRight body) d
@@ -117,9 +123,10 @@ module _ (body : List ℕ) where
       let k = and_parts (has_right_kind e) (are_sequences d) kind in
       by (difference body e) refl none (λ h. all_right d k.1 h)
     where
-      by : (o : Option Pair) → difference body e ≡ o → or_some o (first_difference body d) ≡ None → (first_difference body d ≡ None → AllByRecursion (IsRight body) d) → IsRight body e × AllByRecursion (IsRight body) d
+      by : (o : Option Pair) → difference body e ≡ o → or_some o (first_difference body d) ≡ None
+          → (first_difference body d ≡ None → AllByRecursion (IsRight body) d) → IsRight body e × AllByRecursion (IsRight body) d
       by None p h again = (right_of body e (and_parts (has_right_kind e) (are_sequences d) kind).0 p, again h)
-      by (Some q) p h again = absurd cc
+      by (Some q) p h again = absurd (some_no_none q h)
 
   none_differs : (d : List Entry) → AllByRecursion (IsRight body) d → first_difference body d ≡ None
   none_differs [] all = refl
@@ -143,13 +150,23 @@ module _ (body : List ℕ) where
       let k = and_parts (has_right_kind e) (are_sequences d) kind in
       by (difference body e) refl h (λ h. split_of p d k.1 h)
     where
-      by : (o : Option Pair) → difference body e ≡ o → or_some o (first_difference body d) ≡ Some p → (first_difference body d ≡ Some p → SplitAt p d) → SplitAt p (e ∷ d)
+      by : (o : Option Pair) → difference body e ≡ o → or_some o (first_difference body d) ≡ Some p → (first_difference body d ≡ Some p → SplitAt p d)
+          → SplitAt p (e ∷ d)
       by None q h again =
           let s = again h in
-          record { before = e ∷ s.before; at = s.at; after = s.after; split = ap (λ (r : List Entry). e ∷ r) s.split; right = (right_of body e (and_parts (has_right_kind e) (are_sequences d) kind).0 q, s.right); other = s.other }
+          record {
+            before = e ∷ s.before;
+            at = s.at;
+            after = s.after;
+            split = ap (λ (r : List Entry). e ∷ r) s.split;
+            right =
+                (right_of body e (and_parts (has_right_kind e) (are_sequences d) kind).0 q, s.right);
+            other = s.other;
+          }
       by (Some r) q h again = record { before = []; at = e; after = d; split = refl; right = tt; other = other_of body e p (q ∙ h) }
 
-  differs_behind : (p : Pair) (before : List Entry) (e : Entry) (after : List Entry) → AllByRecursion (IsRight body) before → difference body e ≡ Some p → first_difference body (before ++ e ∷ after) ≡ Some p
+  differs_behind : (p : Pair) (before : List Entry) (e : Entry) (after : List Entry) → AllByRecursion (IsRight body) before → difference body e ≡ Some p
+      → first_difference body (before ++ e ∷ after) ≡ Some p
   differs_behind p [] e after right h = rw h refl
   differs_behind p (b ∷ before) e after right h = rw (right_none body b right.0) (differs_behind p before e after right.1 h)
 
@@ -183,7 +200,21 @@ judged_says field body d is = by (are_sequences d) refl (has_known d) refl (firs
     by true p true q None r = record { dictionary = d; is = is; all = all_right body d p r; some = q }
     by true p true q (Some pair) r =
         let s = split_of body pair d p r in
-        record { dictionary = d; is = is; all = p; before = s.before; name = s.at.0; member = s.at.1; after = s.after; split = s.split; right = s.right; wants = s.other.wants; finds = s.other.finds; differ = s.other.differ }
+        record {
+          dictionary = d;
+          is = is;
+          all = p;
+          before = s.before;
+          name = s.at.0;
+          member = s.at.1;
+          after = s.after;
+          split = s.split;
+          right = s.right;
+          wants =
+              s.other.wants;
+          finds = s.other.finds;
+          differ = s.other.differ;
+        }
 
 pub checked_says : (field body : List ℕ) → IsBytes field → Says field body (checked field body)
 unfolding checked
@@ -211,7 +242,8 @@ says_checked field body (Err NoKnown) fits s =
 says_checked field body (Err (Differs wanted found)) fits s =
     let at : Entry = (s.name, s.member) in
     let known : has_known s.dictionary ≡ true = ap has_known s.split ∙ known_behind s.before at s.after (known_digest s.name body wanted s.wants) in
-    let other : first_difference body s.dictionary ≡ Some (wanted, found) = ap (first_difference body) s.split ∙ differs_behind body (wanted, found) s.before at s.after s.right (difference_of body at wanted found s.wants s.finds s.differ) in
+    let other : first_difference body s.dictionary ≡ Some (wanted, found) = ap (first_difference body) s.split
+    ∙ differs_behind body (wanted, found) s.before at s.after s.right (difference_of body at wanted found s.wants s.finds s.differ) in
     read_as field body s.dictionary s.is ∙ rw (s.all, known, other) refl
 says_checked field body (Err NotAField) fits (inl none) = by (dictionary_of field) refl
   where
@@ -223,7 +255,8 @@ says_checked field body (Err OutOfMemory) fits s = absurd s
 
 -- ---- the code's answer
 
-pub answer_says : (field body : List ℕ) (r : Result (Unit {0}) DigestFault) → IsBytes field → Gives r (checked field body) → r ≢ Err OutOfMemory → Says field body r
+pub answer_says : (field body : List ℕ) (r : Result (Unit {0}) DigestFault) → IsBytes field → Gives r (checked field body) → r ≢ Err OutOfMemory
+    → Says field body r
 answer_says field body (Ok u) fits g apart = subst (Says field body) g (checked_says field body fits)
 answer_says field body (Err NotAField) fits g apart = subst (Says field body) g (checked_says field body fits)
 answer_says field body (Err NoKnown) fits g apart = subst (Says field body) g (checked_says field body fits)

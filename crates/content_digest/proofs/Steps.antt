@@ -42,7 +42,8 @@ module _ (body : List ℕ) (d : List (List ℕ × Member)) (i : ℕ) (e : List �
   pub differ_stop : (r : DigestFault) → Gives (Err r) (answer_to (difference body e)) → Gives (Err r) (answer_to total)
   differ_stop r h = by (difference body e) h here
     where
-      by : (o : Option (List ℕ × List ℕ)) → Gives (Err r) (answer_to o) → or_some o (first_difference body (drop (i + 1) d)) ≡ total → Gives (Err r) (answer_to total)
+      by : (o : Option (List ℕ × List ℕ)) → Gives (Err r) (answer_to o) → or_some o (first_difference body (drop (i + 1) d)) ≡ total
+          → Gives (Err r) (answer_to total)
       by (Some p) h k = subst (λ (o : Option (List ℕ × List ℕ)). Gives (Err r) (answer_to o)) k h
       by None h k = never r h
         where

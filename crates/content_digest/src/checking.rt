@@ -125,7 +125,8 @@ fn judge_field(alloc: Global, field: &[u8], body: &[u8]) -> Result<(), DigestFau
     }
 }
 
-/// Whether a Content-Digest field is of the body: Ok exactly where each member under `sha-256` and `sha-512` is the digest of the body, and one at least is there. Members under other names, and parameters, are passed over. The faults come in the order NotAField, NoKnown, Differs.
+/// Whether a Content-Digest field is of the body: Ok exactly where each member under `sha-256` and `sha-512` is the digest of the body, and one at least is
+/// there. Members under other names, and parameters, are passed over. The faults come in the order NotAField, NoKnown, Differs.
 pub fn check(alloc: Global, field: &[u8], body: &[u8]) -> Result<(), DigestFault>
     // What is answered is so.
     ensures says { result ≢ Err OutOfMemory → Says field.now body.now result }

@@ -1,4 +1,5 @@
--- Requests for derived tokens (RFC 9767, section 4): a grant request of a pair's client presents a token, the parent, from which the one that it asks for is to be
+-- Requests for derived tokens (RFC 9767, section 4): a grant request of a pair's client presents a token, the parent, from which the one that it asks for is to
+-- be
 -- derived.
 use Rattle.std.specs.Prelude.{◌≡◌, ◌≢◌, ℕ, List, length, nat_lt, Option, Some, None, option_and_then, if◌then◌else◌, codes}
 use Rattle.std.specs.Result.{result_ok}

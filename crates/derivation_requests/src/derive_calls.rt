@@ -106,8 +106,10 @@ fn server_of<'p>(pairs: &'p Pairs, call: &Call) -> Option<&'p Bytes>
     pairs.server_of(beginner(call)?.as_slice())
 }
 
-/// What the message asks at this moment, in seconds since 1970, where these pairs are known: what `as_requests::desk_call` answers, but for a grant request of a
-/// pair's client. Where its member `existing_access_token` is a string of at most 64 bytes, it is `Derive` with that string, the pair's server and the request; else
+/// What the message asks at this moment, in seconds since 1970, where these pairs are known: what `as_requests::desk_call` answers, but for a grant request of
+/// a
+/// pair's client. Where its member `existing_access_token` is a string of at most 64 bytes, it is `Derive` with that string, the pair's server and the request;
+/// else
 /// the answer is `invalid_request`. The body is read a second time then. Err only where memory ran out, and nothing is changed then.
 #[tactic(auto, unfolding(crate::specs::Deriving::derive_call))]
 pub fn derive_call(

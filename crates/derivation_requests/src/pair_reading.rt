@@ -126,8 +126,10 @@ fn pairs_of(alloc: Global, text: &[u8], setup: &Setup) -> Result<Pairs, SetupFau
 ///
 /// They are a JSON object with exactly the member `pairs`, an array of 1 to 256 objects with exactly the members `client`, the id of a client's key, which no
 /// other pair has, and `server`, the id of a server's. The members are read in this order, and the first fault is named, as one of the setup itself
-/// (`SetupFault::InSetup`): an id that the setup doesn't have or that has another role is `Wrong`, and so is a client that an earlier pair has; a member with another
-/// name comes after all others of its object, and how many pairs there are after them. Takes time that grows with the length of the bytes, times the logarithm of
+/// (`SetupFault::InSetup`): an id that the setup doesn't have or that has another role is `Wrong`, and so is a client that an earlier pair has; a member with
+/// another
+/// name comes after all others of its object, and how many pairs there are after them. Takes time that grows with the length of the bytes, times the logarithm
+/// of
 /// the number of keys.
 pub fn read_pairs(alloc: Global, text: &[u8], setup: &Setup) -> Result<Pairs, SetupFault>
     ensures value { Gives OutOfMemory (λ p. p) result (pairs_of setup.now text.now) }

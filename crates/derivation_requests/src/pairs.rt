@@ -8,7 +8,8 @@ use std::alloc::Global;
 use std::marker::Model;
 use structured_fields::Named;
 
-/// The ids of client keys, each once, with the id of the resource server that uses the key. Contracts see the list of both ids, in the order in which they came.
+/// The ids of client keys, each once, with the id of the resource server that uses the key. Contracts see the list of both ids, in the order in which they
+/// came.
 #[derive(Drop)]
 pub struct Pairs {
     servers: Named<Bytes>,

@@ -52,13 +52,15 @@ asked_unpaired : (pairs : List Pair) (m : Message) (step : RequestStep) (asked :
 asked_unpaired pairs m (Direct answer) asked key server is begins paired = absurd cc
 asked_unpaired pairs m (Ask call) asked key server is begins paired = unpaired pairs m.body call asked key server _ is refl begins paired
 
-plain_unpaired : (pairs : List Pair) (setup : Setup) (m : Message) (moment : ℕ) (asked : Signed) (key server : Text) → derive_call pairs setup m moment ≡ Plain (Ask asked)
+plain_unpaired : (pairs : List Pair) (setup : Setup) (m : Message) (moment : ℕ) (asked : Signed) (key server : Text)
+    → derive_call pairs setup m moment ≡ Plain (Ask asked)
     → beginner asked.call ≡ Some key → server_of pairs key ≡ Some server → ⊥
 unfolding derive_call
 plain_unpaired pairs setup m moment asked key server is begins paired = asked_unpaired pairs m (desk_call setup m moment) asked key server is begins paired
 
 -- the server that asks for the parent is that of the client's pair
-asked_by : (pairs : List Pair) (body : List ℕ) (call begin : Signed) (parent server : Text) (found : Option Text) → by_server body call found ≡ Derive parent server begin
+asked_by : (pairs : List Pair) (body : List ℕ) (call begin : Signed) (parent server : Text) (found : Option Text)
+    → by_server body call found ≡ Derive parent server begin
     → (found ≡ Some server) × (call ≡ begin)
 asked_by pairs body call begin parent server None is = absurd cc
 asked_by pairs body call begin parent server (Some asker) is = by (parent_of body) is
@@ -67,14 +69,16 @@ asked_by pairs body call begin parent server (Some asker) is = by (parent_of bod
     by None is = absurd cc
     by (Some p) is = (cc, cc)
 
-step_paired : (pairs : List Pair) (m : Message) (step : RequestStep) (begin : Signed) (parent server : Text) → derive_step pairs m step ≡ Derive parent server begin
+step_paired : (pairs : List Pair) (m : Message) (step : RequestStep) (begin : Signed) (parent server : Text)
+    → derive_step pairs m step ≡ Derive parent server begin
     → option_and_then (server_of pairs) (beginner begin.call) ≡ Some server
 step_paired pairs m (Direct answer) begin parent server is = absurd cc
 step_paired pairs m (Ask call) begin parent server is =
     let both = asked_by pairs m.body call begin parent server _ is in
     sym (ap (λ (s : Signed). option_and_then (server_of pairs) (beginner s.call)) both.1) ∙ both.0
 
-derive_paired : (pairs : List Pair) (setup : Setup) (m : Message) (moment : ℕ) (begin : Signed) (parent server : Text) → derive_call pairs setup m moment ≡ Derive parent server begin
+derive_paired : (pairs : List Pair) (setup : Setup) (m : Message) (moment : ℕ) (begin : Signed) (parent server : Text)
+    → derive_call pairs setup m moment ≡ Derive parent server begin
     → option_and_then (server_of pairs) (beginner begin.call) ≡ Some server
 unfolding derive_call
 derive_paired pairs setup m moment begin parent server is = step_paired pairs m (desk_call setup m moment) begin parent server is
@@ -97,15 +101,18 @@ module _ (pairs : List Pair) where
   ended_by end call key request not_after is = absurd cc
 
   module _ (setup : Setup) where
-    asked_derived : (before : Option GnapEntry) (m : Message) (e : GnapEntry) → derive_call pairs setup m e.moment ≡ Plain (Ask e.call) → IsDerived pairs before e
+    asked_derived : (before : Option GnapEntry) (m : Message) (e : GnapEntry) → derive_call pairs setup m e.moment ≡ Plain (Ask e.call)
+        → IsDerived pairs before e
     asked_derived before m e is key server request not_after begins paired =
         absurd (plain_unpaired pairs setup m e.moment e.call key server is (ap beginner begins) paired)
 
-    begun_derived : (m : Message) (begin : Signed) (e f : GnapEntry) (end : ℕ) → GoesOnWith pairs setup m begin e f end → f.call ≡ ending end begin → IsDerived pairs (Some e) f
+    begun_derived : (m : Message) (begin : Signed) (e f : GnapEntry) (end : ℕ) → GoesOnWith pairs setup m begin e f end → f.call ≡ ending end begin
+        → IsDerived pairs (Some e) f
     begun_derived m begin e f end on is key server request not_after begins paired =
         let asks = on.parent in
         let both = ended_by end begin.call key request not_after (sym (ap (λ (s : Signed). s.call) is) ∙ begins) in
-        let asker : Some server ≡ Some asks.server = sym paired ∙ sym (ap (option_and_then (server_of pairs)) both.0) ∙ derive_paired pairs setup m e.moment begin asks.parent asks.server asks.step in
+        let asker : Some server ≡ Some asks.server = sym paired ∙ sym (ap (option_and_then (server_of pairs)) both.0)
+        ∙ derive_paired pairs setup m e.moment begin asks.parent asks.server asks.step in
         let same : asks.server ≡ server = cc asker in
         (e, end, refl, record { parent = asks.parent; asked = asks.asked ∙ ap (λ s. question s asks.parent) same; told = on.live }, both.1)
 
@@ -148,7 +155,8 @@ module _ (pairs : List Pair) where
   more before (e ∷ es) fs first second = (first.0, more (Some e) es fs first.1 second)
 
   module _ (setup : Setup) where
-    turns_derived : (place : ℕ) (turns : List (Turn Message GnapEntry)) → AreTurns edge_wire (IsDerivingTurn pairs setup) place turns → AreDerived pairs (entries_in turns)
+    turns_derived : (place : ℕ) (turns : List (Turn Message GnapEntry)) → AreTurns edge_wire (IsDerivingTurn pairs setup) place turns
+        → AreDerived pairs (entries_in turns)
     turns_derived place [] each = tt
     turns_derived place (t ∷ ts) each =
         more None t.entries (entries_in ts) (turn_derived setup (is_closing edge_wire place t.message) t each.0) (turns_derived (suc place) ts each.1)
@@ -197,5 +205,6 @@ module _ (pairs : List Pair) where
     history_derived gears one number = elim (cases_lt number (length gears)) [
       | inl few ↦ let at : 0 + number ≡ number = omega arith in
           subst (λ n. AreDerived pairs (own_of n one.history)) at (meeting_derived 0 gears one.history one.each number few)
-      | inr many ↦ subst (AreDerived pairs) (sym (none_above (length gears) number one.history (subst (λ n. Below n one.history) (as_many gears) one.numbers) many)) tt
+      | inr many ↦ subst (AreDerived pairs)
+          (sym (none_above (length gears) number one.history (subst (λ n. Below n one.history) (as_many gears) one.numbers) many)) tt
     ]

@@ -63,7 +63,8 @@ noted supply (ModifyAtOnce o consent ts request) = granted (IsOpenedBy (ModifyAt
     (retire ts ++ Terms (terms_for o request) ∷ Approved o.grant consent ∷ []) request.asks request.single None None
     (retired (ModifyAtOnce o consent ts request) ts (Terms (terms_for o request) ∷ Approved o.grant consent ∷ []) (tt, (tt, tt)))
 noted supply (ModifyAsking o ts request modes) =
-    each-append (IsOpenedBy (ModifyAsking o ts request modes)) (retire ts ++ Terms (terms_for o request) ∷ []) (door_note supply o 0 ∷ Pended (round_for supply o modes) ∷ [])
+    each-append (IsOpenedBy (ModifyAsking o ts request modes)) (retire ts ++ Terms (terms_for o request) ∷ [])
+    (door_note supply o 0 ∷ Pended (round_for supply o modes) ∷ [])
     (retired (ModifyAsking o ts request modes) ts (Terms (terms_for o request) ∷ []) (tt, tt)) (tt, (tt, tt))
 noted supply (CancelGrant o) = (tt, tt)
 noted supply (RotateToken o t key) = (tt, (tt, tt))
@@ -75,7 +76,8 @@ pub opened_by : (supply : Supply) (action : Action) (p : OpeningNote) → HasNot
 opened_by supply action p has = each_of (IsOpenedBy action) (outcome_of supply action).notes (Opened p) (noted supply action) has
 
 -- a new grant has the next number
-opens_next : (trail : List Note) (now : ℕ) (call : Call) (action : Action) (p : OpeningNote) → Cause trail now call action → Opens action p → p.grant ≡ next_grant trail
+opens_next : (trail : List Note) (now : ℕ) (call : Call) (action : Action) (p : OpeningNote) → Cause trail now call action → Opens action p
+    → p.grant ≡ next_grant trail
 opens_next trail now call (OpenAtOnce o request) p why is = ap (λ (x : OpeningNote). x.grant) is ∙ why.2
 opens_next trail now call (OpenAsking o request modes) p why is = ap (λ (x : OpeningNote). x.grant) is ∙ why.2
 opens_next trail now call _ p why is = absurd is
@@ -112,7 +114,8 @@ opened_once rules (e ∷ past) legal p q hp hq same =
 
     of_new : (o : OpeningNote) → HasNote (reverse e.notes) (Opened o) → Opens why.action o
     of_new o has = each_of (IsOpenedBy why.action) (reverse e.notes) (Opened o)
-        (each-reverse (IsOpenedBy why.action) e.notes (subst (EachNote (IsOpenedBy why.action)) (sym why.notes) (noted (supply_at past e.moment e.draw) why.action))) has
+        (each-reverse (IsOpenedBy why.action) e.notes
+        (subst (EachNote (IsOpenedBy why.action)) (sym why.notes) (noted (supply_at past e.moment e.draw) why.action))) has
 
     next_of : (o : OpeningNote) → HasNote (reverse e.notes) (Opened o) → o.grant ≡ next_grant trail
     next_of o has = opens_next trail (supply_at past e.moment e.draw).now e.call why.action o why.cause (of_new o has)
@@ -129,9 +132,11 @@ asking_ends : (end : ℕ) (o : OpeningNote) (request : GrantRequest) (modes : Op
 asking_ends end o request None few = λ p is. absurd is
 asking_ends end o request (Some modes) few = λ p is. subst (λ (x : OpeningNote). x.end ≤ end) (sym is) few
 
-begin_by_ends : (s : Settled) (trail : List Note) (now end : ℕ) (o : OpeningNote) (request : GrantRequest) → o.end ≤ end → EndsBy end (begin_by s trail now o request)
+begin_by_ends : (s : Settled) (trail : List Note) (now end : ℕ) (o : OpeningNote) (request : GrantRequest) → o.end ≤ end
+    → EndsBy end (begin_by s trail now o request)
 begin_by_ends Never trail now end o request few = λ p is. absurd is
-begin_by_ends AtOnce trail now end o request few = if_both (EndsBy end) (pass_limit (live_tokens trail now) (length request.asks)) (Refuse RequestDenied) (OpenAtOnce o request)
+begin_by_ends AtOnce trail now end o request few = if_both (EndsBy end) (pass_limit (live_tokens trail now) (length request.asks)) (Refuse RequestDenied)
+    (OpenAtOnce o request)
     (λ p is. absurd is) (λ p is. subst (λ (x : OpeningNote). x.end ≤ end) (sym is) few)
 begin_by_ends ByAsking trail now end o request few = asking_ends end o request request.modes few
 

@@ -60,7 +60,8 @@ record IsLive (trail : List Note) (now : ℕ) (value : Text) : Type 0 where
   same : token.value ≡ value
   live : is_live trail now token ≡ true
 
-suited : (names : List Text) (binding : Option Binding) (wanted : Option (List Right)) (found : Option TokenNote) → token_suits names binding wanted found ≡ true
+suited : (names : List Text) (binding : Option Binding) (wanted : Option (List Right)) (found : Option TokenNote)
+    → token_suits names binding wanted found ≡ true
     → (t : TokenNote) × (found ≡ Some t)
 suited names binding wanted None is = absurd cc
 suited names binding wanted (Some t) is = (t, refl)
@@ -92,13 +93,15 @@ approved_before_end : (trail : List Note) (grant now : ℕ) (o : OpeningNote) �
     → is_approved (grant_state trail grant now) ≡ true → now < o.end
 approved_before_end trail grant now o found approved =
     before_end now o.end (sym (ap (λ x. has_ended x now) found)
-    ∙ not_ended (list_any (is_end_of grant) trail) (has_ended (first_of (opening_in grant) trail) now) (state_after (first_of (state_change_in grant) trail) now) approved)
+    ∙ not_ended (list_any (is_end_of grant) trail) (has_ended (first_of (opening_in grant) trail) now)
+    (state_after (first_of (state_change_in grant) trail) now) approved)
 
 -- a live token's grant hasn't come to the end of its opening
 live_before_end : (trail : List Note) (now : ℕ) (token : TokenNote) (o : OpeningNote) → AreDistinct (trail_values trail) → AreOpenedOnce trail
     → HasNote trail (Issued token) → HasNote trail (Opened o) → o.grant ≡ token.grant → IsLive trail now token.value → now < o.end
 live_before_end trail now token o distinct once issued opened same live =
-    let one : Issued live.token ≡ Issued token = note_one trail (Issued live.token) (Issued token) token.value distinct live.issued issued (inr (inl (sym live.same))) (inr (inl refl)) in
+    let one : Issued live.token ≡ Issued token = note_one trail (Issued live.token) (Issued token) token.value distinct live.issued issued
+    (inr (inl (sym live.same))) (inr (inl refl)) in
     let token_is : live.token ≡ token = cc one in
     let found = opened_found trail o token.grant opened same in
     let at = opening_noted trail token.grant found.0 found.1 in
@@ -112,7 +115,8 @@ live_before_end trail now token o distinct once issued opened same live =
 trail_is : (h : List GnapEntry) → trail_of (reverse (plain_history h)) ≡ reverse (plain_notes (notes_of h))
 trail_is h = trail-back (plain_history h) ∙ ap reverse (history_notes h)
 
-distinct_trail : (rules : Setup) (h : List GnapEntry) → Legal signed_law rules h → length h ≤ 2 ^ 58 → AreDistinct (trail_values (reverse (plain_notes (notes_of h))))
+distinct_trail : (rules : Setup) (h : List GnapEntry) → Legal signed_law rules h → length h ≤ 2 ^ 58
+    → AreDistinct (trail_values (reverse (plain_notes (notes_of h))))
 distinct_trail rules h legal few =
     let past : List Event = reverse (plain_history h) in
     let is = legal_past rules (plain_history h) (history_legal rules h legal) in
@@ -127,7 +131,8 @@ opened_once_in rules h legal =
     subst AreOpenedOnce (trail_is h) (opened_once rules (reverse (plain_history h)) (legal_past rules (plain_history h) (history_legal rules h legal)))
 
 -- an entry's notes stand among those of a history that has it
-among : (front middle : List GnapEntry) (e : GnapEntry) (n : Note) → HasNote (plain_notes e.notes) n → HasNote (reverse (plain_notes (notes_of (front ++ e ∷ middle)))) n
+among : (front middle : List GnapEntry) (e : GnapEntry) (n : Note) → HasNote (plain_notes e.notes) n
+    → HasNote (reverse (plain_notes (notes_of (front ++ e ∷ middle)))) n
 among front middle e n has =
     note-reverse (plain_notes (notes_of (front ++ e ∷ middle))) n
     (subst (λ (ns : List Note). HasNote ns n)
@@ -137,10 +142,12 @@ among front middle e n has =
     (note-append_left (plain_notes e.notes) (plain_notes (notes_of middle)) n has)))
 
 -- the end of a grant is the one with which it was asked for, or comes before it
-ends_by : (rules : Setup) (front : List GnapEntry) (e : GnapEntry) (end grant : ℕ) (opens : OpensUntil end grant e) → Follows signed_law rules front e → opens.opening.end ≤ end
+ends_by : (rules : Setup) (front : List GnapEntry) (e : GnapEntry) (end grant : ℕ) (opens : OpensUntil end grant e) → Follows signed_law rules front e
+    → opens.opening.end ≤ end
 ends_by rules front e end grant opens follows = elim (cases_Bool (is_refused_after front e)) [
   | inl refused ↦ let answer = is_answered SignedFewAsks rules front e true refused follows in
-      absurd (subst (λ (ns : List Note). HasNote ns (Opened opens.opening)) (ap plain_notes answer.notes) (contained_has (plain_notes e.notes) (Opened opens.opening) opens.opened))
+      absurd (subst (λ (ns : List Note). HasNote ns (Opened opens.opening)) (ap plain_notes answer.notes)
+      (contained_has (plain_notes e.notes) (Opened opens.opening) opens.opened))
   | inr passed ↦
       let trail : List Note = reverse (plain_notes (notes_of front)) in
       let moment = now front e.moment in

@@ -51,7 +51,8 @@ use Rattle.derived_tokens.specs.DerivedTurns as derived
 
 -- ---- what the question about a parent is told
 
-shown_inactive : (supply : Supply) (names : List Text) (found : Option TokenNote) → active_until (outcome_of supply (show_token names None None found)).reply ≡ None
+shown_inactive : (supply : Supply) (names : List Text) (found : Option TokenNote)
+    → active_until (outcome_of supply (show_token names None None found)).reply ≡ None
     → (outcome_of supply (show_token names None None found)).reply ≡ Inactive
 shown_inactive supply names None none = refl
 shown_inactive supply names (Some token) none = by (suits names None None token.rights token.bearer) none
@@ -65,7 +66,8 @@ told_inactive : (rules : Setup) (h : List GnapEntry) (moment : ℕ) (draw : List
     → reply ≡ (gnap.answer rules h moment draw (question server parent)).reply → active_until reply ≡ None → reply ≡ Inactive
 told_inactive rules h moment draw server parent reply is none =
     let trail = reverse (plain_notes (notes_of h)) in
-    is ∙ shown_inactive (supply_of trail (now h moment) draw) (server_names (key_of rules server)) (live_token trail (now h moment) parent) (ap active_until (sym is) ∙ none)
+    is ∙ shown_inactive (supply_of trail (now h moment) draw) (server_names (key_of rules server)) (live_token trail (now h moment) parent)
+    (ap active_until (sym is) ∙ none)
 
 -- ---- the calls may be made
 
@@ -96,8 +98,10 @@ room-again n n' same h others e not_mine is room =
 
 -- ---- turns
 
-module _ {D Home : Type 0} (rules : D → Setup) (number : D → ℕ) (home : D → Home) (seen : D → List GnapEntry → Type 0) (pairs : List Pair) (setup : Setup) (last : Bool)
-    (m : Message) (b : D) (h : List GnapEntry) (was : seen b h) (t : ℕ) (g g1 : GearState) (first : g1 ≡ with_moment t g) (conn conn' : Told) (f f' : ℕ) (after : AfterTurn) where
+module _ {D Home : Type 0} (rules : D → Setup) (number : D → ℕ) (home : D → Home) (seen : D → List GnapEntry → Type 0) (pairs : List Pair) (setup : Setup)
+    (last : Bool)
+    (m : Message) (b : D) (h : List GnapEntry) (was : seen b h) (t : ℕ) (g g1 : GearState) (first : g1 ≡ with_moment t g) (conn conn' : Told) (f f' : ℕ)
+    (after : AfterTurn) where
   none : Entered (desk_backend rules number home seen setup) b h [] t g g1 b h
   none = entered-none (desk_backend rules number home seen setup) b h t g g1 was first
 
@@ -105,7 +109,8 @@ module _ {D Home : Type 0} (rules : D → Setup) (number : D → ℕ) (home : D 
   pub starved-turn : HasWrittenText (reply_bytes busy_reply) conn conn' f f' after → after ≢ MoreMayCome
       → TakesTurn (desk_backend rules number home seen setup) (IsDerivingTurn pairs setup) last m b h b g g1 conn conn' f f' after
   starved-turn written off =
-      turn-of (desk_backend rules number home seen setup) (IsDerivingTurn pairs setup) last m b h b h t [] g g1 conn conn' f f' after (reply_bytes busy_reply) false none
+      turn-of (desk_backend rules number home seen setup) (IsDerivingTurn pairs setup) last m b h b h t [] g g1 conn conn' f f' after (reply_bytes busy_reply)
+      false none
       (omega arith) written (follows_none after off) (derived.plain _ (starved m t))
 
   pub direct-turn : (answer : DirectAnswer) → derive_call pairs setup m t ≡ Plain (Direct answer)
@@ -124,11 +129,14 @@ module _ {D Home : Type 0} (rules : D → Setup) (number : D → ℕ) (home : D 
         → TakesTurn (desk_backend rules number home seen setup) (IsDerivingTurn pairs setup) last m b h c g g2 conn conn' f f' after
     ask-lapsed call is x written off =
         let e : GnapEntry = entry_of gnap (rules b) (h ++ x.others) (number b) t draw unmarked_lapse in
-        turn-of (desk_backend rules number home seen setup) (IsDerivingTurn pairs setup) last m b h c (h ++ x.others ++ e ∷ []) t (e ∷ []) g g2 conn conn' f f' after
-        (reply_bytes busy_reply) false (entered-lapse rules number home seen setup gnap b b c h [] h t g g1 g2 none same_rules same_number same_home draw drew x)
+        turn-of (desk_backend rules number home seen setup) (IsDerivingTurn pairs setup) last m b h c (h ++ x.others ++ e ∷ []) t (e ∷ []) g g2 conn conn' f f'
+        after
+        (reply_bytes busy_reply) false (entered-lapse rules number home seen setup gnap b b c h [] h t g g1 g2 none same_rules same_number same_home draw drew
+        x)
         (omega arith) written (follows_none after off) (derived.plain _ (lapsed m e call is refl))
 
-    pub ask-answered : (call : Signed) (reply : Reply) → derive_call pairs setup m t ≡ Plain (Ask call) → (x : Enters gnap (rules b) (number b) h t draw call reply (seen c))
+    pub ask-answered : (call : Signed) (reply : Reply) → derive_call pairs setup m t ≡ Plain (Ask call)
+        → (x : Enters gnap (rules b) (number b) h t draw call reply (seen c))
         → HasAnswered (reply_bytes (http_reply last (response_of setup reply))) conn conn' f f' after
         → TakesTurn (desk_backend rules number home seen setup) (IsDerivingTurn pairs setup) last m b h c g g2 conn conn' f f' after
     ask-answered call reply is x how = at how
@@ -142,12 +150,14 @@ module _ {D Home : Type 0} (rules : D → Setup) (number : D → ℕ) (home : D 
         at : HasAnswered (reply_bytes (http_reply last (response_of setup reply))) conn conn' f f' after
             → TakesTurn (desk_backend rules number home seen setup) (IsDerivingTurn pairs setup) last m b h c g g2 conn conn' f f' after
         at (said written on) =
-            turn-of (desk_backend rules number home seen setup) (IsDerivingTurn pairs setup) last m b h c (h ++ x.others ++ e ∷ []) t (e ∷ []) g g2 conn conn' f f' after
+            turn-of (desk_backend rules number home seen setup) (IsDerivingTurn pairs setup) last m b h c (h ++ x.others ++ e ∷ []) t (e ∷ []) g g2 conn conn' f
+            f' after
             (reply_bytes (http_reply last (response_of setup e.reply))) true one (omega arith)
             (subst (λ (r : Reply). HasWrittenText (reply_bytes (http_reply last (response_of setup r))) conn conn' f f' after) x.reply_is written)
             (follows_on after on) (derived.plain _ (called m e is))
         at (answered.starved written off) =
-            turn-of (desk_backend rules number home seen setup) (IsDerivingTurn pairs setup) last m b h c (h ++ x.others ++ e ∷ []) t (e ∷ []) g g2 conn conn' f f' after
+            turn-of (desk_backend rules number home seen setup) (IsDerivingTurn pairs setup) last m b h c (h ++ x.others ++ e ∷ []) t (e ∷ []) g g2 conn conn' f
+            f' after
             (reply_bytes busy_reply) false one (omega arith) written (follows_none after off) (derived.plain _ (unsaid m e is))
 
     -- a token is to be derived
@@ -157,76 +167,87 @@ module _ {D Home : Type 0} (rules : D → Setup) (number : D → ℕ) (home : D 
           → TakesTurn (desk_backend rules number home seen setup) (IsDerivingTurn pairs setup) last m b h c g g2 conn conn' f f' after
       question-lapsed x written off =
           let e : GnapEntry = entry_of gnap (rules b) (h ++ x.others) (number b) t draw unmarked_lapse in
-          turn-of (desk_backend rules number home seen setup) (IsDerivingTurn pairs setup) last m b h c (h ++ x.others ++ e ∷ []) t (e ∷ []) g g2 conn conn' f f' after
-          (reply_bytes busy_reply) false (entered-lapse rules number home seen setup gnap b b c h [] h t g g1 g2 none same_rules same_number same_home draw drew x)
+          turn-of (desk_backend rules number home seen setup) (IsDerivingTurn pairs setup) last m b h c (h ++ x.others ++ e ∷ []) t (e ∷ []) g g2 conn conn' f
+          f' after
+          (reply_bytes busy_reply) false (entered-lapse rules number home seen setup gnap b b c h [] h t g g1 g2 none same_rules same_number same_home draw drew
+          x)
           (omega arith) written (follows_none after off) (derived.lapsed m begin e parent server step refl)
 
       -- the parent was asked about
-      module _ (asked : Signed) (asked_is : asked ≡ question server parent) (told : Reply) (x : Enters gnap (rules b) (number b) h t draw asked told (seen c)) where
-        abbrev pub e : GnapEntry
-        e = entry_of gnap (rules b) (h ++ x.others) (number b) t draw asked
+      module _ (asked : Signed) (asked_is : asked ≡ question server parent) (told : Reply) (x : Enters gnap (rules b) (number b) h t draw asked told (seen c))
+        where
+          abbrev pub e : GnapEntry
+          e = entry_of gnap (rules b) (h ++ x.others) (number b) t draw asked
 
-        -- what the desk has seen then
-        abbrev pub then_seen : List GnapEntry
-        then_seen = h ++ x.others ++ e ∷ []
+          -- what the desk has seen then
+          abbrev pub then_seen : List GnapEntry
+          then_seen = h ++ x.others ++ e ∷ []
 
-        one : Entered (desk_backend rules number home seen setup) b h (e ∷ []) t g g2 c then_seen
-        one = entered-reply rules number home seen setup gnap b b c h [] h t g g1 g2 none same_rules same_number same_home draw drew asked told x
+          one : Entered (desk_backend rules number home seen setup) b h (e ∷ []) t g g2 c then_seen
+          one = entered-reply rules number home seen setup gnap b b c h [] h t g g1 g2 none same_rules same_number same_home draw drew asked told x
 
-        asks : AsksParent pairs setup m begin e
-        asks = record { parent = parent; server = server; step = step; asked = asked_is }
+          asks : AsksParent pairs setup m begin e
+          asks = record { parent = parent; server = server; step = step; asked = asked_is }
 
-        pub parent-inactive : active_until told ≡ None → HasAnswered (reply_bytes (http_reply last (error_response RequestDenied))) conn conn' f f' after
-            → TakesTurn (desk_backend rules number home seen setup) (IsDerivingTurn pairs setup) last m b h c g g2 conn conn' f f' after
-        parent-inactive gone how = at how
-          where
-            inactive : e.reply ≡ Inactive
-            inactive = sym x.reply_is
-                ∙ told_inactive (rules b) (h ++ x.others) t draw server parent told (x.reply_is ∙ ap (λ s. (gnap.answer (rules b) (h ++ x.others) t draw s).reply) asked_is) gone
-
-            at : HasAnswered (reply_bytes (http_reply last (error_response RequestDenied))) conn conn' f f' after
-                → TakesTurn (desk_backend rules number home seen setup) (IsDerivingTurn pairs setup) last m b h c g g2 conn conn' f f' after
-            at (said written on) =
-                turn-of (desk_backend rules number home seen setup) (IsDerivingTurn pairs setup) last m b h c then_seen t (e ∷ []) g g2 conn conn' f f' after
-                (reply_bytes (http_reply last (error_response RequestDenied))) true one (omega arith) written (follows_on after on) (derived.refused m begin e asks inactive)
-            at (answered.starved written off) =
-                turn-of (desk_backend rules number home seen setup) (IsDerivingTurn pairs setup) last m b h c then_seen t (e ∷ []) g g2 conn conn' f f' after
-                (reply_bytes busy_reply) false one (omega arith) written (follows_none after off) (derived.unsaid m begin e asks inactive)
-
-        -- the grant was asked for
-        module _ (end : ℕ) (live : active_until told ≡ Some end) (d : D) (g3 : GearState) (rules_again : rules d ≡ rules c) (number_again : number d ≡ number c)
-            (home_again : home d ≡ home c) (draw' : List ℕ) (drew' : g3 ≡ with_draw draw' g2) where
-          goes_on : (k : GnapEntry) → k.moment ≡ t → GoesOnWith pairs setup m begin e k end
-          goes_on k same = record { parent = asks; live = ap active_until (sym x.reply_is) ∙ live; moment = same }
-
-          pub begin-lapsed : EntersLapse gnap (rules c) (number c) then_seen t draw' (seen d)
-              → HasWrittenText (reply_bytes busy_reply) conn conn' f f' after → after ≢ MoreMayCome
-              → TakesTurn (desk_backend rules number home seen setup) (IsDerivingTurn pairs setup) last m b h d g g3 conn conn' f f' after
-          begin-lapsed y written off =
-              let k : GnapEntry = entry_of gnap (rules c) (then_seen ++ y.others) (number c) t draw' unmarked_lapse in
-              turn-of (desk_backend rules number home seen setup) (IsDerivingTurn pairs setup) last m b h d (then_seen ++ y.others ++ k ∷ []) t (e ∷ k ∷ []) g g3 conn conn' f f' after
-              (reply_bytes busy_reply) false
-              (entered-lapse rules number home seen setup gnap b c d h (e ∷ []) then_seen t g g2 g3 one rules_again number_again home_again draw' drew' y)
-              (omega arith) written (follows_none after off) (derived.begin_lapsed m begin e k end (goes_on k refl) refl)
-
-          pub begin-answered : (begun : Signed) → begun ≡ ending end begin → (reply : Reply) → (y : Enters gnap (rules c) (number c) then_seen t draw' begun reply (seen d))
-              → HasAnswered (reply_bytes (http_reply last (response_of setup reply))) conn conn' f f' after
-              → TakesTurn (desk_backend rules number home seen setup) (IsDerivingTurn pairs setup) last m b h d g g3 conn conn' f f' after
-          begin-answered begun begun_is reply y how = at how
+          pub parent-inactive : active_until told ≡ None → HasAnswered (reply_bytes (http_reply last (error_response RequestDenied))) conn conn' f f' after
+              → TakesTurn (desk_backend rules number home seen setup) (IsDerivingTurn pairs setup) last m b h c g g2 conn conn' f f' after
+          parent-inactive gone how = at how
             where
-              k : GnapEntry
-              k = entry_of gnap (rules c) (then_seen ++ y.others) (number c) t draw' begun
+              inactive : e.reply ≡ Inactive
+              inactive = sym x.reply_is
+                  ∙ told_inactive (rules b) (h ++ x.others) t draw server parent told
+                  (x.reply_is ∙ ap (λ s. (gnap.answer (rules b) (h ++ x.others) t draw s).reply) asked_is) gone
 
-              both : Entered (desk_backend rules number home seen setup) b h (e ∷ k ∷ []) t g g3 d (then_seen ++ y.others ++ k ∷ [])
-              both = entered-reply rules number home seen setup gnap b c d h (e ∷ []) then_seen t g g2 g3 one rules_again number_again home_again draw' drew' begun reply y
-
-              at : HasAnswered (reply_bytes (http_reply last (response_of setup reply))) conn conn' f f' after
-                  → TakesTurn (desk_backend rules number home seen setup) (IsDerivingTurn pairs setup) last m b h d g g3 conn conn' f f' after
+              at : HasAnswered (reply_bytes (http_reply last (error_response RequestDenied))) conn conn' f f' after
+                  → TakesTurn (desk_backend rules number home seen setup) (IsDerivingTurn pairs setup) last m b h c g g2 conn conn' f f' after
               at (said written on) =
-                  turn-of (desk_backend rules number home seen setup) (IsDerivingTurn pairs setup) last m b h d (then_seen ++ y.others ++ k ∷ []) t (e ∷ k ∷ []) g g3 conn conn' f f' after
-                  (reply_bytes (http_reply last (response_of setup k.reply))) true both (omega arith)
-                  (subst (λ (r : Reply). HasWrittenText (reply_bytes (http_reply last (response_of setup r))) conn conn' f f' after) y.reply_is written)
-                  (follows_on after on) (derived.begun m begin e k end (goes_on k refl) begun_is)
+                  turn-of (desk_backend rules number home seen setup) (IsDerivingTurn pairs setup) last m b h c then_seen t (e ∷ []) g g2 conn conn' f f' after
+                  (reply_bytes (http_reply last (error_response RequestDenied))) true one (omega arith) written (follows_on after on)
+                  (derived.refused m begin e asks inactive)
               at (answered.starved written off) =
-                  turn-of (desk_backend rules number home seen setup) (IsDerivingTurn pairs setup) last m b h d (then_seen ++ y.others ++ k ∷ []) t (e ∷ k ∷ []) g g3 conn conn' f f' after
-                  (reply_bytes busy_reply) false both (omega arith) written (follows_none after off) (derived.begin_unsaid m begin e k end (goes_on k refl) begun_is)
+                  turn-of (desk_backend rules number home seen setup) (IsDerivingTurn pairs setup) last m b h c then_seen t (e ∷ []) g g2 conn conn' f f' after
+                  (reply_bytes busy_reply) false one (omega arith) written (follows_none after off) (derived.unsaid m begin e asks inactive)
+
+          -- the grant was asked for
+          module _ (end : ℕ) (live : active_until told ≡ Some end) (d : D) (g3 : GearState) (rules_again : rules d ≡ rules c) (number_again : number d ≡ number c)
+              (home_again : home d ≡ home c) (draw' : List ℕ) (drew' : g3 ≡ with_draw draw' g2) where
+            goes_on : (k : GnapEntry) → k.moment ≡ t → GoesOnWith pairs setup m begin e k end
+            goes_on k same = record { parent = asks; live = ap active_until (sym x.reply_is) ∙ live; moment = same }
+
+            pub begin-lapsed : EntersLapse gnap (rules c) (number c) then_seen t draw' (seen d)
+                → HasWrittenText (reply_bytes busy_reply) conn conn' f f' after → after ≢ MoreMayCome
+                → TakesTurn (desk_backend rules number home seen setup) (IsDerivingTurn pairs setup) last m b h d g g3 conn conn' f f' after
+            begin-lapsed y written off =
+                let k : GnapEntry = entry_of gnap (rules c) (then_seen ++ y.others) (number c) t draw' unmarked_lapse in
+                turn-of (desk_backend rules number home seen setup) (IsDerivingTurn pairs setup) last m b h d (then_seen ++ y.others ++ k ∷ []) t (e ∷ k ∷ []) g
+                g3 conn conn' f f' after
+                (reply_bytes busy_reply) false
+                (entered-lapse rules number home seen setup gnap b c d h (e ∷ []) then_seen t g g2 g3 one rules_again number_again home_again draw' drew' y)
+                (omega arith) written (follows_none after off) (derived.begin_lapsed m begin e k end (goes_on k refl) refl)
+
+            pub begin-answered : (begun : Signed) → begun ≡ ending end begin → (reply : Reply)
+                → (y : Enters gnap (rules c) (number c) then_seen t draw' begun reply (seen d))
+                → HasAnswered (reply_bytes (http_reply last (response_of setup reply))) conn conn' f f' after
+                → TakesTurn (desk_backend rules number home seen setup) (IsDerivingTurn pairs setup) last m b h d g g3 conn conn' f f' after
+            begin-answered begun begun_is reply y how = at how
+              where
+                k : GnapEntry
+                k = entry_of gnap (rules c) (then_seen ++ y.others) (number c) t draw' begun
+
+                both : Entered (desk_backend rules number home seen setup) b h (e ∷ k ∷ []) t g g3 d (then_seen ++ y.others ++ k ∷ [])
+                both = entered-reply rules number home seen setup gnap b c d h (e ∷ []) then_seen t g g2 g3 one rules_again number_again home_again draw' drew'
+                    begun reply y
+
+                at : HasAnswered (reply_bytes (http_reply last (response_of setup reply))) conn conn' f f' after
+                    → TakesTurn (desk_backend rules number home seen setup) (IsDerivingTurn pairs setup) last m b h d g g3 conn conn' f f' after
+                at (said written on) =
+                    turn-of (desk_backend rules number home seen setup) (IsDerivingTurn pairs setup) last m b h d (then_seen ++ y.others ++ k ∷ []) t (e ∷ k ∷ [])
+                    g g3 conn conn' f f' after
+                    (reply_bytes (http_reply last (response_of setup k.reply))) true both (omega arith)
+                    (subst (λ (r : Reply). HasWrittenText (reply_bytes (http_reply last (response_of setup r))) conn conn' f f' after) y.reply_is written)
+                    (follows_on after on) (derived.begun m begin e k end (goes_on k refl) begun_is)
+                at (answered.starved written off) =
+                    turn-of (desk_backend rules number home seen setup) (IsDerivingTurn pairs setup) last m b h d (then_seen ++ y.others ++ k ∷ []) t (e ∷ k ∷ [])
+                    g g3 conn conn' f f' after
+                    (reply_bytes busy_reply) false both (omega arith) written (follows_none after off)
+                    (derived.begin_unsaid m begin e k end (goes_on k refl) begun_is)

@@ -9,4 +9,5 @@ use Rattle.serving.specs.declared.ends.AfterTurn.TheVariants.{MoreMayCome, OutOf
 -- The text was said; or memory ran out before that, and the fixed 503 was said.
 pub data HasAnswered (text : List ℕ) (before after : Told) (faults faults_now : ℕ) (ended : AfterTurn) : Type 0 where
   said : HasWrittenText text before after faults faults_now ended → ended ≢ OutOfMemory → HasAnswered text before after faults faults_now ended
-  starved : HasWrittenText (reply_bytes busy_reply) before after faults faults_now ended → ended ≢ MoreMayCome → HasAnswered text before after faults faults_now ended
+  starved : HasWrittenText (reply_bytes busy_reply) before after faults faults_now ended → ended ≢ MoreMayCome
+      → HasAnswered text before after faults faults_now ended

@@ -28,7 +28,8 @@ pub record ToldLive (server : Text) (end : ℕ) (e : GnapEntry) : Type 0 where
   pub asked : e.call ≡ question server parent
   pub told : active_until e.reply ≡ Some end
 
--- Where the entry begins a grant of a pair's client, the one before it was told that a token is live, for the pair's server; and the grant was asked for with the
+-- Where the entry begins a grant of a pair's client, the one before it was told that a token is live, for the pair's server; and the grant was asked for with
+-- the
 -- end of that token.
 abbrev pub IsDerived : List Pair → Option GnapEntry → GnapEntry → Type 0
 IsDerived pairs before e = (key server : Text) (request : GrantRequest) (not_after : Option ℕ) → e.call.call ≡ Begin key request not_after

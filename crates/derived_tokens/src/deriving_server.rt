@@ -39,7 +39,8 @@ use signed_calls::signed::Signed;
 use std::alloc::Global;
 use std::marker::Model;
 
-/// The authorization server of a setup, to which pairs of client keys and resource servers are known. Its workers share it, and it keeps nothing of what they do.
+/// The authorization server of a setup, to which pairs of client keys and resource servers are known. Its workers share it, and it keeps nothing of what they
+/// do.
 /// Contracts see the setup and the pairs, which are pairs of the setup.
 #[derive(Drop)]
 pub struct DerivingServer {
@@ -86,7 +87,8 @@ impl DerivingServer {
         answer: DirectAnswer,
         last: bool,
     ) -> AfterTurn
-        ensures { HasAnswered (reply_bytes (direct_reply self.now.setup last answer)) (S.told conn.old) (S.told conn.new) (S.faults conn.old) (S.faults conn.new) result }
+        ensures { HasAnswered (reply_bytes (direct_reply self.now.setup last answer)) (S.told conn.old) (S.told conn.new) (S.faults conn.old)
+            (S.faults conn.new) result }
     {
         match print_direct(alloc, self.server.edge.setup(), answer, last) {
             Ok(response) => say(&self.server, conn, &response),
@@ -103,7 +105,8 @@ impl DerivingServer {
         last: bool,
     ) -> AfterTurn
         requires { ReplyFits reply.now }
-        ensures { HasAnswered (reply_bytes (http_reply last (response_of self.now.setup reply.now))) (S.told conn.old) (S.told conn.new) (S.faults conn.old) (S.faults conn.new) result }
+        ensures { HasAnswered (reply_bytes (http_reply last (response_of self.now.setup reply.now))) (S.told conn.old) (S.told conn.new) (S.faults conn.old)
+            (S.faults conn.new) result }
     {
         match self.server.respond(alloc, reply, last) {
             Ok(response) => say(&self.server, conn, &response),

@@ -60,7 +60,8 @@ grows-then n n' seen seen' h t u v es fs same first second =
     }
 
 -- a call that was entered and counted
-pub asks-entered : (rules : Setup) (n : ℕ) (h : List GnapEntry) (draw : List ℕ) (call : Signed) (reply : Reply) (seen : List GnapEntry → Type 0) (t u : Progress)
+pub asks-entered : (rules : Setup) (n : ℕ) (h : List GnapEntry) (draw : List ℕ) (call : Signed) (reply : Reply) (seen : List GnapEntry → Type 0)
+    (t u : Progress)
     → Enters gnap rules n h 1000000 draw call reply seen → draw ≡ draw_from t.words.generator → u.words.generator ≡ after_words 48 t.words.generator
     → Adds (tally_of_reply reply) t.tally u.tally → Asks call reply n seen h t u
 asks-entered rules n h draw call reply seen t u e drawn after counted =
@@ -108,7 +109,8 @@ none_at : All (λ (x : GnapEntry). x.moment ≡ load_moment) []
 none_at k d lt = absurd (let lt' : k < 0 = lt in omega (arith, lt'))
 
 -- the number that two desks have
-asks-of : (call : Signed) (reply : Reply) (n n' : ℕ) (seen : List GnapEntry → Type 0) (h : List GnapEntry) (t u : Progress) → n' ≡ n → Asks call reply n' seen h t u → Asks call reply n seen h t u
+asks-of : (call : Signed) (reply : Reply) (n n' : ℕ) (seen : List GnapEntry → Type 0) (h : List GnapEntry) (t u : Progress) → n' ≡ n
+    → Asks call reply n' seen h t u → Asks call reply n seen h t u
 asks-of call reply n n' seen h t u same asks = subst (λ k. Asks call reply k seen h t u) same asks
 
 pub not_ended : (grant : ℕ) (opened rotated : Reply) (n : ℕ) (seen : List GnapEntry → Type 0) (h : List GnapEntry) (t : Progress) → seen h
@@ -129,7 +131,8 @@ module _ (grant n n1 n2 : ℕ) (s0 s1 s2 : List GnapEntry → Type 0) (t0 t1 t2 
         grows = grows-then n n s1 s2 h t0 t1 t2 (a.entry ∷ []) (b.entry ∷ []) refl a.grows b.grows;
       }
 
-module _ (grant n n1 n2 n3 n4 n5 : ℕ) (s0 s1 s2 s3 s4 s5 s6 : List GnapEntry → Type 0) (t0 t1 t2 t3 t4 t5 t6 : Progress) (ends : Bool) (opened r2 rotated r4 r5 : Reply)
+module _ (grant n n1 n2 n3 n4 n5 : ℕ) (s0 s1 s2 s3 s4 s5 s6 : List GnapEntry → Type 0) (t0 t1 t2 t3 t4 t5 t6 : Progress) (ends : Bool)
+    (opened r2 rotated r4 r5 : Reply)
     (same1 : n1 ≡ n) (same2 : n2 ≡ n1) (same3 : n3 ≡ n2) (same4 : n4 ≡ n3) (same5 : n5 ≡ n4)
     (ask1 : (h : List GnapEntry) → s0 h → Asks (marked grant opening_place opening_call) opened n s1 h t0 t1)
     (ask2 : (h : List GnapEntry) → s1 h → Asks (unmarked (question_about opened)) r2 n1 s2 h t1 t2)
@@ -175,7 +178,8 @@ pub part-none : (grant n : ℕ) (seen : List GnapEntry → Type 0) (h : List Gna
 part-none grant n seen h t s = record { entries = []; is_done = refl; grows = grows-none n seen h t s }
 
 pub share-next : (workers worker grant n n' : ℕ) (seen seen' : List GnapEntry → Type 0) (h : List GnapEntry) (t u v : Progress) → n' ≡ n
-    → (first : PutsThrough (IsShare workers worker grant) n seen h t u) → PutsThrough (IsPart (grant % workers == worker) grant) n' seen' first.grows.history u v
+    → (first : PutsThrough (IsShare workers worker grant) n seen h t u)
+    → PutsThrough (IsPart (grant % workers == worker) grant) n' seen' first.grows.history u v
     → PutsThrough (IsShare workers worker (grant + 1)) n seen' h t v
 share-next workers worker grant n n' seen seen' h t u v same first second =
     let done : IsShare workers worker (suc grant) (first.entries ++ second.entries) = (first.entries, second.entries, refl, first.is_done, second.is_done) in

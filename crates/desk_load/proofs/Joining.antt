@@ -103,9 +103,11 @@ same_workers core grants start before after each long are = record {
       };
 }
 
-pub written_back : (n : ℕ) (before after : List WorkerState) → length after ≡ length before → length before ≡ n → take n (after ++ drop (length after) before) ≡ after
+pub written_back : (n : ℕ) (before after : List WorkerState) → length after ≡ length before → length before ≡ n
+    → take n (after ++ drop (length after) before) ≡ after
 written_back n before after long size =
-    ap (λ l. take n (after ++ l)) (drop_of_length-le before (omega (arith, long))) ∙ ap (take n) (append-nil after) ∙ take_all n after (omega (arith, long, size))
+    ap (λ l. take n (after ++ l)) (drop_of_length-le before (omega (arith, long))) ∙ ap (take n) (append-nil after)
+    ∙ take_all n after (omega (arith, long, size))
 
 -- what a worker has counted is of its number
 pub counted-as : (core : Sharing Setup) (grants start k : ℕ) (w : WorkerState) (seen : List GnapEntry) (tally : Tally) → IsWorker core grants start k w
@@ -185,7 +187,8 @@ meet_shares grants start workers i zero h each = tt
 meet_shares grants start workers i (suc n) h each = (
   subst (λ j. IsDrawnShare grants start workers j (own_of j h)) (add-zero i) (each 0 (omega arith)),
   meet_shares grants start workers (suc i) n h
-      (λ k lt. subst (λ j. IsDrawnShare grants start workers j (own_of j h)) (let same : i + suc k ≡ suc i + k = omega arith in same) (each (suc k) (omega (arith, lt)))),
+      (λ k lt. subst (λ j. IsDrawnShare grants start workers j (own_of j h)) (let same : i + suc k ≡ suc i + k = omega arith in same)
+      (each (suc k) (omega (arith, lt)))),
 )
 
 shares_many : (grants start workers i n : ℕ) → length (shares_from grants start workers i n) ≡ n
@@ -199,7 +202,8 @@ below n (e ∷ h) others =
     (omega (arith, not_above), below n h (λ k at. (others k at).1))
 
 -- all passes came back
-pub all_back : (core : Sharing Setup) (grants start : ℕ) (passes : List (PassState Setup GnapEntry)) (total : Tally) → HaveDone core grants start passes total → AreAll core passes
+pub all_back : (core : Sharing Setup) (grants start : ℕ) (passes : List (PassState Setup GnapEntry)) (total : Tally) → HaveDone core grants start passes total
+    → AreAll core passes
 all_back core grants start passes total done = record {
   count = ap length (sym done.passes_are) ∙ length-map done.reports (λ (r : PassState Setup GnapEntry × Tally). r.0) ∙ done.count;
   each = λ k p e.
@@ -255,8 +259,10 @@ module _ (core : Sharing Setup) (grants start workers : ℕ) (passes : List (Pas
 
   counted : Adds (tally_of h) none_counted total
   counted = record {
-    active = counted_all one_if_active (λ t. t.active) (ap (λ (t : Tally). t.active) done.total_is) (λ k t at. (let a = (counted_at k t at).active in omega (arith, a)));
-    inactive = counted_all one_if_inactive (λ t. t.inactive) (ap (λ (t : Tally). t.inactive) done.total_is) (λ k t at. (let a = (counted_at k t at).inactive in omega (arith, a)));
+    active = counted_all one_if_active (λ t. t.active) (ap (λ (t : Tally). t.active) done.total_is)
+        (λ k t at. (let a = (counted_at k t at).active in omega (arith, a)));
+    inactive = counted_all one_if_inactive (λ t. t.inactive) (ap (λ (t : Tally). t.inactive) done.total_is)
+        (λ k t at. (let a = (counted_at k t at).inactive in omega (arith, a)));
     done = counted_all one_if_done (λ t. t.done) (ap (λ (t : Tally). t.done) done.total_is) (λ k t at. (let a = (counted_at k t at).done in omega (arith, a)));
   }
 
@@ -266,7 +272,8 @@ module _ (core : Sharing Setup) (grants start workers : ℕ) (passes : List (Pas
         one = record {
           history = h;
           legal = subst (λ r. Legal gnap r h) rules legal;
-          numbers = below (length (shares_from grants start core.count 0 core.count)) h (λ k at. others k (subst (λ n. n ≤ k) (shares_many grants start core.count 0 core.count) at));
+          numbers = below (length (shares_from grants start core.count 0 core.count)) h
+              (λ k at. others k (subst (λ n. n ≤ k) (shares_many grants start core.count 0 core.count) at));
           each = meet_shares grants start core.count 0 core.count h share_at;
         };
         counted = counted;
@@ -287,13 +294,16 @@ module _ (core : Sharing Setup) (grants start : ℕ) where
       → HaveDoneSoFar passes total → passes' ≡ passes ++ pass ∷ [] → Adds tally total total' → HasDone core grants start (length passes) pass tally
       → HaveDoneSoFar passes' total'
   done-next passes passes' pass total total' tally done pushed adds next =
-      let long : length done.reports ≡ length passes = sym (length-map done.reports (λ (r : PassState Setup GnapEntry × Tally). r.0)) ∙ ap length done.passes_are in
+      let long : length done.reports ≡ length passes = sym (length-map done.reports (λ (r : PassState Setup GnapEntry × Tally). r.0))
+      ∙ ap length done.passes_are in
       record {
         reports = done.reports ++ (pass, tally) ∷ [];
-        passes_are = map-append (λ (r : PassState Setup GnapEntry × Tally). r.0) done.reports ((pass, tally) ∷ []) ∙ ap (λ l. l ++ pass ∷ []) done.passes_are ∙ sym pushed;
+        passes_are = map-append (λ (r : PassState Setup GnapEntry × Tally). r.0) done.reports ((pass, tally) ∷ []) ∙ ap (λ l. l ++ pass ∷ []) done.passes_are
+            ∙ sym pushed;
         total_is = sum-next (map (λ r. r.1) done.reports) tally total total' done.total_is adds
             ∙ ap sum_of_tallies (sym (map-append (λ (r : PassState Setup GnapEntry × Tally). r.1) done.reports ((pass, tally) ∷ [])));
-        each = each-next (λ k r. HasDone core grants start k r.0 r.1) done.reports (pass, tally) done.each (subst (λ n. HasDone core grants start n pass tally) (sym long) next);
+        each = each-next (λ k r. HasDone core grants start k r.0 r.1) done.reports (pass, tally) done.each
+            (subst (λ n. HasDone core grants start n pass tally) (sym long) next);
       }
 
 below_one : (h : List GnapEntry) → EachOf 0 h → Below 1 h

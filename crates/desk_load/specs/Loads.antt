@@ -68,12 +68,13 @@ abbrev pub begun : ℕ → ℕ → Progress
 begun start worker = record { words = record { generator = generator_at start worker 0 }; tally = none_counted }
 
 -- From a history that was seen another came to be seen, with these own entries more, which have the next draws, and whose replies were counted.
-pub record Grows (number : ℕ) (seen : List GnapEntry → Type 0) (before : List GnapEntry) (progress progress_now : Progress) (entries : List GnapEntry) : Type 0 where
-  pub history : List GnapEntry
-  pub seen_now : seen history
-  pub own : own_of number history ≡ own_of number before ++ entries
-  pub drawn : Drawn progress.words.generator entries progress_now.words.generator
-  pub counted : Adds (tally_of entries) progress.tally progress_now.tally
+pub record Grows (number : ℕ) (seen : List GnapEntry → Type 0) (before : List GnapEntry) (progress progress_now : Progress) (entries : List GnapEntry) : Type 0
+  where
+    pub history : List GnapEntry
+    pub seen_now : seen history
+    pub own : own_of number history ≡ own_of number before ++ entries
+    pub drawn : Drawn progress.words.generator entries progress_now.words.generator
+    pub counted : Adds (tally_of entries) progress.tally progress_now.tally
 
 -- One call more was made, and got this reply.
 pub record Asks (call : Signed) (reply : Reply) (number : ℕ) (seen : List GnapEntry → Type 0) (before : List GnapEntry)

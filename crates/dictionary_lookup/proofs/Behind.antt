@@ -80,7 +80,15 @@ outside p c k within out = by (c == k) refl
 token_first : (c : ℕ) (t : List ℕ) → is_token_start c ≡ true → rest_of (bare_at (c ∷ t)) ≡ Some (behind is_token_byte (c ∷ t))
 unfolding bare_at
 token_first c t h =
-    rw (outside is_token_start c 34 h refl, outside is_token_start c 58 h refl, outside is_token_start c 63 h refl, outside is_token_start c 64 h refl, outside is_token_start c 37 h refl, h) refl
+    rw (
+      outside is_token_start c 34 h refl,
+      outside is_token_start c 58 h refl,
+      outside is_token_start c 63 h refl,
+      outside is_token_start c 64 h refl,
+      outside
+          is_token_start c 37 h refl,
+      h,
+    ) refl
 
 pub token_passes : (t : List ℕ) → begins_token t ≡ true → rest_of (bare_at t) ≡ Some (behind is_token_byte t)
 token_passes [] h = absurd cc
@@ -95,7 +103,8 @@ quote_first t = by (string_rest false t)
     by (Some x) = refl
 
 pub quote_passes : (t u : List ℕ) → begins 34 t ≡ true → u ≡ drop 1 t → rest_of (bare_at t) ≡ rest_of (string_rest false u)
-quote_passes t u h is = ap (λ (v : List ℕ). rest_of (bare_at v)) (begun 34 t h) ∙ quote_first (drop 1 t) ∙ ap (λ (v : List ℕ). rest_of (string_rest false v)) (sym is)
+quote_passes t u h is = ap (λ (v : List ℕ). rest_of (bare_at v)) (begun 34 t h) ∙ quote_first (drop 1 t)
+    ∙ ap (λ (v : List ℕ). rest_of (string_rest false v)) (sym is)
 
 pub past_some : {A : Type 0} (o : Option (A × List ℕ)) (x : A) (r : List ℕ) → o ≡ Some (x, r) → rest_of o ≡ Some r
 past_some o x r e = ap rest_of e
@@ -104,17 +113,21 @@ pub ruleset bare_passes = (quote_passes, token_passes, past_some, fails_past)
 
 -- ---- parameters
 
-pub value_unasked : (asked : Bool) (s : List ℕ) (before : Bool) (o : Option (Bare × List ℕ)) (r : List ℕ) → asked ≡ false → rest_of o ≡ Some r → option_map (value_matched asked s before) o ≡ Some (before, r)
+pub value_unasked : (asked : Bool) (s : List ℕ) (before : Bool) (o : Option (Bare × List ℕ)) (r : List ℕ) → asked ≡ false → rest_of o ≡ Some r
+    → option_map (value_matched asked s before) o ≡ Some (before, r)
 value_unasked asked s before None r h e = absurd cc
 value_unasked asked s before (Some v) r h e = rw h (ap (λ (u : List ℕ). Some (before, u)) (some_is v.1 r e))
 
-pub value_asked : (asked : Bool) (s : List ℕ) (before : Bool) (o : Option (Bare × List ℕ)) (v : Bare) (r : List ℕ) → asked ≡ true → o ≡ Some (v, r) → option_map (value_matched asked s before) o ≡ Some (holds_string s (Some v), r)
+pub value_asked : (asked : Bool) (s : List ℕ) (before : Bool) (o : Option (Bare × List ℕ)) (v : Bare) (r : List ℕ) → asked ≡ true → o ≡ Some (v, r)
+    → option_map (value_matched asked s before) o ≡ Some (holds_string s (Some v), r)
 value_asked asked s before o v r h e = rw (e, h) refl
 
-pub value_fails : (asked : Bool) (s : List ℕ) (before : Bool) (e : FieldFault) (o : Option (Bare × List ℕ)) → Fails e (rest_of o) → Fails e (option_map (value_matched asked s before) o)
+pub value_fails : (asked : Bool) (s : List ℕ) (before : Bool) (e : FieldFault) (o : Option (Bare × List ℕ)) → Fails e (rest_of o)
+    → Fails e (option_map (value_matched asked s before) o)
 value_fails asked s before e o h = fails_other (λ (x : Bare × List ℕ). x.1) (value_matched asked s before) e o h
 
-pub value_fails_whole : (asked : Bool) (s : List ℕ) (before : Bool) (e : FieldFault) (o : Option (Bare × List ℕ)) → Fails e o → Fails e (option_map (value_matched asked s before) o)
+pub value_fails_whole : (asked : Bool) (s : List ℕ) (before : Bool) (e : FieldFault) (o : Option (Bare × List ℕ)) → Fails e o
+    → Fails e (option_map (value_matched asked s before) o)
 value_fails_whole asked s before e o h = fails_map (value_matched asked s before) e o h
 
 pub ruleset value_passes = (value_unasked, value_asked, value_fails, value_fails_whole)
@@ -132,7 +145,8 @@ module _ (name s : List ℕ) where
   unfolding parameter_at
   parameter_is before t key rest e = rw (sym e) (by (value_of rest))
     where
-      by : (o : Option (Bare × List ℕ)) → option_map (of_one before) (o >>= λ v. Some ((key, v.0), v.1)) ≡ option_map (value_matched (bytes_eq key name) s before) o
+      by : (o : Option (Bare × List ℕ))
+          → option_map (of_one before) (o >>= λ v. Some ((key, v.0), v.1)) ≡ option_map (value_matched (bytes_eq key name) s before) o
       by None = refl
       by (Some v) = refl
 
@@ -156,44 +170,53 @@ module _ (name s : List ℕ) where
   pub params_start : (t : List ℕ) → ParamsSoFar false (length t - 0) t (params_at t)
   params_start t = record { held = []; reads = start t; says = refl }
 
-  pub params_stopped : (matched : Bool) (n : ℕ) (t : List ℕ) (total : Option (List (List ℕ × Bare) × List ℕ)) → begins 59 t ≡ false → ParamsSoFar matched n t total → option_map of_all total ≡ Some (matched, t)
+  pub params_stopped : (matched : Bool) (n : ℕ) (t : List ℕ) (total : Option (List (List ℕ × Bare) × List ℕ)) → begins 59 t ≡ false
+      → ParamsSoFar matched n t total → option_map of_all total ≡ Some (matched, t)
   params_stopped matched n t total h so_far =
       ap (option_map of_all) (stopped n so_far.held t total h so_far.reads) ∙ ap (λ (m : Bool). Some (m, t)) (sym so_far.says)
 
-  pub params_spent : (matched : Bool) (n : ℕ) (t : List ℕ) (total : Option (List (List ℕ × Bare) × List ℕ)) → n ≡ 0 → ParamsSoFar matched n t total → option_map of_all total ≡ Some (matched, t)
+  pub params_spent : (matched : Bool) (n : ℕ) (t : List ℕ) (total : Option (List (List ℕ × Bare) × List ℕ)) → n ≡ 0 → ParamsSoFar matched n t total
+      → option_map of_all total ≡ Some (matched, t)
   params_spent matched n t total z so_far =
       ap (option_map of_all) (spent n so_far.held t total z so_far.reads) ∙ ap (λ (m : Bool). Some (m, t)) (sym so_far.says)
 
-  module _ (matched : Bool) (len i : ℕ) (t u : List ℕ) (total : Option (List (List ℕ × Bare) × List ℕ)) (lt : i < len) (h : begins 59 t ≡ true) (is : u ≡ drop 1 t) (so_far : ParamsSoFar matched (len - i) t total) where
-    pub params_more : (now_matched : Bool) (rest : List ℕ) → option_map (of_one matched) (parameter_at u) ≡ Some (now_matched, rest) → ParamsSoFar now_matched (len - (i + 1)) rest total
+  module _ (matched : Bool) (len i : ℕ) (t u : List ℕ) (total : Option (List (List ℕ × Bare) × List ℕ)) (lt : i < len) (h : begins 59 t ≡ true)
+      (is : u ≡ drop 1 t) (so_far : ParamsSoFar matched (len - i) t total) where
+    pub params_more : (now_matched : Bool) (rest : List ℕ) → option_map (of_one matched) (parameter_at u) ≡ Some (now_matched, rest)
+        → ParamsSoFar now_matched (len - (i + 1)) rest total
     params_more now_matched rest e =
         let a = mapped (of_one matched) (parameter_at u) (now_matched, rest) e in
         let one : parameter_at (drop 1 t) ≡ Some a.0 = ap parameter_at (sym is) ∙ a.1 in
         let ends : a.0.1 ≡ rest = ap (λ (x : Bool × List ℕ). x.1) a.2 in
         record {
           held = with_value so_far.held a.0.0.0 a.0.0.1;
-          reads = subst (λ (r : List ℕ). params_from (len - (i + 1)) (with_value so_far.held a.0.0.0 a.0.0.1) r ≡ total) ends (more len i so_far.held t a.0.0.0 a.0.0.1 a.0.1 total lt h one so_far.reads);
+          reads = subst (λ (r : List ℕ). params_from (len - (i + 1)) (with_value so_far.held a.0.0.0 a.0.0.1) r ≡ total) ends
+              (more len i so_far.held t a.0.0.0 a.0.0.1 a.0.1 total lt h one so_far.reads);
           says =
               sym (ap (λ (x : Bool × List ℕ). x.0) a.2)
               ∙ by a.0.0.1 (value_at so_far.held name) (bytes_eq a.0.0.0 name) so_far.says
               ∙ ap (holds_string s) (sym (value_now so_far.held a.0.0.0 a.0.0.1));
         }
       where
-        by : (v : Bare) (o : Option Bare) (b : Bool) → matched ≡ holds_string s o → cond b (holds_string s (Some v)) matched ≡ holds_string s (cond b (Some v) o)
+        by : (v : Bare) (o : Option Bare) (b : Bool) → matched ≡ holds_string s o
+            → cond b (holds_string s (Some v)) matched ≡ holds_string s (cond b (Some v) o)
         by v o true m = refl
         by v o false m = m
 
     pub params_failed : (e : FieldFault) → Fails e (option_map (of_one matched) (parameter_at u)) → Fails e (option_map of_all total)
     params_failed e g =
-        fails_map of_all e total (failed e len i so_far.held t total lt h (subst (λ (v : List ℕ). Fails e (parameter_at v)) is (fails_mapped (of_one matched) e (parameter_at u) g)) so_far.reads)
+        fails_map of_all e total (failed e len i so_far.held t total lt h
+        (subst (λ (v : List ℕ). Fails e (parameter_at v)) is (fails_mapped (of_one matched) e (parameter_at u) g)) so_far.reads)
 
 pub ruleset parameter_passes = (parameter_is, parameter_none)
 
-pub params_pass : (name s : List ℕ) (o : Option (List (List ℕ × Bare) × List ℕ)) (matched : Bool) (r : List ℕ) → option_map (params_matched name s) o ≡ Some (matched, r) → rest_of o ≡ Some r
+pub params_pass : (name s : List ℕ) (o : Option (List (List ℕ × Bare) × List ℕ)) (matched : Bool) (r : List ℕ)
+    → option_map (params_matched name s) o ≡ Some (matched, r) → rest_of o ≡ Some r
 params_pass name s None matched r e = absurd cc
 params_pass name s (Some p) matched r e = ap (λ (u : List ℕ). Some u) (ap (λ (x : Bool × List ℕ). x.1) (some_is (params_matched name s p) (matched, r) e))
 
-pub params_do_fail : (name s : List ℕ) (e : FieldFault) (o : Option (List (List ℕ × Bare) × List ℕ)) → Fails e (option_map (params_matched name s) o) → Fails e (rest_of o)
+pub params_do_fail : (name s : List ℕ) (e : FieldFault) (o : Option (List (List ℕ × Bare) × List ℕ)) → Fails e (option_map (params_matched name s) o)
+    → Fails e (rest_of o)
 params_do_fail name s e o h = fails_other (params_matched name s) (λ (x : List (List ℕ × Bare) × List ℕ). x.1) e o h
 
 pub ruleset params_steps = (params_pass, params_do_fail)
@@ -246,7 +269,8 @@ module _ (len i : ℕ) (t u : List ℕ) (total : Items) (is : u ≡ behind is_sp
         ap rest_of (items_refused len i so_far.held t u total is so_far.reads lt h a.0.0 rest (a.1 ∙ ap (λ (r : List ℕ). Some (a.0.0, r)) a.2) end)
 
     pub items_fail : (e : FieldFault) → Fails e (rest_of (item_at u)) → Fails e (rest_of total)
-    items_fail e g = fails_past e total (items_failed len i so_far.held t u total is so_far.reads lt h e (fails_mapped (λ (x : Item × List ℕ). x.1) e (item_at u) g))
+    items_fail e g = fails_past e total
+        (items_failed len i so_far.held t u total is so_far.reads lt h e (fails_mapped (λ (x : Item × List ℕ). x.1) e (item_at u) g))
 
 pub items_over : (n : ℕ) (t : List ℕ) (total : Items) → n ≡ 0 → ItemsSoFar n t total → rest_of total ≡ None
 items_over n t total z so_far = ap rest_of (items_spent n so_far.held t total z so_far.reads)
@@ -254,12 +278,15 @@ items_over n t total z so_far = ap rest_of (items_spent n so_far.held t total z 
 -- ---- inner lists and members
 
 module _ (name s : List ℕ) where
-  pub inner_is : (t r : List ℕ) → rest_of (items_at t) ≡ Some r → option_map (inner_matched name s) (inner_at t) ≡ option_map (params_matched name s) (params_at r)
+  pub inner_is : (t r : List ℕ) → rest_of (items_at t) ≡ Some r
+      → option_map (inner_matched name s) (inner_at t) ≡ option_map (params_matched name s) (params_at r)
   unfolding inner_at
   inner_is t r e =
-      let a = mapped (λ (x : List Item × List ℕ). x.1) (items_at t) r e in rw a.1 (by a.0.0 (params_at a.0.1) ∙ ap (λ (u : List ℕ). option_map (params_matched name s) (params_at u)) a.2)
+      let a = mapped (λ (x : List Item × List ℕ). x.1) (items_at t) r e in rw a.1
+      (by a.0.0 (params_at a.0.1) ∙ ap (λ (u : List ℕ). option_map (params_matched name s) (params_at u)) a.2)
     where
-      by : (items : List Item) (o : Option (List (List ℕ × Bare) × List ℕ)) → option_map (inner_matched name s) (o >>= λ p. Some (record { items = items; params = p.0 }, p.1)) ≡ option_map (params_matched name s) o
+      by : (items : List Item) (o : Option (List (List ℕ × Bare) × List ℕ))
+          → option_map (inner_matched name s) (o >>= λ p. Some (record { items = items; params = p.0 }, p.1)) ≡ option_map (params_matched name s) o
       by items None = refl
       by items (Some p) = refl
 
@@ -268,47 +295,58 @@ module _ (name s : List ℕ) where
   inner_fails OutOfMemory t h = tt
   inner_fails NotInGrammar t h = let none : items_at t ≡ None = fails_mapped (λ (x : List Item × List ℕ). x.1) NotInGrammar (items_at t) h in rw none refl
 
-  pub as_inner : (o : Option (InnerList × List ℕ)) → option_map (member_matched name s) (option_map (λ x. (Inner x.0, x.1)) o) ≡ option_map (inner_matched name s) o
+  pub as_inner : (o : Option (InnerList × List ℕ))
+      → option_map (member_matched name s) (option_map (λ x. (Inner x.0, x.1)) o) ≡ option_map (inner_matched name s) o
   as_inner None = refl
   as_inner (Some x) = refl
 
-  pub as_single : (o : Option (Item × List ℕ)) (r : List ℕ) → rest_of o ≡ Some r → option_map (member_matched name s) (option_map (λ x. (Single x.0, x.1)) o) ≡ Some (false, r)
+  pub as_single : (o : Option (Item × List ℕ)) (r : List ℕ) → rest_of o ≡ Some r
+      → option_map (member_matched name s) (option_map (λ x. (Single x.0, x.1)) o) ≡ Some (false, r)
   as_single None r e = absurd cc
   as_single (Some x) r e = ap (λ (u : List ℕ). Some (false, u)) (some_is x.1 r e)
 
-  pub single_fails : (e : FieldFault) (o : Option (Item × List ℕ)) → Fails e (rest_of o) → Fails e (option_map (member_matched name s) (option_map (λ x. (Single x.0, x.1)) o))
+  pub single_fails : (e : FieldFault) (o : Option (Item × List ℕ)) → Fails e (rest_of o)
+      → Fails e (option_map (member_matched name s) (option_map (λ x. (Single x.0, x.1)) o))
   single_fails OutOfMemory o h = tt
   single_fails NotInGrammar o h = let none : o ≡ None = fails_mapped (λ (x : Item × List ℕ). x.1) NotInGrammar o h in rw none refl
 
-  pub as_true : (o : Option (List (List ℕ × Bare) × List ℕ)) (r : List ℕ) → rest_of o ≡ Some r → option_map (member_matched name s) (option_map (λ p. (Single (record { bare = Boolean true; params = p.0 }), p.1)) o) ≡ Some (false, r)
+  pub as_true : (o : Option (List (List ℕ × Bare) × List ℕ)) (r : List ℕ) → rest_of o ≡ Some r
+      → option_map (member_matched name s) (option_map (λ p. (Single (record { bare = Boolean true; params = p.0 }), p.1)) o) ≡ Some (false, r)
   as_true None r e = absurd cc
   as_true (Some p) r e = ap (λ (u : List ℕ). Some (false, u)) (some_is p.1 r e)
 
-  pub true_fails : (e : FieldFault) (o : Option (List (List ℕ × Bare) × List ℕ)) → Fails e (rest_of o) → Fails e (option_map (member_matched name s) (option_map (λ p. (Single (record { bare = Boolean true; params = p.0 }), p.1)) o))
+  pub true_fails : (e : FieldFault) (o : Option (List (List ℕ × Bare) × List ℕ)) → Fails e (rest_of o)
+      → Fails e (option_map (member_matched name s) (option_map (λ p. (Single (record { bare = Boolean true; params = p.0 }), p.1)) o))
   true_fails OutOfMemory o h = tt
   true_fails NotInGrammar o h = let none : o ≡ None = fails_mapped (λ (x : List (List ℕ × Bare) × List ℕ). x.1) NotInGrammar o h in rw none refl
 
-  pub member_is_inner : (t u : List ℕ) → begins 40 t ≡ true → u ≡ drop 1 t → option_map (member_matched name s) (member_at t) ≡ option_map (inner_matched name s) (inner_at u)
+  pub member_is_inner : (t u : List ℕ) → begins 40 t ≡ true → u ≡ drop 1 t
+      → option_map (member_matched name s) (member_at t) ≡ option_map (inner_matched name s) (inner_at u)
   unfolding member_at
   member_is_inner t u h is = rw (h, is) (as_inner (inner_at (drop 1 t)))
 
-  pub member_is_single : (t r : List ℕ) → begins 40 t ≡ false → rest_of (item_at t) ≡ Some r → option_map (member_matched name s) (member_at t) ≡ Some (false, r)
+  pub member_is_single : (t r : List ℕ) → begins 40 t ≡ false → rest_of (item_at t) ≡ Some r
+      → option_map (member_matched name s) (member_at t) ≡ Some (false, r)
   unfolding member_at
   member_is_single t r h e = rw h (as_single (item_at t) r e)
 
-  pub member_fails : (e : FieldFault) (t : List ℕ) → begins 40 t ≡ false → Fails e (rest_of (item_at t)) → Fails e (option_map (member_matched name s) (member_at t))
+  pub member_fails : (e : FieldFault) (t : List ℕ) → begins 40 t ≡ false → Fails e (rest_of (item_at t))
+      → Fails e (option_map (member_matched name s) (member_at t))
   unfolding member_at
   member_fails e t h f = rw h (single_fails e (item_at t) f)
 
-  pub entry_is_given : (t u : List ℕ) → begins 61 t ≡ true → u ≡ drop 1 t → option_map (member_matched name s) (entry_value_at t) ≡ option_map (member_matched name s) (member_at u)
+  pub entry_is_given : (t u : List ℕ) → begins 61 t ≡ true → u ≡ drop 1 t
+      → option_map (member_matched name s) (entry_value_at t) ≡ option_map (member_matched name s) (member_at u)
   unfolding entry_value_at
   entry_is_given t u h is = rw (h, is) refl
 
-  pub entry_is_true : (t r : List ℕ) → begins 61 t ≡ false → rest_of (params_at t) ≡ Some r → option_map (member_matched name s) (entry_value_at t) ≡ Some (false, r)
+  pub entry_is_true : (t r : List ℕ) → begins 61 t ≡ false → rest_of (params_at t) ≡ Some r
+      → option_map (member_matched name s) (entry_value_at t) ≡ Some (false, r)
   unfolding entry_value_at
   entry_is_true t r h e = rw h (as_true (params_at t) r e)
 
-  pub entry_fails : (e : FieldFault) (t : List ℕ) → begins 61 t ≡ false → Fails e (rest_of (params_at t)) → Fails e (option_map (member_matched name s) (entry_value_at t))
+  pub entry_fails : (e : FieldFault) (t : List ℕ) → begins 61 t ≡ false → Fails e (rest_of (params_at t))
+      → Fails e (option_map (member_matched name s) (entry_value_at t))
   unfolding entry_value_at
   entry_fails e t h f = rw h (true_fails e (params_at t) f)
 

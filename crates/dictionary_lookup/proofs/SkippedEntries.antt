@@ -55,11 +55,13 @@ module _ (name s : List ℕ) where
       parts : (is_match name s e.1 ≡ false) × (among es ≡ [])
       parts = none_behind e es none
 
-      by : (b : Bool) → bytes_eq key e.0 ≡ b → among (with_value es key m) ≡ (key, m) ∷ [] → among (cond b ((e.0, m) ∷ es) (e ∷ with_value es key m)) ≡ (key, m) ∷ []
+      by : (b : Bool) → bytes_eq key e.0 ≡ b → among (with_value es key m) ≡ (key, m) ∷ []
+          → among (cond b ((e.0, m) ∷ es) (e ∷ with_value es key m)) ≡ (key, m) ∷ []
       by true t again = let same : key ≡ e.0 = (bytes_eq-Decides key e.0).0 t in rw (matched, parts.1) (ap (λ (l : List ℕ). (l, m) ∷ []) (sym same))
       by false t again = rw parts.0 again
 
-  pub stays_one : (d : Entries) (key : List ℕ) (m : Member) (k : List ℕ) (x : Member) → among d ≡ (k, x) ∷ [] → bytes_eq k key ≡ false → is_match name s m ≡ false
+  pub stays_one : (d : Entries) (key : List ℕ) (m : Member) (k : List ℕ) (x : Member) → among d ≡ (k, x) ∷ [] → bytes_eq k key ≡ false
+      → is_match name s m ≡ false
       → among (with_value d key m) ≡ (k, x) ∷ []
   stays_one [] key m k x one apart plain = absurd cc
   stays_one (e ∷ es) key m k x one apart plain = by (is_match name s e.1) (bytes_eq key e.0) refl refl one (λ h. stays_one es key m k x h apart plain)
@@ -98,7 +100,8 @@ pub entry_is : (name s t key value : List ℕ) → key_at t ≡ Some (key, value
 unfolding entry_at
 entry_is name s t key value e = rw e (by (entry_value_at value))
   where
-    by : (o : Option (Member × List ℕ)) → option_map (entry_matched name s) (o >>= λ m. Some ((key, m.0), m.1)) ≡ option_map (λ m. ((key, m.0), m.1)) (option_map (member_matched name s) o)
+    by : (o : Option (Member × List ℕ))
+        → option_map (entry_matched name s) (o >>= λ m. Some ((key, m.0), m.1)) ≡ option_map (λ m. ((key, m.0), m.1)) (option_map (member_matched name s) o)
     by None = refl
     by (Some m) = refl
 
@@ -109,11 +112,13 @@ entry_none name s t e = rw e refl
 abbrev named_so : List ℕ → Bool × List ℕ → (List ℕ × Bool) × List ℕ
 named_so key m = ((key, m.0), m.1)
 
-pub entry_read : (name s t key value : List ℕ) (matched : Bool) (rest : List ℕ) → key_at t ≡ Some (key, value) → option_map (member_matched name s) (entry_value_at value) ≡ Some (matched, rest)
+pub entry_read : (name s t key value : List ℕ) (matched : Bool) (rest : List ℕ) → key_at t ≡ Some (key, value)
+    → option_map (member_matched name s) (entry_value_at value) ≡ Some (matched, rest)
     → option_map (entry_matched name s) (entry_at t) ≡ Some ((key, matched), rest)
 entry_read name s t key value matched rest key_is e = entry_is name s t key value key_is ∙ ap (option_map (named_so key)) e
 
-pub entry_failed : (name s t key value : List ℕ) (e : FieldFault) → key_at t ≡ Some (key, value) → Fails e (option_map (member_matched name s) (entry_value_at value)) → Fails e (option_map (entry_matched name s) (entry_at t))
+pub entry_failed : (name s t key value : List ℕ) (e : FieldFault) → key_at t ≡ Some (key, value)
+    → Fails e (option_map (member_matched name s) (entry_value_at value)) → Fails e (option_map (entry_matched name s) (entry_at t))
 entry_failed name s t key value e key_is h =
     subst (Fails e) (sym (entry_is name s t key value key_is)) (fails_map (named_so key) e (option_map (member_matched name s) (entry_value_at value)) h)
 
@@ -133,7 +138,8 @@ module _ (P : Entries → Type 0) where
 
   module _ (len i : ℕ) (t : List ℕ) (total : Option Entries) (lt : i < len) (so_far : EntriesSoFar (len - i) t total) where
     pub entries_fail : (name s : List ℕ) (e : FieldFault) → Fails e (option_map (entry_matched name s) (entry_at t)) → Fails e total
-    entries_fail name s e g = members_failed entry_at with_entry len i so_far.held t total lt so_far.reads e (fails_mapped (entry_matched name s) e (entry_at t) g)
+    entries_fail name s e g = members_failed entry_at with_entry len i so_far.held t total lt so_far.reads e
+        (fails_mapped (entry_matched name s) e (entry_at t) g)
 
 -- one entry more, of which now Q is so
 module _ (P Q : Entries → Type 0) (name s : List ℕ) (len i : ℕ) (t : List ℕ) (total : Option Entries) (lt : i < len) (so_far : EntriesSoFar P (len - i) t total)
@@ -165,7 +171,12 @@ module _ (P Q : Entries → Type 0) (name s : List ℕ) (len i : ℕ) (t : List 
   }
 
   pub entries_done : next_at rest ≡ Some None → (d : Entries) × (total ≡ Some d) × Q d
-  entries_done e = (with_value so_far.held key entered.member, members_done entry_at with_entry len i so_far.held t total lt so_far.reads (key, entered.member) rest entered.read e, entered.says)
+  entries_done e = (
+    with_value so_far.held key entered.member,
+    members_done entry_at with_entry len i so_far.held t total lt so_far.reads (key, entered.member)
+        rest entered.read e,
+    entered.says,
+  )
 
   pub entries_refused : (e : FieldFault) → Fails e (next_at rest) → Fails e total
   entries_refused e g = members_refused entry_at with_entry len i so_far.held t total lt so_far.reads (key, entered.member) rest entered.read e g
@@ -173,17 +184,20 @@ module _ (P Q : Entries → Type 0) (name s : List ℕ) (len i : ℕ) (t : List 
 -- ---- what is said of the matched ones
 
 module _ (name s : List ℕ) where
-  pub told_first : (key value : List ℕ) (d : Entries) (m : Member) (r : List ℕ) → entry_value_at value ≡ Some (m, r) → is_match name s m ≡ true → matches_among name s d ≡ []
+  pub told_first : (key value : List ℕ) (d : Entries) (m : Member) (r : List ℕ) → entry_value_at value ≡ Some (m, r) → is_match name s m ≡ true
+      → matches_among name s d ≡ []
       → (x : Member) × (rest : List ℕ) × (entry_value_at value ≡ Some (x, rest)) × (matches_among name s (with_value d key m) ≡ (key, x) ∷ [])
   told_first key value d m r read matched none = (m, r, read, first_one name s d key m none matched)
 
 -- ---- what is said of a key
 
-pub under_one : (d : Entries) (m : Member) (r value key : List ℕ) (k : List ℕ) → entry_value_at value ≡ Some (m, r) → bytes_eq key k ≡ true → IsUnder (Some value) (value_at (with_value d key m) k)
+pub under_one : (d : Entries) (m : Member) (r value key : List ℕ) (k : List ℕ) → entry_value_at value ≡ Some (m, r) → bytes_eq key k ≡ true
+    → IsUnder (Some value) (value_at (with_value d key m) k)
 under_one d m r value key k read t =
     (m, r, read, ap (value_at (with_value d key m)) (sym ((bytes_eq-Decides key k).0 t)) ∙ value_set d key m)
 
-pub under_other : (found : Option (List ℕ)) (d : Entries) (m : Member) (key k : List ℕ) → bytes_eq key k ≡ false → IsUnder found (value_at d k) → IsUnder found (value_at (with_value d key m) k)
+pub under_other : (found : Option (List ℕ)) (d : Entries) (m : Member) (key k : List ℕ) → bytes_eq key k ≡ false → IsUnder found (value_at d k)
+    → IsUnder found (value_at (with_value d key m) k)
 under_other found d m key k t is = subst (IsUnder found) (sym (value_after d key m k (turned key k t))) is
 
 -- ---- the bare item of a member
@@ -194,7 +208,8 @@ inner_single t m rest h e =
     let a = mapped (λ (x : InnerList × List ℕ). (Inner x.0, x.1)) (inner_at (drop 1 t)) (m, rest) (rw h at e) in
     ap single_of (ap (λ (y : Member × List ℕ). y.0) a.2)
 
-item_read : (t : List ℕ) (m : Member) (rest : List ℕ) → begins 40 t ≡ false → member_at t ≡ Some (m, rest) → (b : Bare × List ℕ) × (bare_at t ≡ Some b) × (Some b.0 ≡ single_of m)
+item_read : (t : List ℕ) (m : Member) (rest : List ℕ) → begins 40 t ≡ false → member_at t ≡ Some (m, rest)
+    → (b : Bare × List ℕ) × (bare_at t ≡ Some b) × (Some b.0 ≡ single_of m)
 unfolding member_at item_at
 item_read t m rest h e =
     let a = mapped (λ (x : Item × List ℕ). (Single x.0, x.1)) (item_at t) (m, rest) (rw h at e) in
@@ -204,7 +219,8 @@ item_read t m rest h e =
     let is : made ≡ a.0 = some_is made a.0 c.2 in
     (b.0, b.1, ap (λ (y : Item × List ℕ). Some y.0.bare) is ∙ ap single_of (ap (λ (y : Member × List ℕ). y.0) a.2))
 
-pub single_is : (t : List ℕ) (m : Member) (rest : List ℕ) (v : Bare) (r : List ℕ) → begins 40 t ≡ false → member_at t ≡ Some (m, rest) → bare_at t ≡ Some (v, r) → Some v ≡ single_of m
+pub single_is : (t : List ℕ) (m : Member) (rest : List ℕ) (v : Bare) (r : List ℕ) → begins 40 t ≡ false → member_at t ≡ Some (m, rest) → bare_at t ≡ Some (v, r)
+    → Some v ≡ single_of m
 single_is t m rest v r h e read =
     let a = item_read t m rest h e in
     let found : Bare × List ℕ = (v, r) in
@@ -233,7 +249,8 @@ module _ (text key : List ℕ) where
   abbrev found_in : Entries → Option Bare
   found_in d = bare_found (value_at d key)
 
-  pub single_absent : (d : Entries) → dictionary_of text ≡ Some d → IsUnder None (value_at d key) → option_map (λ d. bare_found (value_at d key)) (dictionary_of text) ≡ Some None
+  pub single_absent : (d : Entries) → dictionary_of text ≡ Some d → IsUnder None (value_at d key)
+      → option_map (λ d. bare_found (value_at d key)) (dictionary_of text) ≡ Some None
   single_absent d reads none = ap (option_map found_in) reads ∙ ap (λ (o : Option Member). Some (bare_found o)) none
 
   pub single_fails : (e : FieldFault) → Fails e (dictionary_of text) → Fails e (option_map (λ d. bare_found (value_at d key)) (dictionary_of text))

@@ -49,7 +49,8 @@ pub record StringsSoFar (n : ℕ) (held : List Item) (left : List ℕ) (total : 
   pub strings : are_strings held ≡ true
 
 -- an item that is held stays held
-still_lost : (n : ℕ) (held : List Item) (t : List ℕ) (items : List Item) (rest : List ℕ) → are_strings held ≡ false → items_from n held t ≡ Some (items, rest) → are_strings items ≡ false
+still_lost : (n : ℕ) (held : List Item) (t : List ℕ) (items : List Item) (rest : List ℕ) → are_strings held ≡ false → items_from n held t ≡ Some (items, rest)
+    → are_strings items ≡ false
 unfolding items_from
 still_lost zero held t items rest lost e = absurd cc
 still_lost (suc n) held t items rest lost e =
@@ -61,8 +62,10 @@ still_lost (suc n) held t items rest lost e =
     closed : ItemsRead
     closed = (held, drop 1 (behind is_space t))
 
-    by : ((begins 41 (behind is_space t) ≡ true) × (Some closed ≡ Some (items, rest))) ⊎ ((begins 41 (behind is_space t) ≡ false) × ((item_at (behind is_space t) >>= goes_on) ≡ Some (items, rest)))
-        → ((more : List Item) (u : List ℕ) (items : List Item) (rest : List ℕ) → are_strings more ≡ false → items_from n more u ≡ Some (items, rest) → are_strings items ≡ false)
+    by : ((begins 41 (behind is_space t) ≡ true) × (Some closed ≡ Some (items, rest)))
+        ⊎ ((begins 41 (behind is_space t) ≡ false) × ((item_at (behind is_space t) >>= goes_on) ≡ Some (items, rest)))
+        → ((more : List Item) (u : List ℕ) (items : List Item) (rest : List ℕ) → are_strings more ≡ false → items_from n more u ≡ Some (items, rest)
+        → are_strings items ≡ false)
         → are_strings items ≡ false
     by (inl h) again = subst (λ (x : ItemsRead). are_strings x.0 ≡ false) (some_is closed (items, rest) h.1) lost
     by (inr h) again =
@@ -77,13 +80,15 @@ with_string held x all is = list_all-append (λ (i : Item). is_any_string i.bare
 without_string : (held : List Item) (x : Item) → are_strings held ≡ true → is_any_string x.bare ≡ false → are_strings (held ++ x ∷ []) ≡ false
 without_string held x all is = list_all-append (λ (i : Item). is_any_string i.bare) held (x ∷ []) ∙ rw (all, is) refl
 
-pub all_strings : (held : List Item) (left : List ℕ) (items : List Item) (rest : List ℕ) → are_strings held ≡ true → read held left ≡ read items rest → read held left ≡ answered items rest
+pub all_strings : (held : List Item) (left : List ℕ) (items : List Item) (rest : List ℕ) → are_strings held ≡ true → read held left ≡ read items rest
+    → read held left ≡ answered items rest
 all_strings held left items rest all e =
     let here : ItemsRead = (held, left) in
     let same : here ≡ (items, rest) = some_is here (items, rest) e in
     subst (λ (x : ItemsRead). read held left ≡ answered x.0 x.1) same (rw all refl)
 
-pub not_all_strings : (n : ℕ) (held : List Item) (x : Item) (left : List ℕ) (items : List Item) (rest : List ℕ) → are_strings held ≡ true → is_any_string x.bare ≡ false
+pub not_all_strings : (n : ℕ) (held : List Item) (x : Item) (left : List ℕ) (items : List Item) (rest : List ℕ) → are_strings held ≡ true
+    → is_any_string x.bare ≡ false
     → items_from n (held ++ x ∷ []) left ≡ Some (items, rest) → None ≡ answered items rest
 not_all_strings n held x left items rest all is e = rw (still_lost n (held ++ x ∷ []) left items rest (without_string held x all is) e) refl
 
@@ -127,16 +132,20 @@ module _ {t : List ℕ} (list : InnerList) (a : InnerParts t list) where
       here : ItemsRead
       here = (items, rest)
 
-      by : (b : Bool) → are_strings a.items.0 ≡ b → read items rest ≡ cond b (read a.items.0 a.items.1) None → (are_strings a.items.0 ≡ true) × ((items ≡ a.items.0) × (rest ≡ a.items.1))
-      by true e h = let same : here ≡ (a.items.0, a.items.1) = some_is here (a.items.0, a.items.1) h in (e, (ap (λ (x : ItemsRead). x.0) same, ap (λ (x : ItemsRead). x.1) same))
+      by : (b : Bool) → are_strings a.items.0 ≡ b → read items rest ≡ cond b (read a.items.0 a.items.1) None
+          → (are_strings a.items.0 ≡ true) × ((items ≡ a.items.0) × (rest ≡ a.items.1))
+      by true e h = let same : here ≡ (a.items.0, a.items.1) = some_is here (a.items.0, a.items.1) h in
+          (e, (ap (λ (x : ItemsRead). x.0) same, ap (λ (x : ItemsRead). x.1) same))
       by false e h = absurd cc
 
-  pub params_denied : {A : Type 0} (items : List Item) (rest : List ℕ) (e : FieldFault) → AllRead items rest → Fails e (params_at rest) → answer {A = A} (Err e) ≡ Err NotInGrammar → ⊥
+  pub params_denied : {A : Type 0} (items : List Item) (rest : List ℕ) (e : FieldFault) → AllRead items rest → Fails e (params_at rest)
+      → answer {A = A} (Err e) ≡ Err NotInGrammar → ⊥
   params_denied items rest e h fails is =
       let all = all_read items rest h in
       denied e (params_at rest) a.params fails (ap params_at all.1.1 ∙ a.params_read) is
 
-  pub list_of_strings : (items : List Item) (rest : List ℕ) (params : List (List ℕ × Bare)) (behind_all : List ℕ) → AllRead items rest → params_at rest ≡ Some (params, behind_all)
+  pub list_of_strings : (items : List Item) (rest : List ℕ) (params : List (List ℕ × Bare)) (behind_all : List ℕ) → AllRead items rest
+      → params_at rest ≡ Some (params, behind_all)
       → Some (record { items = items; params = params }) ≡ only_strings list.items list
   list_of_strings items rest params behind_all h read =
       let all = all_read items rest h in
@@ -148,7 +157,8 @@ module _ {t : List ℕ} (list : InnerList) (a : InnerParts t list) where
 
 -- ---- the member behind a key
 
-pub as_listed : (r : Result (Option InnerList) FieldFault) (list : InnerList) (m : Member) → Inner list ≡ m → IfOk r (λ o. o ≡ only_strings list.items list) → IfOk r (λ o. o ≡ strings_in m)
+pub as_listed : (r : Result (Option InnerList) FieldFault) (list : InnerList) (m : Member) → Inner list ≡ m → IfOk r (λ o. o ≡ only_strings list.items list)
+    → IfOk r (λ o. o ≡ strings_in m)
 as_listed r list m is h = subst (λ (x : Member). IfOk r (λ o. o ≡ strings_in x)) is h
 
 pub no_list_true : (t : List ℕ) (m : Member) (rest : List ℕ) → begins 61 t ≡ false → entry_value_at t ≡ Some (m, rest) → None ≡ strings_in m
@@ -157,7 +167,8 @@ no_list_true t m rest h e =
     let a = mapped (λ (p : Params). (Single (record { bare = Boolean true; params = p.0 }), p.1)) (params_at t) (m, rest) (rw h at e) in
     ap strings_in (ap (λ (y : Member × List ℕ). y.0) a.2)
 
-pub no_list_item : (t u : List ℕ) (m : Member) (rest : List ℕ) → begins 61 t ≡ true → u ≡ drop 1 t → begins 40 u ≡ false → entry_value_at t ≡ Some (m, rest) → None ≡ strings_in m
+pub no_list_item : (t u : List ℕ) (m : Member) (rest : List ℕ) → begins 61 t ≡ true → u ≡ drop 1 t → begins 40 u ≡ false → entry_value_at t ≡ Some (m, rest)
+    → None ≡ strings_in m
 unfolding entry_value_at member_at
 no_list_item t u m rest h is other e =
     let a = mapped (λ (x : Item × List ℕ). (Single x.0, x.1)) (item_at u) (m, rest) (rw (h, ← is, other) at e) in
@@ -168,7 +179,8 @@ pub record ListThere (t : List ℕ) (m : Member) (rest : List ℕ) : Type 0 wher
   pub read : inner_at t ≡ Some (list, rest)
   pub is : Inner list ≡ m
 
-pub list_there : (t u v : List ℕ) (m : Member) (rest : List ℕ) → begins 61 t ≡ true → u ≡ drop 1 t → begins 40 u ≡ true → v ≡ drop 1 u → entry_value_at t ≡ Some (m, rest) → ListThere v m rest
+pub list_there : (t u v : List ℕ) (m : Member) (rest : List ℕ) → begins 61 t ≡ true → u ≡ drop 1 t → begins 40 u ≡ true → v ≡ drop 1 u
+    → entry_value_at t ≡ Some (m, rest) → ListThere v m rest
 unfolding entry_value_at member_at
 list_there t u v m rest h is opens inside e =
     let a = mapped (λ (x : InnerList × List ℕ). (Inner x.0, x.1)) (inner_at v) (m, rest) (rw (h, ← is, opens, ← inside) at e) in

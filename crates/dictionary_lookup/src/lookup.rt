@@ -94,7 +94,8 @@ fn matching_in<'a>(
     name: &[u8],
     s: &[u8],
 ) -> Result<Matched<'a>, FieldFault>
-    ensures ok { IfOk result (λ found. (d : List (List ℕ × MemberValue)) × (members_from entry_at with_entry (length bytes.now) [] bytes.now ≡ Some d) × Tells name.now s.now found d) }
+    ensures ok { IfOk result (λ found. (d : List (List ℕ × MemberValue)) × (members_from entry_at with_entry (length bytes.now) [] bytes.now ≡ Some d)
+        × Tells name.now s.now found d) }
     ensures err { IfErr result (λ e. Fails e (members_from entry_at with_entry (length bytes.now) [] bytes.now)) }
 {
     let mut found = Matched::Nowhere;
@@ -110,7 +111,8 @@ fn matching_in<'a>(
     Err(FieldFault::NotInGrammar)
 }
 
-/// The inner list of a dictionary (RFC 9651, section 4.2.2) whose parameter of this name is this String, where the dictionary has one such list alone. The text is
+/// The inner list of a dictionary (RFC 9651, section 4.2.2) whose parameter of this name is this String, where the dictionary has one such list alone. The text
+/// is
 /// gone through once, and no other member takes memory that stays.
 ///
 /// Errors: NotInGrammar exactly where the text is no dictionary. OutOfMemory may come in place of any answer.
@@ -139,7 +141,8 @@ fn under_with_skipped<'a>(
     key: &[u8],
 ) -> Option<&'a [u8]>
     ensures { (d : List (List ℕ × MemberValue)) (m : MemberValue) (rest : List ℕ) → entry_value_at skipped.entry.at.value.now ≡ Some (m, rest)
-        → IsUnder (option_copied found.entry) (value_at d key.now) → IsUnder (option_copied result) (value_at (with_value d skipped.entry.at.key.now m) key.now) }
+        → IsUnder (option_copied found.entry) (value_at d key.now)
+        → IsUnder (option_copied result) (value_at (with_value d skipped.entry.at.key.now m) key.now) }
 {
     if skipped.at.key == key {
         Some(skipped.at.value)
@@ -149,7 +152,8 @@ fn under_with_skipped<'a>(
 }
 
 fn under_in<'a>(alloc: Global, bytes: &'a [u8], key: &[u8]) -> Result<Option<&'a [u8]>, FieldFault>
-    ensures ok { IfOk result (λ found. (d : List (List ℕ × MemberValue)) × (members_from entry_at with_entry (length bytes.now) [] bytes.now ≡ Some d) × IsUnder (option_copied found) (value_at d key.now)) }
+    ensures ok { IfOk result (λ found. (d : List (List ℕ × MemberValue)) × (members_from entry_at with_entry (length bytes.now) [] bytes.now ≡ Some d)
+        × IsUnder (option_copied found) (value_at d key.now)) }
     ensures err { IfErr result (λ e. Fails e (members_from entry_at with_entry (length bytes.now) [] bytes.now)) }
 {
     let mut found = None;
@@ -168,7 +172,8 @@ fn under_in<'a>(alloc: Global, bytes: &'a [u8], key: &[u8]) -> Result<Option<&'a
 // The text of the member under a key.
 #[tactic(auto, unfolding(structured_fields::specs::Reading::dictionary_of, structured_fields::specs::Reading::members_of))]
 fn under<'a>(alloc: Global, text: &'a [u8], key: &[u8]) -> Result<Option<&'a [u8]>, FieldFault>
-    ensures ok { IfOk result (λ found. (d : List (List ℕ × MemberValue)) × (dictionary_of text.now ≡ Some d) × IsUnder (option_copied found) (value_at d key.now)) }
+    ensures ok { IfOk result (λ found. (d : List (List ℕ × MemberValue)) × (dictionary_of text.now ≡ Some d)
+        × IsUnder (option_copied found) (value_at d key.now)) }
     ensures err { IfErr result (λ e. Fails e (dictionary_of text.now)) }
 {
     let bytes = without_spaces(text);
@@ -202,7 +207,8 @@ fn single_behind(alloc: Global, value: &[u8]) -> Result<Option<Bare>, FieldFault
     }
 }
 
-/// The bare item of the member under a key of a dictionary (RFC 9651, section 4.2.2), of which the last one counts. None exactly where no member has the key, or it
+/// The bare item of the member under a key of a dictionary (RFC 9651, section 4.2.2), of which the last one counts. None exactly where no member has the key,
+/// or it
 /// is an inner list. The text is gone through once, and no other member takes memory that stays.
 ///
 /// Errors: NotInGrammar exactly where the text is no dictionary. OutOfMemory may come in place of any answer.

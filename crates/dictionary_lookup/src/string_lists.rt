@@ -14,7 +14,8 @@ use structured_fields::{FieldFault, InnerList, Items, is_any_string};
 
 // The items up to the `)`, and what stands behind it. None where one is no String; what stands behind that one isn't read.
 fn strings_of(alloc: Global, bytes: &[u8]) -> Result<Option<(Items, &[u8])>, FieldFault>
-    ensures ok { (items : List ItemValue) (rest : List ℕ) → items_at bytes.now ≡ Some (items, rest) → IfOk result (λ o. option_map {U = List ItemValue × List ℕ} (λ x. (x.0, x.1.now)) o ≡ only_strings items (items, rest)) }
+    ensures ok { (items : List ItemValue) (rest : List ℕ) → items_at bytes.now ≡ Some (items, rest)
+        → IfOk result (λ o. option_map {U = List ItemValue × List ℕ} (λ x. (x.0, x.1.now)) o ≡ only_strings items (items, rest)) }
     ensures err { (items : List ItemValue) (rest : List ℕ) → items_at bytes.now ≡ Some (items, rest) → result ≡ Err Refused → ⊥ }
 {
     let mut items = Items::new(alloc);
@@ -49,7 +50,8 @@ fn inner_strings(alloc: Global, bytes: &[u8]) -> Result<Option<InnerList>, Field
     Ok(Some(InnerList { items, params }))
 }
 
-/// The inner list of Strings that is the member at the front of a text behind a key (RFC 9651, section 4.2.2). None where another member is there, or an item of
+/// The inner list of Strings that is the member at the front of a text behind a key (RFC 9651, section 4.2.2). None where another member is there, or an item
+/// of
 /// the list is no String; what stands behind that item isn't read.
 ///
 /// Errors: NotInGrammar only where no member is there. OutOfMemory may come in place of any answer.

@@ -1,7 +1,8 @@
 //! Where in a text a person finds its fault: the line and the column of what is no JSON, or the id of a key.
 //!
 //! This is for what is said on standard error alone. The contract of `fault_place` says that a place that is told is one: no JSON, no object, a number that
-//! isn't whole, or the id of the key. Where memory runs out, or no place is known, none is told.
+//! isn't whole, or the id of the key. That none is known is told only where the text has none of these, or is no JSON and its reader knows no line, and that
+//! memory ran out is told by itself.
 #![tactic(auto)]
 
 ghost use Rattle.std.specs.Prelude.{◌≡◌, option_map};
@@ -28,6 +29,8 @@ pub enum FaultPlace {
     Key(Bytes),
     /// No nearer place is known.
     Unknown,
+    /// Memory ran out before a place was found.
+    OutOfMemory,
 }
 
 impl fmt::Display for FaultPlace {
@@ -45,6 +48,7 @@ impl fmt::Display for FaultPlace {
                 Err(_) => f.write_str("in a key"),
             },
             FaultPlace::Unknown => f.write_str("no place is known"),
+            FaultPlace::OutOfMemory => f.write_str("memory ran out"),
         }
     }
 }
@@ -63,8 +67,11 @@ fn json_place(alloc: Global, text: &[u8]) -> FaultPlace
             FaultPlace::Unknown
         }
         Err(error) => {
+            if error.is_memory() {
+                return FaultPlace::OutOfMemory;
+            }
             let line = error.line();
-            if error.is_memory() || line == 0 {
+            if line == 0 {
                 return FaultPlace::Unknown;
             }
             FaultPlace::Syntax {
@@ -85,15 +92,22 @@ fn id_at(value: &Value, place: usize) -> Option<&str>
 fn key_place(alloc: Global, text: &[u8], place: usize) -> FaultPlace
     ensures { IsInKey place text.now result }
 {
-    let Ok(value) = Value::from_slice(alloc, text) else {
-        return FaultPlace::Unknown;
+    let value = match Value::from_slice(alloc, text) {
+        Ok(value) => value,
+        Err(error) => {
+            return if error.is_memory() {
+                FaultPlace::OutOfMemory
+            } else {
+                FaultPlace::Unknown
+            };
+        }
     };
     let Some(id) = id_at(&value, place) else {
         return FaultPlace::Unknown;
     };
     match Bytes::from_slice(alloc, id.as_bytes()) {
         Ok(id) => FaultPlace::Key(id),
-        Err(_) => FaultPlace::Unknown,
+        Err(_) => FaultPlace::OutOfMemory,
     }
 }
 
@@ -104,6 +118,7 @@ pub fn fault_place(alloc: Global, text: &[u8], fault: &SetupFault) -> FaultPlace
     match fault {
         SetupFault::NotJson => json_place(alloc, text),
         SetupFault::InKey(place, _) => key_place(alloc, text, *place),
-        SetupFault::InSetup(_) | SetupFault::OutOfMemory => FaultPlace::Unknown,
+        SetupFault::InSetup(_) => FaultPlace::Unknown,
+        SetupFault::OutOfMemory => FaultPlace::OutOfMemory,
     }
 }

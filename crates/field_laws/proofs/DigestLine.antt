@@ -28,7 +28,8 @@ pub line_fits : (body : List ℕ) → Fits (digest_text body) body
 line_fits body = record {
   dictionary = entry body ∷ [];
   is = subst (λ (t : List ℕ). IsDictionaryText t (entry body ∷ [])) (sym (line_is body))
-      (dictionary_text_is (entry body ∷ []) (record { entries = ((refl, record { bare = sha_bytes body; params = tt; distinct = tt }), tt); distinct = (refl, tt) }));
+      (dictionary_text_is (entry body ∷ [])
+      (record { entries = ((refl, record { bare = sha_bytes body; params = tt; distinct = tt }), tt); distinct = (refl, tt) }));
   all = (refl, tt);
   some = refl;
 }

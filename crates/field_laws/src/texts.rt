@@ -4,7 +4,8 @@ ghost use Rattle.structured_fields.specs.Grammar.{IsItemText, IsListText, IsDict
 ghost use Rattle.structured_fields.specs.Canonical.{item_text, list_text, dictionary_text, IsItemInRange, IsListInRange, IsDictionaryInRange};
 ghost use Rattle.structured_fields.specs.Reading.{item_of, list_of, dictionary_of};
 
-/// A text of an item has one value at most, which `item_of` gives, and which is in range. The canonical text of an item in range is a text of it, and reads as it.
+/// A text of an item has one value at most, which `item_of` gives, and which is in range. The canonical text of an item in range is a text of it, and reads as
+/// it.
 pub fn item_laws()
     ensures one { HasOneValue IsItemText }
     ensures read { IsReadBy IsItemText item_of }

@@ -27,7 +27,8 @@ fn replay_after<S: Source, O: Sink>(
     out: &mut O,
 ) -> Ended
     requires held { length (held_by reader.old) ≤ reader.old.taken }
-    ensures replays { (setup : _) → setup_in first.now ≡ Some setup → Replays setup 0 (IsLoneHistory setup) (held_by reader.old) reader.old.taken reader.new.taken
+    ensures replays { (setup : _) → setup_in first.now ≡ Some setup
+        → Replays setup 0 (IsLoneHistory setup) (held_by reader.old) reader.old.taken reader.new.taken
         (S.told source.old) (S.told source.new) (O.told out.old) (O.told out.new) result }
     ensures no_setup { setup_in first.now ≡ None → IsRefusal result × (O.told out.new ≡ O.told out.old) }
     ensures came { (bytes : _) × Came bytes reader.old.taken reader.new.taken (S.told source.old) (S.told source.new) }

@@ -19,7 +19,8 @@ kept : (config : ClientConfig) (taken : List (Asked × ReadReply)) (old new : Cl
     → new.config ≡ old.config → new.received ≡ old.received → ClientFits config taken new
 kept config taken old new fits same_config same_held = record { config_is = same_config ∙ fits.config_is; received_is = same_held ∙ fits.received_is }
 
-unchanged : (config : ClientConfig) (taken : List (Asked × ReadReply)) (old new : Client) → ClientFits config taken old → new ≡ old → ClientFits config taken new
+unchanged : (config : ClientConfig) (taken : List (Asked × ReadReply)) (old new : Client) → ClientFits config taken old → new ≡ old
+    → ClientFits config taken new
 unchanged config taken old new fits same = kept config taken old new fits (ap (λ (c : Client). c.config) same) (ap (λ (c : Client). c.received) same)
 
 pub calls_fit_law : CallsFit

@@ -39,15 +39,19 @@ pub with_grant_as : (act : OpeningNote → Action) (key : Text) (named found : O
 with_grant_as act key named found action is acts = ap (λ (o : Option OpeningNote). on_found InvalidContinuation (with_key act key) o) (sym is) ∙ acts
 
 -- What is done on a token's grant, by the grant that was looked up.
-pub on_grant_as : (code : ErrorCode) (trail : List Note) (key : Text) (t : TokenNote) (act : OpeningNote → Action) (found : Option OpeningNote) (action : Action)
+pub on_grant_as : (code : ErrorCode) (trail : List Note) (key : Text) (t : TokenNote) (act : OpeningNote → Action) (found : Option OpeningNote)
+    (action : Action)
     → found ≡ first_of (opening_in t.grant) trail → on_found code (with_owner act t.key key) found ≡ action → on_grant code trail key t act ≡ action
 on_grant_as code trail key t act found action is acts = ap (λ (o : Option OpeningNote). on_found code (with_owner act t.key key) o) (sym is) ∙ acts
 
 -- A live token is rotated as its grant says.
-pub rotates_as : (rules : Setup) (trail : List Note) (now : ℕ) (key : Text) (t : TokenNote) (new_key : Option Text) (found : Option OpeningNote) (action : Action)
-    → is_live trail now t ≡ true → found ≡ first_of (opening_in t.grant) trail → on_found InvalidRotation (with_owner (rotate_key rules new_key t) t.key key) found ≡ action
+pub rotates_as : (rules : Setup) (trail : List Note) (now : ℕ) (key : Text) (t : TokenNote) (new_key : Option Text) (found : Option OpeningNote)
+    (action : Action)
+    → is_live trail now t ≡ true → found ≡ first_of (opening_in t.grant) trail
+    → on_found InvalidRotation (with_owner (rotate_key rules new_key t) t.key key) found ≡ action
     → (if is_live trail now t then on_grant InvalidRotation trail key t (rotate_key rules new_key t) else Refuse InvalidRotation) ≡ action
-rotates_as rules trail now key t new_key found action live is acts = rw live (on_grant_as InvalidRotation trail key t (rotate_key rules new_key t) found action is acts)
+rotates_as rules trail now key t new_key found action live is acts = rw live
+    (on_grant_as InvalidRotation trail key t (rotate_key rules new_key t) found action is acts)
 
 -- A round without a decision, whose time for it is over, ends its grant.
 pub ran_out : (trail : List Note) (now : ℕ) (o : OpeningNote) (reference : Option Text) (decision : Option DecisionNote) (round : RoundNote)

@@ -82,7 +82,8 @@ middle_le false false c = omega arith
 -- No more tokens are live than have not expired.
 pub live_tokens-unexpired : (notes : List Note) (now : ℕ) → length (live_tokens (reverse notes) now) ≤ count_by (is_unexpired now) notes
 live_tokens-unexpired notes now = found_before (is_live (reverse notes) now) (is_unexpired now)
-    (λ t. middle_le (not (list_any (is_retirement t.serial) (reverse notes))) (nat_lt now t.until) (is_approved (grant_state (reverse notes) t.grant now))) notes
+    (λ t. middle_le (not (list_any (is_retirement t.serial) (reverse notes))) (nat_lt now t.until) (is_approved (grant_state (reverse notes) t.grant now)))
+    notes
 
 -- ---- where all grants go on
 
@@ -90,21 +91,24 @@ not_past : (now n : ℕ) → nat_lt now n ≡ true → nat_le n now ≡ false
 not_past now n is = grind (arith, nat_tests)
 
 not_over : (now : ℕ) (trail : List Note) (g : ℕ) → list_all (lets_go_on now) trail ≡ true
-    → (list_any (is_end_of g) trail ≡ false) × (has_ended (first_of (opening_in g) trail) now ≡ false) × ((r : RoundNote) → first_of (state_change_in g) trail ≡ Some (ToPending r) → ⊥)
+    → (list_any (is_end_of g) trail ≡ false) × (has_ended (first_of (opening_in g) trail) now ≡ false)
+    × ((r : RoundNote) → first_of (state_change_in g) trail ≡ Some (ToPending r) → ⊥)
 not_over now [] g on = (refl, refl, λ r is. cc is)
 not_over now (Opened o ∷ trail) g on =
     let both = and_parts (nat_lt now o.end) (list_all (lets_go_on now) trail) on in
     let rest = not_over now trail g both.1 in
     (rest.0, first_ended (o.grant == g) rest.1, rest.2)
   where
-    first_ended : (b : Bool) → has_ended (first_of (opening_in g) trail) now ≡ false → has_ended (option_or (some_if b o) (first_of (opening_in g) trail)) now ≡ false
+    first_ended : (b : Bool) → has_ended (first_of (opening_in g) trail) now ≡ false
+        → has_ended (option_or (some_if b o) (first_of (opening_in g) trail)) now ≡ false
     first_ended true rest = not_past now o.end (and_parts (nat_lt now o.end) (list_all (lets_go_on now) trail) on).0
     first_ended false rest = rest
 not_over now (Approved h consent ∷ trail) g on =
     let rest = not_over now trail g on in
     (rest.0, rest.1, λ r. changed (h == g) r (rest.2 r))
   where
-    changed : (b : Bool) (r : RoundNote) → (first_of (state_change_in g) trail ≡ Some (ToPending r) → ⊥) → option_or (some_if b ToApproved) (first_of (state_change_in g) trail) ≡ Some (ToPending r) → ⊥
+    changed : (b : Bool) (r : RoundNote) → (first_of (state_change_in g) trail ≡ Some (ToPending r) → ⊥)
+        → option_or (some_if b ToApproved) (first_of (state_change_in g) trail) ≡ Some (ToPending r) → ⊥
     changed true r none is = cc is
     changed false r none is = none is
 not_over now (Terms t ∷ trail) g on = not_over now trail g on
@@ -172,7 +176,8 @@ live_until : (now : ℕ) (trail : List Note) (t : TokenNote) → list_all (lets_
 live_until now trail t on =
     let kept = not_retired now trail t.serial on in
     let approved = all_approved now trail t.grant on in
-    middle_of (not (list_any (is_retirement t.serial) trail)) (nat_lt now t.until) (is_approved (grant_state trail t.grant now)) (rw kept refl) (rw approved refl)
+    middle_of (not (list_any (is_retirement t.serial) trail)) (nat_lt now t.until) (is_approved (grant_state trail t.grant now)) (rw kept refl)
+    (rw approved refl)
 
 token_each : (now : ℕ) (test : TokenNote → Bool) → ((t : TokenNote) → test t ≡ nat_lt now t.until)
     → (note : Note) (xs : List TokenNote) → length (cons_option (token_in test note) xs) ≡ cond (is_unexpired now note) 1 0 + length xs
@@ -194,7 +199,8 @@ tokens_each now test is (note ∷ trail) =
     let rest = tokens_each now test is trail in omega arith
 
 -- And all tokens that have not expired.
-pub live_tokens-all : (notes : List Note) (now : ℕ) → list_all (lets_go_on now) notes ≡ true → length (live_tokens (reverse notes) now) ≡ count_by (is_unexpired now) notes
+pub live_tokens-all : (notes : List Note) (now : ℕ) → list_all (lets_go_on now) notes ≡ true
+    → length (live_tokens (reverse notes) now) ≡ count_by (is_unexpired now) notes
 live_tokens-all notes now on =
     let on_back = all-reverse (lets_go_on now) notes on in
     let each = tokens_each now (is_live (reverse notes) now) (λ t. live_until now (reverse notes) t on_back) (reverse notes) in
@@ -221,7 +227,8 @@ other_live_tokens-count notes now o =
     ∙ count-reverse (is_live_elsewhere (reverse notes) now o.grant) notes
 
 -- Not more of them are live than of all.
-pub other_live_tokens-le : (notes : List Note) (now : ℕ) (o : OpeningNote) → length (other_live_tokens (reverse notes) now o) ≤ length (live_tokens (reverse notes) now)
+pub other_live_tokens-le : (notes : List Note) (now : ℕ) (o : OpeningNote)
+    → length (other_live_tokens (reverse notes) now o) ≤ length (live_tokens (reverse notes) now)
 other_live_tokens-le notes now o =
     let kept = length-filter (λ token. not (token.grant == o.grant)) (live_tokens (reverse notes) now) in
     let few = count_by-le-length (λ (token : TokenNote). not (token.grant == o.grant)) (live_tokens (reverse notes) now) in omega arith

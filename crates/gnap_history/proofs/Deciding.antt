@@ -15,7 +15,8 @@ use Rattle.gnap_model.specs.Judging.{Settled, settle, serves_all}
 use Rattle.gnap_model.specs.Begin.{introspect, show_token, is_past, begin, begin_by, opening}
 
 -- A server that serves all that it asks about is shown the live token, if it suits.
-pub introspect_as : (rules : Setup) (trail : List Note) (now : ℕ) (server value : Text) (binding : Option Binding) (wanted : Option (List Right)) (t : Option TokenNote)
+pub introspect_as : (rules : Setup) (trail : List Note) (now : ℕ) (server value : Text) (binding : Option Binding) (wanted : Option (List Right))
+    (t : Option TokenNote)
     (names : List Text) → names ≡ server_names (key_of rules server) → serves_all names wanted ≡ true → live_token trail now value ≡ t
     → introspect rules trail now server value binding wanted ≡ show_token names binding wanted t
 introspect_as rules trail now server value binding wanted t names named served found = rw (← named, served, found) refl

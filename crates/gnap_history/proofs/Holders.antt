@@ -17,13 +17,15 @@ not_held true true h e = cc e
 not_held true false h e = cc h
 not_held false b h e = refl
 
-other_door : (trail : List Note) (g h : ℕ) (value : Text) → list_any (is_held_by_other g value) trail ≡ false → (h == g) ≡ false → is_text value (first_of (door_in h) trail) ≡ false
+other_door : (trail : List Note) (g h : ℕ) (value : Text) → list_any (is_held_by_other g value) trail ≡ false → (h == g) ≡ false
+    → is_text value (first_of (door_in h) trail) ≡ false
 other_door [] g h value none other = refl
 other_door (Door k v e ∷ trail) g h value none other =
     let parts = or_parts (same_text v value && not (k == g)) (list_any (is_held_by_other g value) trail) none in
     step (k == h) (λ same. not_held (same_text v value) (k == g) parts.0 (let is = eqb-true k h same in rw is other)) (other_door trail g h value parts.1 other)
   where
-    step : (b : Bool) → (b ≡ true → same_text v value ≡ false) → is_text value (first_of (door_in h) trail) ≡ false → is_text value (option_or (some_if b v) (first_of (door_in h) trail)) ≡ false
+    step : (b : Bool) → (b ≡ true → same_text v value ≡ false) → is_text value (first_of (door_in h) trail) ≡ false
+        → is_text value (option_or (some_if b v) (first_of (door_in h) trail)) ≡ false
     step true here rest = here refl
     step false here rest = rest
 other_door (Opened o ∷ trail) g h value none other = other_door trail g h value none other
@@ -44,5 +46,6 @@ none-reverse p (x ∷ xs) none =
     rw (reverse-append (x ∷ []) xs, list_any-append p (reverse xs) (x ∷ []), rest, parts.0) refl
 
 -- Where no grant but one had the value, it is no other grant's.
-pub door_of_another : (notes : List Note) (g h : ℕ) (value : Text) → list_any (is_held_by_other g value) notes ≡ false → (h == g) ≡ false → is_door_of (reverse notes) h value ≡ false
+pub door_of_another : (notes : List Note) (g h : ℕ) (value : Text) → list_any (is_held_by_other g value) notes ≡ false → (h == g) ≡ false
+    → is_door_of (reverse notes) h value ≡ false
 door_of_another notes g h value none other = other_door (reverse notes) g h value (none-reverse (is_held_by_other g value) notes none) other

@@ -25,7 +25,8 @@ other_change : (trail : List Note) (g h : ℕ) (test : RoundNote → Bool) → l
 other_change [] g h test none other = refl
 other_change (Pended r ∷ trail) g h test none other =
     let parts = or_parts (test r && not (r.grant == g)) (list_any (is_round_elsewhere g test) trail) none in
-    step (r.grant == h) (λ same. not_held (test r) (r.grant == g) parts.0 (let is = eqb-true r.grant h same in rw is other)) (other_change trail g h test parts.1 other)
+    step (r.grant == h) (λ same. not_held (test r) (r.grant == g) parts.0 (let is = eqb-true r.grant h same in rw is other))
+    (other_change trail g h test parts.1 other)
   where
     step : (b : Bool) → (b ≡ true → test r ≡ false) → begins_where test (first_of (state_change_in h) trail) ≡ false
         → begins_where test (option_or (some_if b (ToPending r)) (first_of (state_change_in h) trail)) ≡ false
@@ -61,7 +62,8 @@ none_after trail now test (Some (ToPending r)) fails = step (nat_le r.over now)
     step true = refl
     step false = kept _
 
-none_now : (trail : List Note) (now : ℕ) (test : RoundNote → Bool) (over : Bool) (state : GrantState) → option_and_then (round_where test) (live_round trail now state) ≡ None
+none_now : (trail : List Note) (now : ℕ) (test : RoundNote → Bool) (over : Bool) (state : GrantState)
+    → option_and_then (round_where test) (live_round trail now state) ≡ None
     → option_and_then (round_where test) (live_round trail now (if over then IsFinalized else state)) ≡ None
 none_now trail now test true state none = refl
 none_now trail now test false state none = none

@@ -20,4 +20,5 @@ filter_map-reverse pick (note ∷ notes) =
     ∙ turned (pick note) (filter_map pick notes)
 
 pub issued_in_order : (test : TokenNote → Bool) (notes : List Note) → issued_where test (reverse notes) ≡ filter_map (token_in test) notes
-issued_in_order test notes = ap (λ (tokens : List TokenNote). reverse tokens) (filter_map-reverse (token_in test) notes) ∙ reverse-reverse (filter_map (token_in test) notes)
+issued_in_order test notes = ap (λ (tokens : List TokenNote). reverse tokens) (filter_map-reverse (token_in test) notes)
+    ∙ reverse-reverse (filter_map (token_in test) notes)

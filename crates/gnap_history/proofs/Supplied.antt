@@ -26,10 +26,12 @@ pub token_is : (entry : EntrySupply) (supply : Supply) (opening : OpeningNote) (
     → token_drawn entry opening.grant key opening.end ask index ≡ record (token_for supply opening ask index) { key = key }
 token_is entry supply opening key ask index same = rw (same.moment, same.first, same.words) refl
 
-pub round_is : (entry : EntrySupply) (supply : Supply) (opening : OpeningNote) (modes : Modes) (code : Option Text) → IsSupply entry supply → code ≡ some_if (wants_code modes) (code_for supply)
+pub round_is : (entry : EntrySupply) (supply : Supply) (opening : OpeningNote) (modes : Modes) (code : Option Text) → IsSupply entry supply
+    → code ≡ some_if (wants_code modes) (code_for supply)
     → round_drawn entry opening.grant opening.end modes code ≡ round_for supply opening modes
 round_is entry supply opening modes code same is = rw (same.moment, same.first, same.words, is) refl
 
-pub finish_is : (entry : EntrySupply) (supply : Supply) (round : RoundNote) (finish : Option Finish) → IsSupply entry supply → finish_told entry round.nonce finish ≡ finish_of supply round finish
+pub finish_is : (entry : EntrySupply) (supply : Supply) (round : RoundNote) (finish : Option Finish) → IsSupply entry supply
+    → finish_told entry round.nonce finish ≡ finish_of supply round finish
 finish_is entry supply round None same = refl
 finish_is entry supply round (Some finish) same = rw (same.first, same.words) refl

@@ -59,7 +59,8 @@ outcome_few supply trail call (LastWrongReference o) cause few = (tt, (tt, tt))
 outcome_few supply trail call (RefuseAndFinalize o code) cause few = (tt, tt)
 outcome_few supply trail call (ModifyAtOnce o consent retired request) cause few =
     let after = Terms (terms_for o request) ∷ Approved o.grant consent ∷ [] in
-    grant_few supply o (retire retired ++ after) request.asks request.single None None (retired_few retired after (changed_few call request cause.1 few, (tt, tt)))
+    grant_few supply o (retire retired ++ after) request.asks request.single None None
+    (retired_few retired after (changed_few call request cause.1 few, (tt, tt)))
 outcome_few supply trail call (ModifyAsking o retired request modes) cause few =
     let after = Terms (terms_for o request) ∷ [] in
     pending_few supply o (retire retired ++ after) modes None (retired_few retired after (changed_few call request cause.1 few, tt))
@@ -69,7 +70,8 @@ outcome_few supply trail call (RevokeToken token was_retired) cause few = if_bot
 outcome_few supply trail call _ cause few = tt
 
 -- The notes of a call that asks for few tokens ask for few.
-pub answer_few : (rules : Setup) (notes : List Note) (at : ℕ) (draw : List ℕ) (call : Call) → HasFewAsks call → AskForFew (gnap_answer rules notes at draw call).notes
+pub answer_few : (rules : Setup) (notes : List Note) (at : ℕ) (draw : List ℕ) (call : Call) → HasFewAsks call
+    → AskForFew (gnap_answer rules notes at draw call).notes
 answer_few rules notes at draw call few =
     let supply = supply_of (reverse notes) at draw in
     outcome_few supply (reverse notes) call (action_of rules supply (reverse notes) call) (cause_of rules supply (reverse notes) call) few

@@ -58,7 +58,8 @@ fn modify_at_once(
 ) -> Result<NotedReply, Mem>
     requires few { length request.now.asks ≤ 8 }
     requires consent { consent.now ≡ consent_to (trail drawing.now) opening.now.grant }
-    ensures { IfOk result (IsAnswer (outcome_of (supply drawing.now) (modified_by SettledAtOnce (trail drawing.now) drawing.now.moment opening.now request.now))) }
+    ensures { IfOk result (IsAnswer
+        (outcome_of (supply drawing.now) (modified_by SettledAtOnce (trail drawing.now) drawing.now.moment opening.now request.now))) }
 {
     let notes = drawing.notes.as_slice();
     if others_pass_limit(notes, opening, drawing.moment, request.asks.len()) {
@@ -90,7 +91,8 @@ fn modify_asking(
     request: &GrantRequest,
     modes: &Modes,
 ) -> Result<NotedReply, Mem>
-    ensures { IfOk result (IsAnswer (outcome_of (supply drawing.now) (ModifyAsking opening.now (tokens_of (trail drawing.now) drawing.now.moment opening.now) request.now modes.now))) }
+    ensures { IfOk result (IsAnswer
+        (outcome_of (supply drawing.now) (ModifyAsking opening.now (tokens_of (trail drawing.now) drawing.now.moment opening.now) request.now modes.now))) }
 {
     let mut before = retirements(alloc, drawing.notes.as_slice(), opening, drawing.moment)?;
     before.push(Note::Terms(terms(opening.grant, request)?))?;
@@ -104,7 +106,8 @@ fn modify_by_asking(
     opening: &OpeningNote,
     request: &GrantRequest,
 ) -> Result<NotedReply, Mem>
-    ensures { IfOk result (IsAnswer (outcome_of (supply drawing.now) (modified_by SettledByAsking (trail drawing.now) drawing.now.moment opening.now request.now))) }
+    ensures { IfOk result (IsAnswer
+        (outcome_of (supply drawing.now) (modified_by SettledByAsking (trail drawing.now) drawing.now.moment opening.now request.now))) }
 {
     match &request.modes {
         Some(modes) => modify_asking(alloc, drawing, opening, request, modes),
@@ -121,7 +124,8 @@ fn modify_grant(
     request: &GrantRequest,
 ) -> Result<NotedReply, Mem>
     requires { length request.now.asks ≤ 8 }
-    ensures { IfOk result (IsAnswer (outcome_of (supply drawing.now) (modified_by (settle_for setup.now opening.now.key (consent_to (trail drawing.now) opening.now.grant) request.now)
+    ensures { IfOk result (IsAnswer
+        (outcome_of (supply drawing.now) (modified_by (settle_for setup.now opening.now.key (consent_to (trail drawing.now) opening.now.grant) request.now)
         (trail drawing.now) drawing.now.moment opening.now request.now))) }
 {
     let none = Seq::new(alloc);

@@ -144,7 +144,8 @@ fn decide_round(
     request: &DecideRequest,
     round: &RoundNote,
 ) -> Result<NotedReply, Mem>
-    ensures { IfOk result (IsAnswer (outcome_of (supply drawing.now) (on_found UnknownInteraction (λ terms. decided_on request.now round.now (all_asked_rights terms.asks))
+    ensures { IfOk result (IsAnswer
+        (outcome_of (supply drawing.now) (on_found UnknownInteraction (λ terms. decided_on request.now round.now (all_asked_rights terms.asks))
         (terms_of (trail drawing.now) round.now.grant)))) }
 {
     match drawing.notes.terms_of(round.grant) {

@@ -64,7 +64,8 @@ fn collect_grant(
     terms: &TermsNote,
 ) -> Result<NotedReply, Mem>
     requires { length terms.now.asks ≤ 8 }
-    ensures { IfOk result (IsAnswer (outcome_of (supply drawing.now) (collect_by Grant (trail drawing.now) drawing.now.moment opening.now decision.now terms.now))) }
+    ensures { IfOk result (IsAnswer
+        (outcome_of (supply drawing.now) (collect_by Grant (trail drawing.now) drawing.now.moment opening.now decision.now terms.now))) }
 {
     let asks = decided_asks(alloc, &decision.rights, &terms.asks)?;
     if passes_limit(drawing.notes, drawing.moment, asks.len()) {
@@ -101,7 +102,8 @@ fn collect(
     terms: &TermsNote,
 ) -> Result<NotedReply, Mem>
     requires { length terms.now.asks ≤ 8 }
-    ensures { IfOk result (IsAnswer (outcome_of (supply drawing.now) (collect_by decision.now.verdict (trail drawing.now) drawing.now.moment opening.now decision.now terms.now))) }
+    ensures { IfOk result (IsAnswer
+        (outcome_of (supply drawing.now) (collect_by decision.now.verdict (trail drawing.now) drawing.now.moment opening.now decision.now terms.now))) }
 {
     match decision.verdict {
         Verdict::Grant => collect_grant(alloc, drawing, opening, decision, terms),
@@ -117,7 +119,8 @@ fn collect_or_renew(
     opening: &OpeningNote,
     decision: Option<&DecisionNote>,
 ) -> Result<NotedReply, Mem>
-    ensures { IfOk result (IsAnswer (outcome_of (supply drawing.now) (collected_or_renewed (trail drawing.now) drawing.now.moment opening.now (option_map (λ d. d.now) decision.entry)))) }
+    ensures { IfOk result (IsAnswer
+        (outcome_of (supply drawing.now) (collected_or_renewed (trail drawing.now) drawing.now.moment opening.now (option_map (λ d. d.now) decision.entry)))) }
 {
     match decision {
         Some(decision) => match drawing.notes.terms_of(opening.grant) {
@@ -201,7 +204,8 @@ fn continue_pending(
     reference: &Option<Bytes>,
     round: &RoundNote,
 ) -> Result<NotedReply, Mem>
-    ensures { IfOk result (IsAnswer (outcome_of (supply drawing.now) (continue_at (IsPending round.now) (trail drawing.now) drawing.now.moment opening.now reference.now))) }
+    ensures { IfOk result (IsAnswer
+        (outcome_of (supply drawing.now) (continue_at (IsPending round.now) (trail drawing.now) drawing.now.moment opening.now reference.now))) }
 {
     let notes = drawing.notes.as_slice();
     if reference.is_none() && is_early(notes, opening, drawing.moment) {

@@ -27,7 +27,8 @@ pub fn token_with(
     index: usize,
 ) -> Result<TokenNote, Mem>
     requires { index < 23 }
-    ensures { IfOk result (λ token. token ≡ record (token_for (supply drawing.now) opening.now (record { label = label; rights = rights; bearer = bearer }) index) { key = key.now }) }
+    ensures { IfOk result (λ token. token
+        ≡ record (token_for (supply drawing.now) opening.now (record { label = label; rights = rights; bearer = bearer }) index) { key = key.now }) }
 {
     drawing.supply().token(
         opening.grant,

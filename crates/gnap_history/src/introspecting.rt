@@ -53,7 +53,8 @@ pub fn introspect(
     binding: Option<Binding>,
     wanted: &Option<Rights>,
 ) -> Result<NotedReply, Mem>
-    ensures { IfOk result (IsAnswer (outcome_of (supply drawing.now) (introspected setup.now (trail drawing.now) drawing.now.moment server.now value.now binding wanted.now))) }
+    ensures { IfOk result (IsAnswer
+        (outcome_of (supply drawing.now) (introspected setup.now (trail drawing.now) drawing.now.moment server.now value.now binding wanted.now))) }
 {
     let none = Seq::new(alloc);
     let names = server_names(setup, server.as_slice(), &none);

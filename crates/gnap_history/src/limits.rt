@@ -107,7 +107,8 @@ pub fn has_many_grants(notes: &NoteList, now: u64) -> bool
     live_grants(notes.as_slice(), now) >= LIVE_LIMIT
 }
 
-/// The live tokens and so many more are too many. They are counted one by one only where so many were issued and have not expired, and not all of these are live.
+/// The live tokens and so many more are too many. They are counted one by one only where so many were issued and have not expired, and not all of these are
+/// live.
 pub fn passes_limit(notes: &NoteList, now: u64, more: usize) -> bool
     requires { more ≤ 8 }
     ensures { result ≡ pass_limit (tokens_live (reverse notes.now) now) more }

@@ -82,7 +82,8 @@ fn live_round_with<'a>(
     is_shared: bool,
 ) -> Option<&'a RoundNote>
     requires { is_shared ≡ list_any (is_round_elsewhere holder (is_called name)) notes.now }
-    ensures { option_map (λ r. r.now) result ≡ option_and_then (round_where (is_called name.entry)) (round_by_state (reverse notes.now) now (grant_state (reverse notes.now) grant now)) }
+    ensures { option_map (λ r. r.now) result
+        ≡ option_and_then (round_where (is_called name.entry)) (round_by_state (reverse notes.now) now (grant_state (reverse notes.now) grant now)) }
 {
     if grant != holder && !is_shared {
         return None;

@@ -115,7 +115,8 @@ pub fn rotate(
 
 /// The token is retired, if it wasn't (RFC 9635, section 6.2).
 fn retire(alloc: Global, drawing: &Drawing, token: &TokenNote) -> Result<NotedReply, Mem>
-    ensures { IfOk result (λ answered. (supply : _) → IsAnswer (outcome_of supply (RevokeToken token.now (list_any (is_retirement token.now.serial) (trail drawing.now)))) answered) }
+    ensures { IfOk result (λ answered. (supply : _)
+        → IsAnswer (outcome_of supply (RevokeToken token.now (list_any (is_retirement token.now.serial) (trail drawing.now)))) answered) }
 {
     if is_retired(drawing.notes.as_slice(), token.serial) {
         return Ok(silent(alloc, Reply::Done));

@@ -33,7 +33,8 @@ impl Model for NoteList {
 
     ghost view = { λ s. s.notes };
 
-    ghost invariant = { λ s. (s.grants ≡ count_by is_opening s.notes) × (s.tokens ≡ count_by is_issue s.notes) × (s.values ≡ value_count s.notes) × AskForFew s.notes };
+    ghost invariant = { λ s. (s.grants ≡ count_by is_opening s.notes) × (s.tokens ≡ count_by is_issue s.notes) × (s.values ≡ value_count s.notes)
+        × AskForFew s.notes };
 }
 
 /// The terms of a grant.

@@ -166,8 +166,10 @@ pub fn of_key<'a>(
     key: &[u8],
     unknown: ErrorCode,
 ) -> Result<&'a OpeningNote, ErrorCode>
-    ensures ok { IfOk result (λ opening. (act : OpeningNote → Action) → on_found unknown (with_key act key.now) (option_map (λ o. o.now) found.entry) ≡ act opening.now) }
-    ensures err { IfErr result (λ code. (act : OpeningNote → Action) → on_found unknown (with_key act key.now) (option_map (λ o. o.now) found.entry) ≡ Refuse code) }
+    ensures ok { IfOk result (λ opening. (act : OpeningNote → Action)
+        → on_found unknown (with_key act key.now) (option_map (λ o. o.now) found.entry) ≡ act opening.now) }
+    ensures err { IfErr result (λ code. (act : OpeningNote → Action)
+        → on_found unknown (with_key act key.now) (option_map (λ o. o.now) found.entry) ≡ Refuse code) }
 {
     match found {
         Some(opening) => {
@@ -188,8 +190,10 @@ pub fn of_owner<'a>(
     key: &[u8],
     unknown: ErrorCode,
 ) -> Result<&'a OpeningNote, ErrorCode>
-    ensures ok { IfOk result (λ opening. (act : OpeningNote → Action) → on_found unknown (with_owner act owner.now key.now) (option_map (λ o. o.now) found.entry) ≡ act opening.now) }
-    ensures err { IfErr result (λ code. (act : OpeningNote → Action) → on_found unknown (with_owner act owner.now key.now) (option_map (λ o. o.now) found.entry) ≡ Refuse code) }
+    ensures ok { IfOk result (λ opening. (act : OpeningNote → Action)
+        → on_found unknown (with_owner act owner.now key.now) (option_map (λ o. o.now) found.entry) ≡ act opening.now) }
+    ensures err { IfErr result (λ code. (act : OpeningNote → Action)
+        → on_found unknown (with_owner act owner.now key.now) (option_map (λ o. o.now) found.entry) ≡ Refuse code) }
 {
     match found {
         Some(opening) => {

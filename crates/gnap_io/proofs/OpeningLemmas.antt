@@ -61,7 +61,8 @@ gives-none before after same = record {
 }
 
 -- a file
-pub gives-file : (name : List ℕ) (file : Served) (before open_now after : WorldState) → open_now ≡ with_opened (File name) before → after ≡ with_returned file open_now
+pub gives-file : (name : List ℕ) (file : Served) (before open_now after : WorldState) → open_now ≡ with_opened (File name) before
+    → after ≡ with_returned file open_now
     → Gives (File name ∷ []) before after
 gives-file name file before open_now after open_is back = record {
   opened = ap (λ (s : WorldState). s.opened) back ∙ ap (λ (s : WorldState). s.opened) open_is;
@@ -74,7 +75,8 @@ gives-file name file before open_now after open_is back = record {
 }
 
 -- gears
-pub gives-gears : (address : List ℕ) (n quota : ℕ) (gears : List GearState) (before open_now after : WorldState) → open_now ≡ with_opening (Gears address n quota) before
+pub gives-gears : (address : List ℕ) (n quota : ℕ) (gears : List GearState) (before open_now after : WorldState)
+    → open_now ≡ with_opening (Gears address n quota) before
     → after ≡ with_gears gears open_now → length gears ≡ n → Gives (Gears address n quota ∷ []) before after
 gives-gears address n quota gears before open_now after open_is back many = record {
   opened = ap (λ (s : WorldState). s.opened) back ∙ ap (λ (s : WorldState). s.opened) open_is;
@@ -99,15 +101,18 @@ gives-then a b before middle after first second = record {
       let sum = files-append a b in
       omega (arith, size, p, q, sum));
   lent = second.lent ∙ first.lent;
-  gears = subst (λ x. GearsBack x before.gears after.gears) (sym (gears-append a b)) (gears-then (gears_in a) (gears_in b) before.gears middle.gears after.gears first.gears second.gears);
-  link = subst (λ x. LinkBack x before.link after.link) (sym (link-append a b)) (link-then (has_link a) (has_link b) before.link middle.link after.link first.link second.link);
+  gears = subst (λ x. GearsBack x before.gears after.gears) (sym (gears-append a b))
+      (gears-then (gears_in a) (gears_in b) before.gears middle.gears after.gears first.gears second.gears);
+  link = subst (λ x. LinkBack x before.link after.link) (sym (link-append a b))
+      (link-then (has_link a) (has_link b) before.link middle.link after.link first.link second.link);
 }
 
 -- while a link is open
 pub gives-around : (address : List ℕ) (link : LinkState) (done : List Opening) (before open_now middle after : WorldState)
     → open_now ≡ with_opening (Link address) before → Gives done open_now middle → after ≡ with_link link middle → Gives (Link address ∷ done) before after
 gives-around address link done before open_now middle after open_is inside back = record {
-  opened = ap (λ (s : WorldState). s.opened) back ∙ inside.opened ∙ ap (λ (s : WorldState). s.opened ++ done) open_is ∙ append_assoc before.opened (Link address ∷ []) done;
+  opened = ap (λ (s : WorldState). s.opened) back ∙ inside.opened ∙ ap (λ (s : WorldState). s.opened ++ done) open_is
+      ∙ append_assoc before.opened (Link address ∷ []) done;
   files = inside.files;
   files_are = ap (λ (s : WorldState). s.files) back ∙ inside.files_are ∙ ap (λ (s : WorldState). s.files ++ inside.files) open_is;
   many = inside.many;
@@ -136,7 +141,8 @@ back-then a b before middle after first second = record {
 }
 
 pub back-around : (address : List ℕ) (link : LinkState) (openings : List Opening) (before open_now middle after : WorldState)
-    → open_now ≡ with_opening (Link address) before → GivesBack openings open_now middle → after ≡ with_link link middle → GivesBack (Link address ∷ openings) before after
+    → open_now ≡ with_opening (Link address) before → GivesBack openings open_now middle → after ≡ with_link link middle
+    → GivesBack (Link address ∷ openings) before after
 back-around address link openings before open_now middle after open_is inside back = record {
   done = Link address ∷ inside.done;
   rest = inside.rest;

@@ -14,7 +14,8 @@ use Rattle.gnap_model.specs.Answer.{supply_of}
 use Rattle.gnap_laws.specs.Provenance.{is_active}
 use Rattle.gnap_laws.specs.Laws.{SaysActive}
 
-shown_active : (supply : Supply) (access : List Right) (t : TokenNote) (b : Bool) → is_active (outcome_of supply (if b then ShowToken access t else ShowInactive)).reply ≡ b
+shown_active : (supply : Supply) (access : List Right) (t : TokenNote) (b : Bool)
+    → is_active (outcome_of supply (if b then ShowToken access t else ShowInactive)).reply ≡ b
 shown_active supply access t true = refl
 shown_active supply access t false = refl
 

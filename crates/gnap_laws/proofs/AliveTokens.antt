@@ -58,7 +58,8 @@ among_has (x ∷ xs) v = (
     same_is a b e = (bytes_eq-Decides a b).1 e
 
 -- an entry that names a grant is on the chain exactly where it is the token's grant
-pub chain_named : (trail : List Note) (now : ℕ) (call : Call) (o : OpeningNote) (chain : List Text) (t : TokenNote) → AreDistinct (trail_values trail) → IsAlive trail chain t → Names trail now call o
+pub chain_named : (trail : List Note) (now : ℕ) (call : Call) (o : OpeningNote) (chain : List Text) (t : TokenNote) → AreDistinct (trail_values trail)
+    → IsAlive trail chain t → Names trail now call o
     → is_among chain (presented_door call) ≡ (o.grant == t.grant)
 chain_named trail now call o chain t distinct alive names =
     let v = names.0 in
@@ -68,7 +69,8 @@ chain_named trail now call o chain t distinct alive names =
       (λ e.
           let c = alive.chain_of v ((among_has chain v).0 e) in
           let n = door_noted trail o.grant v dv in
-          let same : Door o.grant v n.0 ≡ Door t.grant v c.0 = note_one trail (Door o.grant v n.0) (Door t.grant v c.0) v distinct n.1 c.1 (inl refl) (inl refl) in
+          let same : Door o.grant v n.0 ≡ Door t.grant v c.0 = note_one trail (Door o.grant v n.0) (Door t.grant v c.0) v distinct n.1 c.1 (inl refl)
+          (inl refl) in
           cc same),
       (λ e. (among_has chain v).1 (alive.chain_has v (subst (λ (g : ℕ). door trail g ≡ Some v) e dv))),
     )
@@ -112,13 +114,18 @@ approved_other h g consent e = (refl, ap (λ b. some_if b ToApproved) e, refl)
 pended_other : (supply : Supply) (o : OpeningNote) (modes : Modes) (g : ℕ) → (o.grant == g) ≡ false → IsOther g (Pended (round_for supply o modes))
 pended_other supply o modes g e = (refl, ap (λ b. some_if b (ToPending (round_for supply o modes))) e, refl)
 
-grant_other : (supply : Supply) (o : OpeningNote) (before : List Note) (asks : List Ask) (single : Bool) (subject instance : Option Text) (g : ℕ) → (o.grant == g) ≡ false → AreOther g before → AreOther g (grant_outcome supply o before asks single subject instance).notes
+grant_other : (supply : Supply) (o : OpeningNote) (before : List Note) (asks : List Ask) (single : Bool) (subject instance : Option Text) (g : ℕ)
+    → (o.grant == g) ≡ false → AreOther g before → AreOther g (grant_outcome supply o before asks single subject instance).notes
 grant_other supply o before asks single subject instance g e h =
-    each-append (IsOther g) (before ++ map Issued (tokens_for supply o asks 0)) (door_note supply o _ ∷ []) (each-append (IsOther g) before (map Issued (tokens_for supply o asks 0)) h (other_issued g (tokens_for supply o asks 0))) (door_other supply o _ g e, tt)
+    each-append (IsOther g) (before ++ map Issued (tokens_for supply o asks 0)) (door_note supply o _ ∷ [])
+    (each-append (IsOther g) before (map Issued (tokens_for supply o asks 0)) h (other_issued g (tokens_for supply o asks 0)))
+    (door_other supply o _ g e, tt)
 
-pend_other : (supply : Supply) (o : OpeningNote) (before : List Note) (modes : Modes) (instance : Option Text) (g : ℕ) → (o.grant == g) ≡ false → AreOther g before → AreOther g (pending_outcome supply o before modes instance).notes
+pend_other : (supply : Supply) (o : OpeningNote) (before : List Note) (modes : Modes) (instance : Option Text) (g : ℕ) → (o.grant == g) ≡ false
+    → AreOther g before → AreOther g (pending_outcome supply o before modes instance).notes
 pend_other supply o before modes instance g e h =
-    each-append (IsOther g) before (door_note supply o 0 ∷ Pended (round_for supply o modes) ∷ []) h (door_other supply o 0 g e, (pended_other supply o modes g e, tt))
+    each-append (IsOther g) before (door_note supply o 0 ∷ Pended (round_for supply o modes) ∷ []) h
+    (door_other supply o 0 g e, (pended_other supply o modes g e, tt))
 
 -- ---- retirements
 
@@ -136,7 +143,8 @@ grant_retires supply o before asks single subject instance s =
 
 pub pend_retires : (supply : Supply) (o : OpeningNote) (before : List Note) (modes : Modes) (instance : Option Text) (s : ℕ)
     → list_any (is_retirement s) (pending_outcome supply o before modes instance).notes ≡ list_any (is_retirement s) before
-pend_retires supply o before modes instance s = list_any-append (is_retirement s) before (door_note supply o 0 ∷ Pended (round_for supply o modes) ∷ []) ∙ or-false (list_any (is_retirement s) before)
+pend_retires supply o before modes instance s = list_any-append (is_retirement s) before (door_note supply o 0 ∷ Pended (round_for supply o modes) ∷ [])
+    ∙ or-false (list_any (is_retirement s) before)
 
 pub retire_any : (s : ℕ) (ts : List TokenNote) → list_any (is_retirement s) (retire ts) ≡ list_any (λ u. u.serial == s) ts
 retire_any s [] = refl
@@ -173,8 +181,10 @@ neither a x b y p q = or_from (a && x) (b && y) (one_off a x p) (one_off b y q)
 second : (p b y : Bool) → b ≡ true → y ≡ true → (p || (b && y)) ≡ true
 second p b y e f = or_right p (b && y) (and_from b y e f)
 
-stays_other : (call : Call) (reply : Reply) (notes : List Note) (on : Bool) (manage : Text) (g s : ℕ) → AreOther g notes → list_any (is_retirement s) notes ≡ false
-    → (on ≡ false) ⊎ (handed_door reply ≡ None) → (is_text manage (presented_manage call) ≡ false) ⊎ (ends_token reply ≡ false) → (on ≡ false) ⊎ (ends_tokens call reply ≡ false)
+stays_other : (call : Call) (reply : Reply) (notes : List Note) (on : Bool) (manage : Text) (g s : ℕ) → AreOther g notes
+    → list_any (is_retirement s) notes ≡ false
+    → (on ≡ false) ⊎ (handed_door reply ≡ None) → (is_text manage (presented_manage call) ≡ false) ⊎ (ends_token reply ≡ false)
+    → (on ≡ false) ⊎ (ends_tokens call reply ≡ false)
     → EndsOrStays call reply notes on manage g s
 stays_other call reply notes on manage g s other kept d m e =
     inr (
@@ -189,7 +199,8 @@ stays_other call reply notes on manage g s other kept d m e =
 
 -- ---- what look-ups of tokens find
 
-some_any : (f : TokenNote → Bool) (x : Option TokenNote) (xs : List TokenNote) → list_any f (cons_option x xs) ≡ true → ((u : TokenNote) × (x ≡ Some u) × (f u ≡ true)) ⊎ (list_any f xs ≡ true)
+some_any : (f : TokenNote → Bool) (x : Option TokenNote) (xs : List TokenNote) → list_any f (cons_option x xs) ≡ true
+    → ((u : TokenNote) × (x ≡ Some u) × (f u ≡ true)) ⊎ (list_any f xs ≡ true)
 some_any f None xs e = inr e
 some_any f (Some u) xs e = elim (or_cases (f u) (list_any f xs) e) [ inl a ↦ inl (u, refl, a) | inr b ↦ inr b ]
 
@@ -201,14 +212,16 @@ any_rest : (f : TokenNote → Bool) (x : Option TokenNote) (xs : List TokenNote)
 any_rest f None xs e = e
 any_rest f (Some w) xs e = or_right (f w) (list_any f xs) e
 
-pub tokens_some : (f test : TokenNote → Bool) (ns : List Note) → list_any f (filter_map (token_in test) ns) ≡ true → (u : TokenNote) × HasNote ns (Issued u) × (test u ≡ true) × (f u ≡ true)
+pub tokens_some : (f test : TokenNote → Bool) (ns : List Note) → list_any f (filter_map (token_in test) ns) ≡ true
+    → (u : TokenNote) × HasNote ns (Issued u) × (test u ≡ true) × (f u ≡ true)
 tokens_some f test [] e = cc e
 tokens_some f test (n ∷ ns) e = elim (some_any f (token_in test n) (filter_map (token_in test) ns) e) [
   | inl a ↦ let k = token_found test a.0 n a.1 in (a.0, inl (sym k.0), k.1, a.2)
   | inr b ↦ let r = tokens_some f test ns b in (r.0, inr r.1, r.2, r.3)
 ]
 
-pub tokens_has : (f test : TokenNote → Bool) (ns : List Note) (u : TokenNote) → HasNote ns (Issued u) → test u ≡ true → f u ≡ true → list_any f (filter_map (token_in test) ns) ≡ true
+pub tokens_has : (f test : TokenNote → Bool) (ns : List Note) (u : TokenNote) → HasNote ns (Issued u) → test u ≡ true → f u ≡ true
+    → list_any f (filter_map (token_in test) ns) ≡ true
 tokens_has f test [] u h p q = absurd h
 tokens_has f test (n ∷ ns) u (inl a) p q =
     any_some f (token_in test n) (filter_map (token_in test) ns) u (ap (token_in test) (sym a) ∙ ap (λ b. some_if b u) p) q
@@ -231,7 +244,8 @@ not_replaced s (n ∷ ns) e =
     ap (λ b. b || list_any (is_replacement s) ns) (false_from (is_replacement s n) (is_retirement s n) (replaced_retired s n) both.0) ∙ not_replaced s ns both.1
 
 -- a grant whose last change of state was an approval is in no round
-pub approved_no_round : (trail : List Note) (g now : ℕ) (r : RoundNote) → first_of (state_change_in g) trail ≡ Some ToApproved → grant_state trail g now ≡ IsPending r → ⊥
+pub approved_no_round : (trail : List Note) (g now : ℕ) (r : RoundNote) → first_of (state_change_in g) trail ≡ Some ToApproved
+    → grant_state trail g now ≡ IsPending r → ⊥
 approved_no_round trail g now r e s =
     at (list_any (is_end_of g) trail || has_ended (first_of (opening_in g) trail) now) (rw e at s)
   where
@@ -250,12 +264,14 @@ abbrev pub ActionEndsOrStays : Supply → Call → Action → Bool → TokenNote
 ActionEndsOrStays supply call action on t = EndsOrStays call (outcome_of supply action).reply (outcome_of supply action).notes on t.manage t.grant t.serial
 
 -- an action whose notes are about the grant h alone, where that isn't the token's
-elsewhere : (call : Call) (reply : Reply) (notes : List Note) (on : Bool) (t : TokenNote) → on ≡ false → (is_text t.manage (presented_manage call) ≡ false) ⊎ (ends_token reply ≡ false) → AreOther t.grant notes → list_any (is_retirement t.serial) notes ≡ false
+elsewhere : (call : Call) (reply : Reply) (notes : List Note) (on : Bool) (t : TokenNote) → on ≡ false
+    → (is_text t.manage (presented_manage call) ≡ false) ⊎ (ends_token reply ≡ false) → AreOther t.grant notes → list_any (is_retirement t.serial) notes ≡ false
     → EndsOrStays call reply notes on t.manage t.grant t.serial
 elsewhere call reply notes on t off m other kept = stays_other call reply notes on t.manage t.grant t.serial other kept (inl off) m (inl off)
 
 -- an action that ends the grant of the token
-ended_here : (call : Call) (reply : Reply) (notes : List Note) (on : Bool) (t : TokenNote) → on ≡ true → ends_tokens call reply ≡ true → list_any (is_end_of t.grant) notes ≡ true → EndsOrStays call reply notes on t.manage t.grant t.serial
+ended_here : (call : Call) (reply : Reply) (notes : List Note) (on : Bool) (t : TokenNote) → on ≡ true → ends_tokens call reply ≡ true
+    → list_any (is_end_of t.grant) notes ≡ true → EndsOrStays call reply notes on t.manage t.grant t.serial
 ended_here call reply notes on t here e n =
     inl (
       second (is_text t.manage (presented_manage call) && ends_token reply) on (ends_tokens call reply) here e,
@@ -263,12 +279,19 @@ ended_here call reply notes on t here e n =
     )
 
 -- an action that retires the token
-retired_here : (call : Call) (reply : Reply) (notes : List Note) (on : Bool) (t : TokenNote) → IsEndedBy call reply t.manage on ≡ true → list_any (is_retirement t.serial) notes ≡ true → EndsOrStays call reply notes on t.manage t.grant t.serial
+retired_here : (call : Call) (reply : Reply) (notes : List Note) (on : Bool) (t : TokenNote) → IsEndedBy call reply t.manage on ≡ true
+    → list_any (is_retirement t.serial) notes ≡ true → EndsOrStays call reply notes on t.manage t.grant t.serial
 retired_here call reply notes on t e n =
-    inl (e, or_left (list_any (is_retirement t.serial) (reverse notes)) (list_any (is_end_of t.grant) (reverse notes)) (any-reverse (is_retirement t.serial) notes ∙ n))
+    inl (
+      e,
+      or_left (list_any (is_retirement t.serial) (reverse notes)) (list_any (is_end_of t.grant) (reverse notes))
+          (any-reverse (is_retirement t.serial) notes ∙ n),
+    )
 
-renew_step : (supply : Supply) (call : Call) (o : OpeningNote) (on : Bool) (t : TokenNote) (b : Bool) → (o.grant == t.grant) ≡ b → on ≡ b → ActionEndsOrStays supply call (RenewDoor o) on t
-renew_step supply call o on t false e on_e = elsewhere call (outcome_of supply (RenewDoor o)).reply (outcome_of supply (RenewDoor o)).notes on t on_e (inr refl) (door_other supply o 0 t.grant e, tt) refl
+renew_step : (supply : Supply) (call : Call) (o : OpeningNote) (on : Bool) (t : TokenNote) (b : Bool) → (o.grant == t.grant) ≡ b → on ≡ b
+    → ActionEndsOrStays supply call (RenewDoor o) on t
+renew_step supply call o on t false e on_e = elsewhere call (outcome_of supply (RenewDoor o)).reply (outcome_of supply (RenewDoor o)).notes on t on_e (inr refl)
+    (door_other supply o 0 t.grant e, tt) refl
 renew_step supply call o on t true e on_e =
     inr (
       neither (is_text t.manage (presented_manage call)) false on false (inr refl) (inr refl),
@@ -280,33 +303,40 @@ renew_step supply call o on t true e on_e =
       },
     )
 
-end_step : (call : Call) (code : ErrorCode) (before : List Note) (o : OpeningNote) (on : Bool) (t : TokenNote) (b : Bool) → AreOther t.grant before → list_any (is_retirement t.serial) before ≡ false → is_too_many code ≡ true → (o.grant == t.grant) ≡ b → on ≡ b
+end_step : (call : Call) (code : ErrorCode) (before : List Note) (o : OpeningNote) (on : Bool) (t : TokenNote) (b : Bool) → AreOther t.grant before
+    → list_any (is_retirement t.serial) before ≡ false → is_too_many code ≡ true → (o.grant == t.grant) ≡ b → on ≡ b
     → EndsOrStays call (Error code) (before ++ Finalized o.grant ∷ []) on t.manage t.grant t.serial
 end_step call code before o on t false other kept many e on_e =
-    elsewhere call (Error code) (before ++ Finalized o.grant ∷ []) on t on_e (inr refl) (each-append (IsOther t.grant) before (Finalized o.grant ∷ []) other ((refl, refl, e), tt))
+    elsewhere call (Error code) (before ++ Finalized o.grant ∷ []) on t on_e (inr refl)
+    (each-append (IsOther t.grant) before (Finalized o.grant ∷ []) other ((refl, refl, e), tt))
     (list_any-append (is_retirement t.serial) before (Finalized o.grant ∷ []) ∙ or-false (list_any (is_retirement t.serial) before) ∙ kept)
 end_step call code before o on t true other kept many e on_e =
     ended_here call (Error code) (before ++ Finalized o.grant ∷ []) on t on_e many
-    (list_any-append (is_end_of t.grant) before (Finalized o.grant ∷ []) ∙ or_right (list_any (is_end_of t.grant) before) ((o.grant == t.grant) || false) (or-false (o.grant == t.grant) ∙ e))
+    (list_any-append (is_end_of t.grant) before (Finalized o.grant ∷ [])
+    ∙ or_right (list_any (is_end_of t.grant) before) ((o.grant == t.grant) || false) (or-false (o.grant == t.grant) ∙ e))
 
-cancel_step : (call : Call) (o : OpeningNote) (on : Bool) (t : TokenNote) (b : Bool) → is_text t.manage (presented_manage call) ≡ false → is_cancel call ≡ true → (o.grant == t.grant) ≡ b → on ≡ b → EndsOrStays call Done (Finalized o.grant ∷ []) on t.manage t.grant t.serial
+cancel_step : (call : Call) (o : OpeningNote) (on : Bool) (t : TokenNote) (b : Bool) → is_text t.manage (presented_manage call) ≡ false → is_cancel call ≡ true
+    → (o.grant == t.grant) ≡ b → on ≡ b → EndsOrStays call Done (Finalized o.grant ∷ []) on t.manage t.grant t.serial
 cancel_step call o on t false m c e on_e = elsewhere call Done (Finalized o.grant ∷ []) on t on_e (inl m) ((refl, refl, e), tt) refl
 cancel_step call o on t true m c e on_e = ended_here call Done (Finalized o.grant ∷ []) on t on_e c (or-false (o.grant == t.grant) ∙ e)
 
 -- an action in a round of the token's grant can't be
-round_only : (trail : List Note) (now : ℕ) (o : OpeningNote) (t : TokenNote) → first_of (state_change_in t.grant) trail ≡ Some ToApproved → IsInRound trail now o → (o.grant == t.grant) ≡ false
+round_only : (trail : List Note) (now : ℕ) (o : OpeningNote) (t : TokenNote) → first_of (state_change_in t.grant) trail ≡ Some ToApproved
+    → IsInRound trail now o → (o.grant == t.grant) ≡ false
 round_only trail now o t approved r = at (o.grant == t.grant) refl
   where
     at : (b : Bool) → (o.grant == t.grant) ≡ b → (o.grant == t.grant) ≡ false
     at false e = e
     at true e = absurd (approved_no_round trail o.grant now r.0
-        (let same : o.grant ≡ t.grant = (Decides-eqb o.grant t.grant).0 e in subst (λ (g : ℕ). first_of (state_change_in g) trail ≡ Some ToApproved) (sym same) approved) r.1)
+        (let same : o.grant ≡ t.grant = (Decides-eqb o.grant t.grant).0 e in subst (λ (g : ℕ). first_of (state_change_in g) trail ≡ Some ToApproved) (sym same)
+        approved) r.1)
 
 -- Modify retires the tokens of its grant, and no others
 abbrev pub IsOneSerial : List Note → Type 0
 IsOneSerial trail = (t u : TokenNote) → HasNote trail (Issued t) → HasNote trail (Issued u) → t.serial ≡ u.serial → t ≡ u
 
-modify_retires : (trail : List Note) (now : ℕ) (o : OpeningNote) (v : Text) (chain : List Text) (t : TokenNote) → IsOneSerial trail → IsAlive trail chain t → named_grant trail now v ≡ Some o
+modify_retires : (trail : List Note) (now : ℕ) (o : OpeningNote) (v : Text) (chain : List Text) (t : TokenNote) → IsOneSerial trail → IsAlive trail chain t
+    → named_grant trail now v ≡ Some o
     → list_any (λ u. u.serial == t.serial) (tokens_of trail now o) ≡ (o.grant == t.grant)
 modify_retires trail now o v chain t one alive named =
     let test : TokenNote → Bool = λ u. (u.grant == o.grant) && is_managed trail now u in
@@ -327,11 +357,14 @@ modify_retires trail now o v chain t one alive named =
     )
     (Decides-eqb o.grant t.grant)
 
-modify_step : (call : Call) (reply : Reply) (notes : List Note) (o : OpeningNote) (on : Bool) (t : TokenNote) (b : Bool) → is_modify call ≡ true → ends_token reply ≡ false → ends_tokens call reply ≡ is_modify call
-    → ((o.grant == t.grant) ≡ false → AreOther t.grant notes) → list_any (is_retirement t.serial) notes ≡ (o.grant == t.grant) → (o.grant == t.grant) ≡ b → on ≡ b → EndsOrStays call reply notes on t.manage t.grant t.serial
+modify_step : (call : Call) (reply : Reply) (notes : List Note) (o : OpeningNote) (on : Bool) (t : TokenNote) (b : Bool) → is_modify call ≡ true
+    → ends_token reply ≡ false → ends_tokens call reply ≡ is_modify call
+    → ((o.grant == t.grant) ≡ false → AreOther t.grant notes) → list_any (is_retirement t.serial) notes ≡ (o.grant == t.grant) → (o.grant == t.grant) ≡ b
+    → on ≡ b → EndsOrStays call reply notes on t.manage t.grant t.serial
 modify_step call reply notes o on t false m e k other retires is on_e = elsewhere call reply notes on t on_e (inr e) (other is) (retires ∙ is)
 modify_step call reply notes o on t true m e k other retires is on_e =
-    retired_here call reply notes on t (second (is_text t.manage (presented_manage call) && ends_token reply) on (ends_tokens call reply) on_e (k ∙ m)) (retires ∙ is)
+    retired_here call reply notes on t (second (is_text t.manage (presented_manage call) && ends_token reply) on (ends_tokens call reply) on_e (k ∙ m))
+    (retires ∙ is)
 
 modify_is : (call : Call) (request : GrantRequest) → IsModify call request → is_modify call ≡ true
 modify_is call request is = ap is_modify is.2
@@ -341,8 +374,10 @@ off_chain : (chain : List Text) (call : Call) → presented_door call ≡ None �
 off_chain chain call e = ap (is_among chain) e
 
 -- a token with another serial, or this one
-replace_step : (trail : List Note) (now : ℕ) (call : Call) (reply : Reply) (notes : List Note) (on : Bool) (t u : TokenNote) (chain : List Text) → AreDistinct (trail_values trail) → IsOneSerial trail → IsAlive trail chain t → Manages trail now call u
-    → on ≡ false → ends_token reply ≡ true → handed_door reply ≡ None → AreOther t.grant notes → list_any (is_retirement t.serial) notes ≡ (u.serial == t.serial) → EndsOrStays call reply notes on t.manage t.grant t.serial
+replace_step : (trail : List Note) (now : ℕ) (call : Call) (reply : Reply) (notes : List Note) (on : Bool) (t u : TokenNote) (chain : List Text)
+    → AreDistinct (trail_values trail) → IsOneSerial trail → IsAlive trail chain t → Manages trail now call u
+    → on ≡ false → ends_token reply ≡ true → handed_door reply ≡ None → AreOther t.grant notes
+    → list_any (is_retirement t.serial) notes ≡ (u.serial == t.serial) → EndsOrStays call reply notes on t.manage t.grant t.serial
 replace_step trail now call reply notes on t u chain distinct one alive manages off ends none other retires = at (u.serial == t.serial) refl
   where
     found : HasNote trail (Issued u) × (u.manage ≡ manages.0)
@@ -356,7 +391,8 @@ replace_step trail now call reply notes on t u chain distinct one alive manages 
         let same : u ≡ t = one u t found.0 alive.issued ((Decides-eqb u.serial t.serial).0 e) in
         let v : manages.0 ≡ t.manage = sym found.1 ∙ ap (λ (x : TokenNote). x.manage) same in
         let is : is_text t.manage (presented_manage call) ≡ true = presented ∙ (bytes_eq-Decides manages.0 t.manage).1 v in
-        retired_here call reply notes on t (or_left (is_text t.manage (presented_manage call) && ends_token reply) (on && ends_tokens call reply) (rw (is, ends) refl)) (retires ∙ e)
+        retired_here call reply notes on t
+        (or_left (is_text t.manage (presented_manage call) && ends_token reply) (on && ends_tokens call reply) (rw (is, ends) refl)) (retires ∙ e)
     at false e =
         let differs : same_text manages.0 t.manage ≡ false = false_from (same_text manages.0 t.manage) (u.serial == t.serial)
         (λ h.
@@ -371,75 +407,102 @@ new_grant trail o t e k = false_from_ne_true (o.grant == t.grant) (λ h. let sam
 
 -- ---- the step, for every action
 
-pub alive_next : (supply : Supply) (trail : List Note) (call : Call) (action : Action) (chain : List Text) (t : TokenNote) → AreDistinct (trail_values trail) → IsOneSerial trail → IsAlive trail chain t → Cause trail supply.now call action
+pub alive_next : (supply : Supply) (trail : List Note) (call : Call) (action : Action) (chain : List Text) (t : TokenNote) → AreDistinct (trail_values trail)
+    → IsOneSerial trail → IsAlive trail chain t → Cause trail supply.now call action
     → ActionEndsOrStays supply call action (is_among chain (presented_door call)) t
-alive_next supply trail call (Refuse code) chain t d one alive a = stays_other call (Error code) [] (is_among chain (presented_door call)) t.manage t.grant t.serial tt refl (inr refl) (inr refl) (inr a)
-alive_next supply trail call (ShowToken access u) chain t d one alive a = elsewhere call (outcome_of supply (ShowToken access u)).reply [] (is_among chain (presented_door call)) t (off_chain chain call a) (inr refl) tt refl
-alive_next supply trail call ShowInactive chain t d one alive a = elsewhere call (outcome_of supply ShowInactive).reply [] (is_among chain (presented_door call)) t (off_chain chain call a) (inr refl) tt refl
-alive_next supply trail call LapseAction chain t d one alive a = elsewhere call (outcome_of supply LapseAction).reply [] (is_among chain (presented_door call)) t (off_chain chain call a) (inr refl) tt refl
-alive_next supply trail call (ShowRound r w o) chain t d one alive a = elsewhere call (outcome_of supply (ShowRound r w o)).reply [] (is_among chain (presented_door call)) t (off_chain chain call a) (inr refl) tt refl
-alive_next supply trail call (ShowHandle r) chain t d one alive a = elsewhere call (outcome_of supply (ShowHandle r)).reply [] (is_among chain (presented_door call)) t (off_chain chain call a) (inr refl) tt refl
+alive_next supply trail call (Refuse code) chain t d one alive a = stays_other call (Error code) [] (is_among chain (presented_door call)) t.manage t.grant
+    t.serial tt refl (inr refl) (inr refl) (inr a)
+alive_next supply trail call (ShowToken access u) chain t d one alive a = elsewhere call (outcome_of supply (ShowToken access u)).reply []
+    (is_among chain (presented_door call)) t (off_chain chain call a) (inr refl) tt refl
+alive_next supply trail call ShowInactive chain t d one alive a = elsewhere call (outcome_of supply ShowInactive).reply []
+    (is_among chain (presented_door call)) t (off_chain chain call a) (inr refl) tt refl
+alive_next supply trail call LapseAction chain t d one alive a = elsewhere call (outcome_of supply LapseAction).reply [] (is_among chain (presented_door call))
+    t (off_chain chain call a) (inr refl) tt refl
+alive_next supply trail call (ShowRound r w o) chain t d one alive a = elsewhere call (outcome_of supply (ShowRound r w o)).reply []
+    (is_among chain (presented_door call)) t (off_chain chain call a) (inr refl) tt refl
+alive_next supply trail call (ShowHandle r) chain t d one alive a = elsewhere call (outcome_of supply (ShowHandle r)).reply []
+    (is_among chain (presented_door call)) t (off_chain chain call a) (inr refl) tt refl
 alive_next supply trail call (TakeDecision r rights request) chain t d one alive a =
-    elsewhere call (outcome_of supply (TakeDecision r rights request)).reply (outcome_of supply (TakeDecision r rights request)).notes (is_among chain (presented_door call)) t (off_chain chain call a) (inr refl) ((refl, refl, refl), tt) refl
+    elsewhere call (outcome_of supply (TakeDecision r rights request)).reply (outcome_of supply (TakeDecision r rights request)).notes
+    (is_among chain (presented_door call)) t (off_chain chain call a) (inr refl) ((refl, refl, refl), tt) refl
 alive_next supply trail call (OpenAtOnce o request) chain t d one alive a =
     let e : (o.grant == t.grant) ≡ false = new_grant trail o t a.2 alive.known in
     let before : List Note = Opened o ∷ Terms (terms_for o request) ∷ Approved o.grant [] ∷ [] in
-    elsewhere call (outcome_of supply (OpenAtOnce o request)).reply (outcome_of supply (OpenAtOnce o request)).notes (is_among chain (presented_door call)) t (off_chain chain call a.0) (inr refl)
-    (grant_other supply o before request.asks request.single None (instance_of o) t.grant e ((refl, refl, refl), ((refl, refl, refl), (approved_other o.grant t.grant [] e, tt))))
+    elsewhere call (outcome_of supply (OpenAtOnce o request)).reply (outcome_of supply (OpenAtOnce o request)).notes (is_among chain (presented_door call)) t
+    (off_chain chain call a.0) (inr refl)
+    (grant_other supply o before request.asks request.single None (instance_of o) t.grant e
+    ((refl, refl, refl), ((refl, refl, refl), (approved_other o.grant t.grant [] e, tt))))
     (grant_retires supply o before request.asks request.single None (instance_of o) t.serial)
 alive_next supply trail call (OpenAsking o request modes) chain t d one alive a =
     let e : (o.grant == t.grant) ≡ false = new_grant trail o t a.2 alive.known in
     let before : List Note = Opened o ∷ Terms (terms_for o request) ∷ [] in
-    elsewhere call (outcome_of supply (OpenAsking o request modes)).reply (outcome_of supply (OpenAsking o request modes)).notes (is_among chain (presented_door call)) t (off_chain chain call a.0) (inr refl)
+    elsewhere call (outcome_of supply (OpenAsking o request modes)).reply (outcome_of supply (OpenAsking o request modes)).notes
+    (is_among chain (presented_door call)) t (off_chain chain call a.0) (inr refl)
     (pend_other supply o before modes (instance_of o) t.grant e ((refl, refl, refl), ((refl, refl, refl), tt)))
     (pend_retires supply o before modes (instance_of o) t.serial)
 alive_next supply trail call (RenewDoor o) chain t d one alive a =
     renew_step supply call o (is_among chain (presented_door call)) t (o.grant == t.grant) refl (chain_named trail supply.now call o chain t d alive a)
 alive_next supply trail call (CollectDecision o w dc asks) chain t d one alive a =
     let e : (o.grant == t.grant) ≡ false = round_only trail supply.now o t alive.approved a.1 in
-    elsewhere call (outcome_of supply (CollectDecision o w dc asks)).reply (outcome_of supply (CollectDecision o w dc asks)).notes (is_among chain (presented_door call)) t (chain_named trail supply.now call o chain t d alive a.0 ∙ e) (inr refl)
-    (grant_other supply o (Approved o.grant dc.rights ∷ []) asks w.single (if w.subject then dc.subject else None) None t.grant e (approved_other o.grant t.grant dc.rights e, tt))
+    elsewhere call (outcome_of supply (CollectDecision o w dc asks)).reply (outcome_of supply (CollectDecision o w dc asks)).notes
+    (is_among chain (presented_door call)) t (chain_named trail supply.now call o chain t d alive a.0 ∙ e) (inr refl)
+    (grant_other supply o (Approved o.grant dc.rights ∷ []) asks w.single (if w.subject then dc.subject else None) None t.grant e
+    (approved_other o.grant t.grant dc.rights e, tt))
     (grant_retires supply o (Approved o.grant dc.rights ∷ []) asks w.single (if w.subject then dc.subject else None) None t.serial)
 alive_next supply trail call (WrongReference o) chain t d one alive a =
-    stays_other call (outcome_of supply (WrongReference o)).reply (outcome_of supply (WrongReference o)).notes (is_among chain (presented_door call)) t.manage t.grant t.serial ((refl, refl, refl), tt) refl (inr refl) (inr refl) (inr refl)
+    stays_other call (outcome_of supply (WrongReference o)).reply (outcome_of supply (WrongReference o)).notes (is_among chain (presented_door call)) t.manage
+    t.grant t.serial ((refl, refl, refl), tt) refl (inr refl) (inr refl) (inr refl)
 alive_next supply trail call (LastWrongReference o) chain t d one alive a =
-    end_step call TooManyAttempts (Wrong o.grant ∷ []) o (is_among chain (presented_door call)) t (o.grant == t.grant) ((refl, refl, refl), tt) refl refl refl (chain_named trail supply.now call o chain t d alive a.0)
+    end_step call TooManyAttempts (Wrong o.grant ∷ []) o (is_among chain (presented_door call)) t (o.grant == t.grant) ((refl, refl, refl), tt) refl refl refl
+    (chain_named trail supply.now call o chain t d alive a.0)
 alive_next supply trail call (RefuseAndFinalize o code) chain t d one alive (names, inl many) =
-    end_step call code [] o (is_among chain (presented_door call)) t (o.grant == t.grant) tt refl many refl (chain_named trail supply.now call o chain t d alive names)
+    end_step call code [] o (is_among chain (presented_door call)) t (o.grant == t.grant) tt refl many refl
+    (chain_named trail supply.now call o chain t d alive names)
 alive_next supply trail call (RefuseAndFinalize o code) chain t d one alive (names, inr round) =
     let e : (o.grant == t.grant) ≡ false = round_only trail supply.now o t alive.approved round.0 in
-    elsewhere call (Error code) (Finalized o.grant ∷ []) (is_among chain (presented_door call)) t (chain_named trail supply.now call o chain t d alive names ∙ e) (inr refl) ((refl, refl, e), tt) refl
+    elsewhere call (Error code) (Finalized o.grant ∷ []) (is_among chain (presented_door call)) t
+    (chain_named trail supply.now call o chain t d alive names ∙ e) (inr refl) ((refl, refl, e), tt) refl
 alive_next supply trail call (ModifyAtOnce o consent retired request) chain t d one alive a =
     let before : List Note = retire retired ++ Terms (terms_for o request) ∷ Approved o.grant consent ∷ [] in
-    modify_step call (outcome_of supply (ModifyAtOnce o consent retired request)).reply (outcome_of supply (ModifyAtOnce o consent retired request)).notes o (is_among chain (presented_door call)) t (o.grant == t.grant) (modify_is call request a.1) refl refl
+    modify_step call (outcome_of supply (ModifyAtOnce o consent retired request)).reply (outcome_of supply (ModifyAtOnce o consent retired request)).notes o
+    (is_among chain (presented_door call)) t (o.grant == t.grant) (modify_is call request a.1) refl refl
     (λ e. grant_other supply o before request.asks request.single None None t.grant e
-    (each-append (IsOther t.grant) (retire retired) (Terms (terms_for o request) ∷ Approved o.grant consent ∷ []) (other_retire t.grant retired) ((refl, refl, refl), (approved_other o.grant t.grant consent e, tt))))
+    (each-append (IsOther t.grant) (retire retired) (Terms (terms_for o request) ∷ Approved o.grant consent ∷ []) (other_retire t.grant retired)
+    ((refl, refl, refl), (approved_other o.grant t.grant consent e, tt))))
     (grant_retires supply o before request.asks request.single None None t.serial
-    ∙ list_any-append (is_retirement t.serial) (retire retired) (Terms (terms_for o request) ∷ Approved o.grant consent ∷ []) ∙ or-false (list_any (is_retirement t.serial) (retire retired))
+    ∙ list_any-append (is_retirement t.serial) (retire retired) (Terms (terms_for o request) ∷ Approved o.grant consent ∷ [])
+    ∙ or-false (list_any (is_retirement t.serial) (retire retired))
     ∙ retire_any t.serial retired ∙ ap (list_any (λ u. u.serial == t.serial)) a.2 ∙ modify_retires trail supply.now o a.0.0 chain t one alive a.0.2)
     refl (chain_named trail supply.now call o chain t d alive a.0)
 alive_next supply trail call (ModifyAsking o retired request modes) chain t d one alive a =
     let before : List Note = retire retired ++ Terms (terms_for o request) ∷ [] in
-    modify_step call (outcome_of supply (ModifyAsking o retired request modes)).reply (outcome_of supply (ModifyAsking o retired request modes)).notes o (is_among chain (presented_door call)) t (o.grant == t.grant) (modify_is call request a.1) refl refl
+    modify_step call (outcome_of supply (ModifyAsking o retired request modes)).reply (outcome_of supply (ModifyAsking o retired request modes)).notes o
+    (is_among chain (presented_door call)) t (o.grant == t.grant) (modify_is call request a.1) refl refl
     (λ e. pend_other supply o before modes None t.grant e
     (each-append (IsOther t.grant) (retire retired) (Terms (terms_for o request) ∷ []) (other_retire t.grant retired) ((refl, refl, refl), tt)))
     (pend_retires supply o before modes None t.serial
-    ∙ list_any-append (is_retirement t.serial) (retire retired) (Terms (terms_for o request) ∷ []) ∙ or-false (list_any (is_retirement t.serial) (retire retired))
+    ∙ list_any-append (is_retirement t.serial) (retire retired) (Terms (terms_for o request) ∷ [])
+    ∙ or-false (list_any (is_retirement t.serial) (retire retired))
     ∙ retire_any t.serial retired ∙ ap (list_any (λ u. u.serial == t.serial)) a.2 ∙ modify_retires trail supply.now o a.0.0 chain t one alive a.0.2)
     refl (chain_named trail supply.now call o chain t d alive a.0)
 alive_next supply trail call (CancelGrant o) chain t d one alive a =
-    cancel_step call o (is_among chain (presented_door call)) t (o.grant == t.grant) (ap (is_text t.manage) (no_manage call a.0.0 a.0.1)) a.1 refl (chain_named trail supply.now call o chain t d alive a.0)
+    cancel_step call o (is_among chain (presented_door call)) t (o.grant == t.grant) (ap (is_text t.manage) (no_manage call a.0.0 a.0.1)) a.1 refl
+    (chain_named trail supply.now call o chain t d alive a.0)
 alive_next supply trail call (RotateToken o u key) chain t d one alive a =
-    replace_step trail supply.now call (outcome_of supply (RotateToken o u key)).reply (outcome_of supply (RotateToken o u key)).notes (is_among chain (presented_door call)) t u chain d one alive a.1 (off_chain chain call a.0) refl refl
+    replace_step trail supply.now call (outcome_of supply (RotateToken o u key)).reply (outcome_of supply (RotateToken o u key)).notes
+    (is_among chain (presented_door call)) t u chain d one alive a.1 (off_chain chain call a.0) refl refl
     ((refl, refl, refl), ((refl, refl, refl), tt)) (or-false (u.serial == t.serial))
 alive_next supply trail call (RevokeToken u was_retired) chain t d one alive a =
     let e : was_retired ≡ list_any (is_retirement u.serial) trail = a.2 in
     take_back was_retired e
   where
-    take_back : (b : Bool) → b ≡ list_any (is_retirement u.serial) trail → ActionEndsOrStays supply call (RevokeToken u b) (is_among chain (presented_door call)) t
-    take_back false e = replace_step trail supply.now call Done (Retired u.serial ByRevocation ∷ []) (is_among chain (presented_door call)) t u chain d one alive a.1 (off_chain chain call a.0) refl refl
+    take_back : (b : Bool) → b ≡ list_any (is_retirement u.serial) trail
+        → ActionEndsOrStays supply call (RevokeToken u b) (is_among chain (presented_door call)) t
+    take_back false e = replace_step trail supply.now call Done (Retired u.serial ByRevocation ∷ []) (is_among chain (presented_door call)) t u chain d one
+        alive a.1 (off_chain chain call a.0) refl refl
         ((refl, refl, refl), tt) (or-false (u.serial == t.serial))
-    take_back true e = replace_step trail supply.now call Done [] (is_among chain (presented_door call)) t u chain d one alive a.1 (off_chain chain call a.0) refl refl tt
+    take_back true e = replace_step trail supply.now call Done [] (is_among chain (presented_door call)) t u chain d one alive a.1 (off_chain chain call a.0)
+        refl refl tt
         (sym (false_from_ne_true (u.serial == t.serial) (λ h.
         let same : u.serial ≡ t.serial = (Decides-eqb u.serial t.serial).0 h in
         let kept : list_any (is_retirement u.serial) trail ≡ false = subst (λ (s : ℕ). list_any (is_retirement s) trail ≡ false) (sym same) alive.kept in
@@ -451,12 +514,14 @@ alive_next supply trail call (RevokeToken u was_retired) chain t d one alive a =
 abbrev pub chain_after : Bool → Option Text → List Text → List Text
 chain_after on handed chain = if on then option_to_list handed ++ chain else chain
 
-doors_after : (on : Bool) (handed : Option Text) (chain : List Text) (old : Option Text) (d : Text) → ((x : Text) → old ≡ Some x → Has chain x) → option_or (if on then handed else None) old ≡ Some d → Has (chain_after on handed chain) d
+doors_after : (on : Bool) (handed : Option Text) (chain : List Text) (old : Option Text) (d : Text) → ((x : Text) → old ≡ Some x → Has chain x)
+    → option_or (if on then handed else None) old ≡ Some d → Has (chain_after on handed chain) d
 doors_after true (Some w) chain old d h e = inl (let k = sym e in cc k)
 doors_after true None chain old d h e = h d e
 doors_after false handed chain old d h e = h d e
 
-chain_cases : (on : Bool) (handed : Option Text) (chain : List Text) (d : Text) → Has (chain_after on handed chain) d → ((if on then handed else None) ≡ Some d) ⊎ Has chain d
+chain_cases : (on : Bool) (handed : Option Text) (chain : List Text) (d : Text) → Has (chain_after on handed chain) d
+    → ((if on then handed else None) ≡ Some d) ⊎ Has chain d
 chain_cases true (Some w) chain d (inl e) = inl (ap Some (sym e))
 chain_cases true (Some w) chain d (inr h) = inr h
 chain_cases true None chain d h = inr h
@@ -465,14 +530,18 @@ chain_cases false handed chain d h = inr h
 more_grants : (xs ys : List Note) → next_grant ys ≤ next_grant (xs ++ ys)
 more_grants xs ys = let k = sum_by-append (λ (n : Note). cond (is_opening n) 1 0) xs ys in omega arith
 
-pub alive_after : (reply : Reply) (notes trail : List Note) (on : Bool) (chain : List Text) (t : TokenNote) → IsAlive trail chain t → Stays reply notes on t.grant t.serial
+pub alive_after : (reply : Reply) (notes trail : List Note) (on : Bool) (chain : List Text) (t : TokenNote) → IsAlive trail chain t
+    → Stays reply notes on t.grant t.serial
     → IsAlive (reverse notes ++ trail) (chain_after on (handed_door reply) chain) t
 alive_after reply notes trail on chain t alive stays = record {
   issued = note-append_right (reverse notes) trail (Issued t) alive.issued;
   known = (let k = more_grants (reverse notes) trail in let h = alive.known in omega arith);
-  kept = list_any-append (is_retirement t.serial) (reverse notes) trail ∙ or_from (list_any (is_retirement t.serial) (reverse notes)) (list_any (is_retirement t.serial) trail) stays.kept alive.kept;
-  unended = list_any-append (is_end_of t.grant) (reverse notes) trail ∙ or_from (list_any (is_end_of t.grant) (reverse notes)) (list_any (is_end_of t.grant) trail) stays.unended alive.unended;
-  approved = first_of-append (state_change_in t.grant) (reverse notes) trail ∙ ap (λ r. option_or r (first_of (state_change_in t.grant) trail)) stays.turns ∙ alive.approved;
+  kept = list_any-append (is_retirement t.serial) (reverse notes) trail
+      ∙ or_from (list_any (is_retirement t.serial) (reverse notes)) (list_any (is_retirement t.serial) trail) stays.kept alive.kept;
+  unended = list_any-append (is_end_of t.grant) (reverse notes) trail
+      ∙ or_from (list_any (is_end_of t.grant) (reverse notes)) (list_any (is_end_of t.grant) trail) stays.unended alive.unended;
+  approved = first_of-append (state_change_in t.grant) (reverse notes) trail ∙ ap (λ r. option_or r (first_of (state_change_in t.grant) trail)) stays.turns
+      ∙ alive.approved;
   chain_has = λ d e. doors_after on (handed_door reply) chain (door trail t.grant) d alive.chain_has
       (ap (λ r. option_or r (door trail t.grant)) (sym stays.doors) ∙ sym (first_of-append (door_in t.grant) (reverse notes) trail) ∙ e);
   chain_of = λ d h. elim (chain_cases on (handed_door reply) chain d h) [

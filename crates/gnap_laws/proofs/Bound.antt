@@ -49,7 +49,8 @@ decided_fewer rights (ask ∷ asks) = step (decided_ask rights ask) (filter_map 
 
 -- ---- one entry
 
-grant_few : (supply : Supply) (o : OpeningNote) (before : List Note) (asks : List Ask) (single : Bool) (subject instance : Option Text) → flat_map note_values before ≡ [] → length asks ≤ 8
+grant_few : (supply : Supply) (o : OpeningNote) (before : List Note) (asks : List Ask) (single : Bool) (subject instance : Option Text)
+    → flat_map note_values before ≡ [] → length asks ≤ 8
     → length (flat_map note_values (grant_outcome supply o before asks single subject instance).notes) ≤ 17
 grant_few supply o before asks single subject instance none few =
     let e = ap (length {A = Text}) (grant_values supply o before asks single subject instance none) in
@@ -66,11 +67,14 @@ pend_few supply o before modes instance none =
     let e = ap (length {A = Text}) (pend_values supply o before modes instance none) in
     let l = listed_few (is_some modes.finish) (drawn_value supply 2) in omega arith
 
-grant_fits : (supply : Supply) (o : OpeningNote) (before : List Note) (asks : List Ask) (single : Bool) (subject instance : Option Text) → AllTermsFit before → AllTermsFit (grant_outcome supply o before asks single subject instance).notes
+grant_fits : (supply : Supply) (o : OpeningNote) (before : List Note) (asks : List Ask) (single : Bool) (subject instance : Option Text) → AllTermsFit before
+    → AllTermsFit (grant_outcome supply o before asks single subject instance).notes
 grant_fits supply o before asks single subject instance h =
-    each-append TermsFit (before ++ map Issued (tokens_for supply o asks 0)) (door_note supply o (2 * length asks) ∷ []) (each-append TermsFit before (map Issued (tokens_for supply o asks 0)) h (fit-issued (tokens_for supply o asks 0))) (tt, tt)
+    each-append TermsFit (before ++ map Issued (tokens_for supply o asks 0)) (door_note supply o (2 * length asks) ∷ [])
+    (each-append TermsFit before (map Issued (tokens_for supply o asks 0)) h (fit-issued (tokens_for supply o asks 0))) (tt, tt)
 
-pend_fits : (supply : Supply) (o : OpeningNote) (before : List Note) (modes : Modes) (instance : Option Text) → AllTermsFit before → AllTermsFit (pending_outcome supply o before modes instance).notes
+pend_fits : (supply : Supply) (o : OpeningNote) (before : List Note) (modes : Modes) (instance : Option Text) → AllTermsFit before
+    → AllTermsFit (pending_outcome supply o before modes instance).notes
 pend_fits supply o before modes instance h = each-append TermsFit before (door_note supply o 0 ∷ Pended (round_for supply o modes) ∷ []) h (tt, (tt, tt))
 
 -- few values, and terms that fit
@@ -87,10 +91,13 @@ settle_few : (supply : Supply) (b : Bool) → length (option_to_list (some_if b 
 settle_few supply true = omega arith
 settle_few supply false = omega arith
 
-action_small : (supply : Supply) (trail : List Note) (call : Call) (action : Action) → Cause trail supply.now call action → HasFewAsks call → AllTermsFit trail → IsSmall (outcome_of supply action).notes
+action_small : (supply : Supply) (trail : List Note) (call : Call) (action : Action) → Cause trail supply.now call action → HasFewAsks call → AllTermsFit trail
+    → IsSmall (outcome_of supply action).notes
 action_small supply trail call (OpenAtOnce o request) a f h = (
-  grant_few supply o (Opened o ∷ Terms (terms_for o request) ∷ Approved o.grant [] ∷ []) request.asks request.single None (instance_of o) refl (begin_few call request a.1 f),
-  grant_fits supply o (Opened o ∷ Terms (terms_for o request) ∷ Approved o.grant [] ∷ []) request.asks request.single None (instance_of o) (tt, (begin_few call request a.1 f, (tt, tt))),
+  grant_few supply o (Opened o ∷ Terms (terms_for o request) ∷ Approved o.grant [] ∷ []) request.asks request.single None (instance_of o) refl
+      (begin_few call request a.1 f),
+  grant_fits supply o (Opened o ∷ Terms (terms_for o request) ∷ Approved o.grant [] ∷ []) request.asks request.single None (instance_of o)
+      (tt, (begin_few call request a.1 f, (tt, tt))),
 )
 action_small supply trail call (OpenAsking o request modes) a f h = (
   pend_few supply o (Opened o ∷ Terms (terms_for o request) ∷ []) modes (instance_of o) refl,
@@ -99,7 +106,8 @@ action_small supply trail call (OpenAsking o request modes) a f h = (
 action_small supply trail call (TakeDecision r rights request) a f h = (settle_few supply (is_some r.modes.finish), (tt, tt))
 action_small supply trail call (RenewDoor o) a f h = (omega arith, (tt, tt))
 action_small supply trail call (CollectDecision o w d asks) a f h =
-    let few : length asks ≤ 8 = (let k = terms_of_fits o.grant w trail a.2 h in let l = decided_fewer d.rights w.asks in let e = ap (length {A = Ask}) a.3 in omega arith) in (
+    let few : length asks ≤ 8 = (let k = terms_of_fits o.grant w trail a.2 h in let l = decided_fewer d.rights w.asks in let e = ap (length {A = Ask}) a.3 in
+    omega arith) in (
       grant_few supply o (Approved o.grant d.rights ∷ []) asks w.single (if w.subject then d.subject else None) None refl few,
       grant_fits supply o (Approved o.grant d.rights ∷ []) asks w.single (if w.subject then d.subject else None) None (tt, tt),
     )
@@ -107,12 +115,15 @@ action_small supply trail call (WrongReference o) a f h = (omega arith, (tt, tt)
 action_small supply trail call (LastWrongReference o) a f h = (omega arith, (tt, (tt, tt)))
 action_small supply trail call (RefuseAndFinalize o code) a f h = (omega arith, (tt, tt))
 action_small supply trail call (ModifyAtOnce o consent retired request) a f h = (
-  grant_few supply o (retire retired ++ Terms (terms_for o request) ∷ Approved o.grant consent ∷ []) request.asks request.single None None (retired_none retired (Terms (terms_for o request) ∷ Approved o.grant consent ∷ [])) (modify_few call request a.1 f),
-  grant_fits supply o (retire retired ++ Terms (terms_for o request) ∷ Approved o.grant consent ∷ []) request.asks request.single None None (fit-retire retired (Terms (terms_for o request) ∷ Approved o.grant consent ∷ []) (modify_few call request a.1 f, (tt, tt))),
+  grant_few supply o (retire retired ++ Terms (terms_for o request) ∷ Approved o.grant consent ∷ []) request.asks request.single None None
+      (retired_none retired (Terms (terms_for o request) ∷ Approved o.grant consent ∷ [])) (modify_few call request a.1 f),
+  grant_fits supply o (retire retired ++ Terms (terms_for o request) ∷ Approved o.grant consent ∷ []) request.asks request.single None None
+      (fit-retire retired (Terms (terms_for o request) ∷ Approved o.grant consent ∷ []) (modify_few call request a.1 f, (tt, tt))),
 )
 action_small supply trail call (ModifyAsking o retired request modes) a f h = (
   pend_few supply o (retire retired ++ Terms (terms_for o request) ∷ []) modes None (retired_none retired (Terms (terms_for o request) ∷ [])),
-  pend_fits supply o (retire retired ++ Terms (terms_for o request) ∷ []) modes None (fit-retire retired (Terms (terms_for o request) ∷ []) (modify_few call request a.1 f, tt)),
+  pend_fits supply o (retire retired ++ Terms (terms_for o request) ∷ []) modes None
+      (fit-retire retired (Terms (terms_for o request) ∷ []) (modify_few call request a.1 f, tt)),
 )
 action_small supply trail call (CancelGrant o) a f h = (omega arith, (tt, tt))
 action_small supply trail call (RotateToken o t key) a f h = (omega arith, (tt, (tt, tt)))
@@ -128,7 +139,8 @@ past_fits rules (e ∷ past) legal =
     let why = chosen rules past e legal.0 in
     let action = why.action in
     let small = action_small supply (trail_of past) e.call action why.cause legal.0.fits (past_fits rules past legal.1) in
-    each-append TermsFit (reverse e.notes) (trail_of past) (each-reverse TermsFit e.notes (subst AllTermsFit (sym why.notes) small.1)) (past_fits rules past legal.1)
+    each-append TermsFit (reverse e.notes) (trail_of past) (each-reverse TermsFit e.notes (subst AllTermsFit (sym why.notes) small.1))
+    (past_fits rules past legal.1)
 
 pub few_values : (rules : Setup) (past : List Event) → IsLegalPast rules past → length (trail_values (trail_of past)) ≤ 17 * length past
 few_values rules [] legal = omega arith

@@ -62,7 +62,8 @@ rotate_binds rules supply trail owner value key token =
     (λ t. if_both (Binds supply token key) (is_live trail supply.now t) _ (Refuse InvalidRotation)
     (found_binds supply token key InvalidRotation _ (first_of (opening_in t.grant) trail)
     (λ o. if_both (Binds supply token key) (same_text t.key owner) (rotate_key rules (Some key) t o) (Refuse InvalidClient)
-    (if_both (Binds supply token key) (can_bind rules t.bearer key) (RotateToken o t key) (Refuse InvalidRotation) (rotated_binds supply token key o t) (λ e. cc e))
+    (if_both (Binds supply token key) (can_bind rules t.bearer key) (RotateToken o t key) (Refuse InvalidRotation) (rotated_binds supply token key o t)
+    (λ e. cc e))
     (λ e. cc e)))
     (λ e. cc e))
 
@@ -91,7 +92,8 @@ rotation_noted rules h rotation token key legal among rotates =
     (ap (λ (c : Call). (outcome_of supply (action_of rules supply trail c)).notes) (sym call) ∙ sym follows.notes) noted.1 in
     let whole : notes_of h ≡ notes_of before ++ (rotation.notes ++ notes_of split.1) = ap notes_of split.2 ∙ notes-append before (rotation ∷ split.1) in
     let among_all : HasNote (notes_of h) (Issued noted.0) = subst (λ (ns : List Note). HasNote ns (Issued noted.0)) (sym whole)
-    (note-append_right (notes_of before) (rotation.notes ++ notes_of split.1) (Issued noted.0) (note-append_left rotation.notes (notes_of split.1) (Issued noted.0) here)) in
+    (note-append_right (notes_of before) (rotation.notes ++ notes_of split.1) (Issued noted.0)
+    (note-append_left rotation.notes (notes_of split.1) (Issued noted.0) here)) in
     (noted.0, note-reverse (notes_of h) (Issued noted.0) among_all, noted.2, noted.3, noted.4)
 
 -- ---- so a token that has one of the values is the key's
@@ -99,7 +101,8 @@ rotation_noted rules h rotation token key legal among rotates =
 by_value : (trail : List Note) (token : TokenOut) (key : Text) (t : TokenNote) → AreDistinct (trail_values trail) → IsNotedWith trail token key
     → HasNote trail (Issued t) → t.value ≡ token.value → (t.manage ≡ token.manage) × (t.key ≡ key)
 by_value trail token key t distinct noted issued e =
-    let one : Issued t ≡ Issued noted.0 = note_one trail (Issued t) (Issued noted.0) t.value distinct issued noted.1 (inr (inl refl)) (inr (inl (e ∙ sym noted.2))) in
+    let one : Issued t ≡ Issued noted.0 = note_one trail (Issued t) (Issued noted.0) t.value distinct issued noted.1 (inr (inl refl))
+    (inr (inl (e ∙ sym noted.2))) in
     let same : t ≡ noted.0 = cc one in
     (ap (λ (u : TokenNote). u.manage) same ∙ noted.3, ap (λ (u : TokenNote). u.key) same ∙ noted.4)
 
@@ -130,8 +133,10 @@ live_noted trail now value t e =
     let both = and_parts (same_text t.value value) (is_live trail now t) f.1 in
     (subst (HasNote trail) f.0 r.1, (bytes_eq-Decides t.value value).0 both.0, both.1)
 
-tells_key : (rules : Setup) (supply : Supply) (trail : List Note) (server : Text) (binding : Option Binding) (wanted : Option (List Right)) (token : TokenOut) (key : Text)
-    → AreDistinct (trail_values trail) → IsNotedWith trail token key → TellsKey (outcome_of supply (action_of rules supply trail (Introspect server token.value binding wanted))).reply key
+tells_key : (rules : Setup) (supply : Supply) (trail : List Note) (server : Text) (binding : Option Binding) (wanted : Option (List Right)) (token : TokenOut)
+    (key : Text)
+    → AreDistinct (trail_values trail) → IsNotedWith trail token key
+    → TellsKey (outcome_of supply (action_of rules supply trail (Introspect server token.value binding wanted))).reply key
 tells_key rules supply trail server binding wanted token key distinct noted =
     if_both (λ (a : Action). TellsKey (outcome_of supply a).reply key) (serves_all (server_names (key_of rules server)) wanted) _ (Refuse InvalidAccess)
     (shown_key supply key (server_names (key_of rules server)) binding wanted (live_token trail supply.now token.value)
@@ -162,12 +167,14 @@ other_keeps : (rules : Setup) (supply : Supply) (trail : List Note) (call : Call
     → IsNotedWith trail token key → presented_manage call ≡ Some token.manage → caller call ≢ key → Keeps supply (action_of rules supply trail call)
 other_keeps rules supply trail (Rotate owner value new_key) token key distinct noted presents other =
     found_keeps supply InvalidRotation _ (managed_token trail supply.now value)
-    (λ t found. let is = managed_key trail supply.now token key t distinct noted (ap (managed_token trail supply.now) (sym (same_Some value token.manage presents)) ∙ found) in
+    (λ t found. let is = managed_key trail supply.now token key t distinct noted
+    (ap (managed_token trail supply.now) (sym (same_Some value token.manage presents)) ∙ found) in
     if_both (Keeps supply) (is_live trail supply.now t) _ (Refuse InvalidRotation)
     (grant_keeps supply InvalidRotation trail owner t (rotate_key rules new_key t) (λ same. other (same ∙ is))) refl)
 other_keeps rules supply trail (Revoke owner value) token key distinct noted presents other =
     found_keeps supply InvalidRequest _ (managed_token trail supply.now value)
-    (λ t found. let is = managed_key trail supply.now token key t distinct noted (ap (managed_token trail supply.now) (sym (same_Some value token.manage presents)) ∙ found) in
+    (λ t found. let is = managed_key trail supply.now token key t distinct noted
+    (ap (managed_token trail supply.now) (sym (same_Some value token.manage presents)) ∙ found) in
     grant_keeps supply InvalidRequest trail owner t _ (λ same. other (same ∙ is)))
 other_keeps rules supply trail _ token key distinct noted presents other = cc presents
 
@@ -191,14 +198,17 @@ live_managed trail now t distinct issued live =
     let named = managed_issued trail now t.manage found.0 found.1 in
     found.1 ∙ ap Some (by_manage trail found.0 t distinct named.0 issued named.1)
 
-found_is : {A : Type 0} (code : ErrorCode) (act : A → Action) (found : Option A) (x : A) (action : Action) → found ≡ Some x → act x ≡ action → on_found code act found ≡ action
+found_is : {A : Type 0} (code : ErrorCode) (act : A → Action) (found : Option A) (x : A) (action : Action) → found ≡ Some x → act x ≡ action
+    → on_found code act found ≡ action
 found_is code act found x action is acts = ap (on_found code act) is ∙ acts
 
-grant_refuses : (code : ErrorCode) (trail : List Note) (key : Text) (t : TokenNote) (act : OpeningNote → Action) → HaveOrigins trail → HasNote trail (Issued t) → key ≢ t.key
+grant_refuses : (code : ErrorCode) (trail : List Note) (key : Text) (t : TokenNote) (act : OpeningNote → Action) → HaveOrigins trail → HasNote trail (Issued t)
+    → key ≢ t.key
     → on_grant code trail key t act ≡ Refuse InvalidClient
 grant_refuses code trail key t act origins issued other =
     let opens = issued_opened trail t origins issued in
-    found_is code (with_owner act t.key key) (first_of (opening_in t.grant) trail) opens.0 (Refuse InvalidClient) opens.1 (not_owners act t.key key opens.0 other)
+    found_is code (with_owner act t.key key) (first_of (opening_in t.grant) trail) opens.0 (Refuse InvalidClient) opens.1
+    (not_owners act t.key key opens.0 other)
 
 other_refused : (rules : Setup) (supply : Supply) (trail : List Note) (call : Call) (t : TokenNote) → AreDistinct (trail_values trail) → HaveOrigins trail
     → HasNote trail (Issued t) → is_live trail supply.now t ≡ true → presented_manage call ≡ Some t.manage → caller call ≢ t.key
@@ -215,8 +225,10 @@ other_refused rules supply trail (Revoke owner value) t distinct origins issued 
 other_refused rules supply trail _ t distinct origins issued live presents other = cc presents
 
 -- What a call is answered after such a rotation.
-pub bound_to : (rules : Setup) (supply : Supply) (trail : List Note) (call : Call) (reply : Reply) (token : TokenOut) (key : Text) → AreDistinct (trail_values trail)
-    → HaveOrigins trail → IsNotedWith trail token key → reply ≡ (outcome_of supply (action_of rules supply trail call)).reply → IsBoundTo trail supply.now call reply token key
+pub bound_to : (rules : Setup) (supply : Supply) (trail : List Note) (call : Call) (reply : Reply) (token : TokenOut) (key : Text)
+    → AreDistinct (trail_values trail)
+    → HaveOrigins trail → IsNotedWith trail token key → reply ≡ (outcome_of supply (action_of rules supply trail call)).reply
+    → IsBoundTo trail supply.now call reply token key
 bound_to rules supply trail call reply token key distinct origins noted answered = record {
   told = λ server binding wanted asks. subst (λ (r : Reply). TellsKey r key)
       (sym (answered ∙ ap (λ (c : Call). (outcome_of supply (action_of rules supply trail c)).reply) asks))

@@ -37,7 +37,8 @@ distinct_right (x ∷ xs) ys d = distinct_right xs ys d.1
 
 pub trail-append : (xs ys : List Note) → trail_values (xs ++ ys) ≡ trail_values xs ++ trail_values ys
 trail-append [] ys = refl
-trail-append (x ∷ xs) ys = ap (λ (r : List Text). reverse (note_values x) ++ r) (trail-append xs ys) ∙ sym (append_assoc (reverse (note_values x)) (trail_values xs) (trail_values ys))
+trail-append (x ∷ xs) ys = ap (λ (r : List Text). reverse (note_values x) ++ r) (trail-append xs ys)
+    ∙ sym (append_assoc (reverse (note_values x)) (trail_values xs) (trail_values ys))
 
 -- ---- values of notes
 
@@ -47,7 +48,8 @@ note_has (k ∷ ns) n x (inl e) v = Has-append_left (reverse (note_values k)) (t
 note_has (k ∷ ns) n x (inr h) v = Has-append_right (reverse (note_values k)) (trail_values ns) x (note_has ns n x h v)
 
 -- a value is that of one note
-pub note_one : (ns : List Note) (m n : Note) (x : Text) → AreDistinct (trail_values ns) → HasNote ns m → HasNote ns n → Has (reverse (note_values m)) x → Has (reverse (note_values n)) x → m ≡ n
+pub note_one : (ns : List Note) (m n : Note) (x : Text) → AreDistinct (trail_values ns) → HasNote ns m → HasNote ns n → Has (reverse (note_values m)) x
+    → Has (reverse (note_values n)) x → m ≡ n
 note_one [] m n x d hm hn vm vn = absurd hm
 note_one (k ∷ ns) m n x d (inl a) (inl b) vm vn = a ∙ sym b
 note_one (k ∷ ns) m n x d (inl a) (inr b) vm vn =
@@ -78,8 +80,10 @@ spent_more new trail v d h = record {
   ended = λ g e. at g (option_or_cases (first_of (door_in g) new) (door trail g) v (sym (first_of-append (door_in g) new trail) ∙ e));
 }
   where
-    at : (g : ℕ) → (first_of (door_in g) new ≡ Some v) ⊎ ((first_of (door_in g) new ≡ None) × (door trail g ≡ Some v)) → list_any (is_end_of g) (new ++ trail) ≡ true
-    at g (inl e) = absurd (distinct_apart (trail_values new) (trail_values trail) v (subst AreDistinct (trail-append new trail) d) (doors_have g v new e) h.drawn)
+    at : (g : ℕ) → (first_of (door_in g) new ≡ Some v) ⊎ ((first_of (door_in g) new ≡ None) × (door trail g ≡ Some v))
+        → list_any (is_end_of g) (new ++ trail) ≡ true
+    at g (inl e) = absurd (distinct_apart (trail_values new) (trail_values trail) v (subst AreDistinct (trail-append new trail) d) (doors_have g v new e)
+        h.drawn)
     at g (inr e) = list_any-append (is_end_of g) new trail ∙ or_right (list_any (is_end_of g) new) (list_any (is_end_of g) trail) (h.ended g e.1)
 
 -- the door of o is spent by notes that have a new door of o, or that end it
@@ -105,7 +109,8 @@ spent_now new trail o v d e used = record {
         cc (none, w.1)
     at g (inr eg) (inr ended) =
         let same : g ≡ o = door_one trail g o v (distinct_right (trail_values new) (trail_values trail) apart) eg.1 e in
-        list_any-append (is_end_of g) new trail ∙ or_left (list_any (is_end_of g) new) (list_any (is_end_of g) trail) (subst (λ (k : ℕ). list_any (is_end_of k) new ≡ true) (sym same) ended)
+        list_any-append (is_end_of g) new trail
+        ∙ or_left (list_any (is_end_of g) new) (list_any (is_end_of g) trail) (subst (λ (k : ℕ). list_any (is_end_of k) new ≡ true) (sym same) ended)
 
 -- ---- a spent value names no grant
 

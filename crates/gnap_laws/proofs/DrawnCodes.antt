@@ -39,7 +39,8 @@ codes_few trail now =
     let codes = length-filter_map code_in (live_rounds trail now) in
     let fewer = count_by-le-length (λ (r : RoundNote). is_some (code_in r)) (live_rounds trail now) in
     let rounds = length-filter_map (interaction_in trail now) trail in
-    let live = count_weaker (λ n. is_some (interaction_in trail now n)) (is_live_opening trail now) trail (λ n h e. interaction_live trail now n e) in omega arith
+    let live = count_weaker (λ n. is_some (interaction_in trail now n)) (is_live_opening trail now) trail (λ n h e. interaction_live trail now n e) in omega
+    arith
 
 -- ---- a code that is none of the taken ones is that of no live interaction
 
@@ -68,22 +69,26 @@ issued_free : (taken : List Text) (ts : List TokenNote) → EachNote (HasFreeCod
 issued_free taken [] = tt
 issued_free taken (t ∷ ts) = (tt, issued_free taken ts)
 
-retire_free : (taken : List Text) (ts : List TokenNote) (rest : List Note) → EachNote (HasFreeCode taken) rest → EachNote (HasFreeCode taken) (retire ts ++ rest)
+retire_free : (taken : List Text) (ts : List TokenNote) (rest : List Note) → EachNote (HasFreeCode taken) rest
+    → EachNote (HasFreeCode taken) (retire ts ++ rest)
 retire_free taken [] rest h = h
 retire_free taken (t ∷ ts) rest h = (tt, retire_free taken ts rest h)
 
-grant_free : (taken : List Text) (supply : Supply) (o : OpeningNote) (before : List Note) (asks : List Ask) (single : Bool) (subject instance : Option Text) → EachNote (HasFreeCode taken) before
+grant_free : (taken : List Text) (supply : Supply) (o : OpeningNote) (before : List Note) (asks : List Ask) (single : Bool) (subject instance : Option Text)
+    → EachNote (HasFreeCode taken) before
     → EachNote (HasFreeCode taken) (grant_outcome supply o before asks single subject instance).notes
 grant_free taken supply o before asks single subject instance h =
     each-append (HasFreeCode taken) (before ++ map Issued (tokens_for supply o asks 0)) (door_note supply o (2 * length asks) ∷ [])
     (each-append (HasFreeCode taken) before (map Issued (tokens_for supply o asks 0)) h (issued_free taken (tokens_for supply o asks 0))) (tt, tt)
 
-round_free : (supply : Supply) (o : OpeningNote) (modes : Modes) → length supply.taken < code_count → HasFreeCode supply.taken (Pended (round_for supply o modes))
+round_free : (supply : Supply) (o : OpeningNote) (modes : Modes) → length supply.taken < code_count
+    → HasFreeCode supply.taken (Pended (round_for supply o modes))
 round_free supply o modes few code e =
     let is = some_if_some (wants_code modes) (free_code (length supply.taken) (slice_index supply.words 47) supply.taken) code e in
     subst (λ (c : Text). list_any (same_text c) supply.taken ≡ false) is.1 (free_code_free (slice_index supply.words 47) supply.taken few)
 
-pend_free : (supply : Supply) (o : OpeningNote) (before : List Note) (modes : Modes) (instance : Option Text) → length supply.taken < code_count → EachNote (HasFreeCode supply.taken) before
+pend_free : (supply : Supply) (o : OpeningNote) (before : List Note) (modes : Modes) (instance : Option Text) → length supply.taken < code_count
+    → EachNote (HasFreeCode supply.taken) before
     → EachNote (HasFreeCode supply.taken) (pending_outcome supply o before modes instance).notes
 pend_free supply o before modes instance few h =
     each-append (HasFreeCode supply.taken) before (door_note supply o 0 ∷ Pended (round_for supply o modes) ∷ []) h (tt, (round_free supply o modes few, tt))
@@ -98,7 +103,8 @@ action_free supply (CancelGrant o) few = (tt, tt)
 action_free supply (RotateToken o t key) few = (tt, (tt, tt))
 action_free supply (RevokeToken t false) few = (tt, tt)
 action_free supply (OpenAtOnce o request) few =
-    grant_free supply.taken supply o (Opened o ∷ Terms (terms_for o request) ∷ Approved o.grant [] ∷ []) request.asks request.single None (instance_of o) (tt, (tt, (tt, tt)))
+    grant_free supply.taken supply o (Opened o ∷ Terms (terms_for o request) ∷ Approved o.grant [] ∷ []) request.asks request.single None (instance_of o)
+    (tt, (tt, (tt, tt)))
 action_free supply (OpenAsking o request modes) few = pend_free supply o (Opened o ∷ Terms (terms_for o request) ∷ []) modes (instance_of o) few (tt, (tt, tt))
 action_free supply (CollectDecision o w d asks) few =
     grant_free supply.taken supply o (Approved o.grant d.rights ∷ []) asks w.single (if w.subject then d.subject else None) None (tt, tt)
@@ -106,7 +112,8 @@ action_free supply (ModifyAtOnce o consent retired request) few =
     grant_free supply.taken supply o (retire retired ++ Terms (terms_for o request) ∷ Approved o.grant consent ∷ []) request.asks request.single None None
     (retire_free supply.taken retired (Terms (terms_for o request) ∷ Approved o.grant consent ∷ []) (tt, (tt, tt)))
 action_free supply (ModifyAsking o retired request modes) few =
-    pend_free supply o (retire retired ++ Terms (terms_for o request) ∷ []) modes None few (retire_free supply.taken retired (Terms (terms_for o request) ∷ []) (tt, tt))
+    pend_free supply o (retire retired ++ Terms (terms_for o request) ∷ []) modes None few
+    (retire_free supply.taken retired (Terms (terms_for o request) ∷ []) (tt, tt))
 action_free supply _ few = tt
 
 -- ---- an entry
@@ -119,7 +126,8 @@ contained_has (m ∷ ns) n h = elim (contains_cases m n ns h) [
 ]
 
 -- The code of a round that an action begins is that of no live interaction, where no more grants are live than may be.
-pub drawn_free : (supply : Supply) (trail : List Note) (action : Action) (round : RoundNote) (code : Text) → supply.taken ≡ live_codes trail supply.now → live_grants trail supply.now ≤ live_limit
+pub drawn_free : (supply : Supply) (trail : List Note) (action : Action) (round : RoundNote) (code : Text) → supply.taken ≡ live_codes trail supply.now
+    → live_grants trail supply.now ≤ live_limit
     → Contains (outcome_of supply action).notes (Pended round) → round.code ≡ Some code → round_by_code trail supply.now code ≡ None
 drawn_free supply trail action round code taken limit contains e =
     let same = ap (length {A = Text}) taken in

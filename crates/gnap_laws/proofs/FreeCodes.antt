@@ -75,7 +75,8 @@ length-candidates (suc tries) number = let rest = length-candidates tries (numbe
 differ : (a b : ℕ) → a < b → b < a + code_count → bytes_eq (candidate a) (candidate b) ≡ false
 differ a b below near = false_from_ne_true (bytes_eq (candidate a) (candidate b))
     (λ e.
-    let same : a % code_count ≡ b % code_count = code_injective (a % code_count) (b % code_count) (omega arith) (omega arith) ((bytes_eq-Decides (candidate a) (candidate b)).0 e) in
+    let same : a % code_count ≡ b % code_count = code_injective (a % code_count) (b % code_count) (omega arith) (omega arith)
+    ((bytes_eq-Decides (candidate a) (candidate b)).0 e) in
     omega arith)
 
 apart : (tries a b : ℕ) → a < b → b + tries < a + code_count → AllByRecursion (λ code. bytes_eq (candidate a) code ≡ false) (candidates tries b)
@@ -91,7 +92,8 @@ distinct (suc tries) number few = (apart tries number (number + 1) (omega arith)
 
 -- the code that is found is free, or each one that was tried is taken
 free_or_taken : (tries number : ℕ) (taken : List Text)
-    → (list_any (same_text (free_code tries number taken)) taken ≡ false) ⊎ ((code : Text) → is_member bytes_eq (candidates tries number) code ≡ true → is_member bytes_eq taken code ≡ true)
+    → (list_any (same_text (free_code tries number taken)) taken ≡ false)
+    ⊎ ((code : Text) → is_member bytes_eq (candidates tries number) code ≡ true → is_member bytes_eq taken code ≡ true)
 free_or_taken zero number taken = elim (cases_Bool (is_member bytes_eq taken (candidate number))) [
   | inl is ↦ inr (λ code h. taken_too taken code (candidate number) is (only code (candidate number) h))
   | inr is ↦ inl is

@@ -28,7 +28,8 @@ opened_within : (supply : Supply) (trail : List Note) (action : Action) → HasR
     → count_by is_opening (outcome_of supply action).notes + live_grants trail supply.now ≤ live_limit
 opened_within supply trail (OpenAtOnce o request) room h =
     let few = room.0 in
-    let k = grant_skipped is_opening supply o (Opened o ∷ Terms (terms_for o request) ∷ Approved o.grant [] ∷ []) request.asks request.single None (instance_of o) skips in omega arith
+    let k = grant_skipped is_opening supply o (Opened o ∷ Terms (terms_for o request) ∷ Approved o.grant [] ∷ []) request.asks request.single None
+    (instance_of o) skips in omega arith
 opened_within supply trail (OpenAsking o request modes) room h =
     let k = pend_skipped is_opening supply o (Opened o ∷ Terms (terms_for o request) ∷ []) modes (instance_of o) skips in omega arith
 opened_within supply trail (CollectDecision o w d asks) room h =
@@ -51,7 +52,8 @@ opening_live trail now (Opened o) e = refl
 opening_live trail now _ e = e
 
 -- a grant that is live after the notes was live before them
-pub live_before : (supply : Supply) (trail : List Note) (call : Call) (action : Action) → IsSound trail → Cause trail supply.now call action → (n : Note) → HasNote trail n
+pub live_before : (supply : Supply) (trail : List Note) (call : Call) (action : Action) → IsSound trail → Cause trail supply.now call action → (n : Note)
+    → HasNote trail n
     → is_live_opening (reverse (outcome_of supply action).notes ++ trail) supply.now n ≡ true → is_live_opening trail supply.now n ≡ true
 live_before supply trail call action sound cause (Opened o) h e =
     elim (silent_or_goes_on supply trail call action o.grant cause (sound_note (next_grant trail) (first_serial trail) trail (Opened o) sound h)) [
@@ -60,7 +62,8 @@ live_before supply trail call action sound cause (Opened o) h e =
     ]
 live_before supply trail call action sound cause _ h e = e
 
-pub grants_within : (supply : Supply) (trail : List Note) (call : Call) (action : Action) → IsSound trail → Cause trail supply.now call action → HasRoom trail supply.now action
+pub grants_within : (supply : Supply) (trail : List Note) (call : Call) (action : Action) → IsSound trail → Cause trail supply.now call action
+    → HasRoom trail supply.now action
     → live_grants trail supply.now ≤ live_limit → live_grants (reverse (outcome_of supply action).notes ++ trail) supply.now ≤ live_limit
 grants_within supply trail call action sound cause room h =
     let notes : List Note = (outcome_of supply action).notes in

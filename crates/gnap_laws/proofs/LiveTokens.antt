@@ -44,7 +44,8 @@ pub data Fate (trail : List Note) (notes : List Note) (t : TokenNote) : Type 0 w
   GrantEnds : list_any (is_end_of t.grant) notes ≡ true → first_of (state_change_in t.grant) notes ≡ None → Fate trail notes t
 
 -- a modification retires each token of its grant
-modified_retired : (trail : List Note) (now : ℕ) (o : OpeningNote) (v : Text) (t : TokenNote) → HasNote trail (Issued t) → named_grant trail now v ≡ Some o → o.grant ≡ t.grant
+modified_retired : (trail : List Note) (now : ℕ) (o : OpeningNote) (v : Text) (t : TokenNote) → HasNote trail (Issued t) → named_grant trail now v ≡ Some o
+    → o.grant ≡ t.grant
     → (list_any (λ u. u.serial == t.serial) (tokens_of trail now o) || list_any (is_retirement t.serial) trail) ≡ true
 modified_retired trail now o v t issued named same = elim (cases_Bool (list_any (is_retirement t.serial) trail)) [
   | inl retired ↦ or_right (list_any (λ u. u.serial == t.serial) (tokens_of trail now o)) (list_any (is_retirement t.serial) trail) retired
@@ -58,7 +59,8 @@ modified_retired trail now o v t issued named same = elim (cases_Bool (list_any 
       (eq-eqb t.serial t.serial refl))
 ]
 
-retired_whole : (serial : ℕ) (notes trail : List Note) (b : Bool) → list_any (is_retirement serial) notes ≡ b → (b || list_any (is_retirement serial) trail) ≡ true
+retired_whole : (serial : ℕ) (notes trail : List Note) (b : Bool) → list_any (is_retirement serial) notes ≡ b
+    → (b || list_any (is_retirement serial) trail) ≡ true
     → list_any (is_retirement serial) (reverse notes ++ trail) ≡ true
 retired_whole serial notes trail b e h =
     list_any-append (is_retirement serial) (reverse notes) trail
@@ -70,25 +72,32 @@ before_retires serial retired rest none =
     list_any-append (is_retirement serial) (retire retired) rest ∙ ap (λ b. list_any (is_retirement serial) (retire retired) || b) none
     ∙ or-false (list_any (is_retirement serial) (retire retired)) ∙ retire_any serial retired
 
-at_once_retires : (supply : Supply) (trail : List Note) (o : OpeningNote) (consent : List Right) (retired : List TokenNote) (request : GrantRequest) (v : Text) (t : TokenNote)
+at_once_retires : (supply : Supply) (trail : List Note) (o : OpeningNote) (consent : List Right) (retired : List TokenNote) (request : GrantRequest) (v : Text)
+    (t : TokenNote)
     → HasNote trail (Issued t) → named_grant trail supply.now v ≡ Some o → retired ≡ tokens_of trail supply.now o → o.grant ≡ t.grant
     → list_any (is_retirement t.serial) (reverse (outcome_of supply (ModifyAtOnce o consent retired request)).notes ++ trail) ≡ true
 at_once_retires supply trail o consent retired request v t issued named is same =
     let rest : List Note = Terms (terms_for o request) ∷ Approved o.grant consent ∷ [] in
-    retired_whole t.serial (outcome_of supply (ModifyAtOnce o consent retired request)).notes trail (list_any (λ u. u.serial == t.serial) (tokens_of trail supply.now o))
-    (grant_retires supply o (retire retired ++ rest) request.asks request.single None None t.serial ∙ before_retires t.serial retired rest refl ∙ ap (list_any (λ u. u.serial == t.serial)) is)
+    retired_whole t.serial (outcome_of supply (ModifyAtOnce o consent retired request)).notes trail
+    (list_any (λ u. u.serial == t.serial) (tokens_of trail supply.now o))
+    (grant_retires supply o (retire retired ++ rest) request.asks request.single None None t.serial ∙ before_retires t.serial retired rest refl
+    ∙ ap (list_any (λ u. u.serial == t.serial)) is)
     (modified_retired trail supply.now o v t issued named same)
 
-asking_retires : (supply : Supply) (trail : List Note) (o : OpeningNote) (retired : List TokenNote) (request : GrantRequest) (modes : Modes) (v : Text) (t : TokenNote)
+asking_retires : (supply : Supply) (trail : List Note) (o : OpeningNote) (retired : List TokenNote) (request : GrantRequest) (modes : Modes) (v : Text)
+    (t : TokenNote)
     → HasNote trail (Issued t) → named_grant trail supply.now v ≡ Some o → retired ≡ tokens_of trail supply.now o → o.grant ≡ t.grant
     → list_any (is_retirement t.serial) (reverse (outcome_of supply (ModifyAsking o retired request modes)).notes ++ trail) ≡ true
 asking_retires supply trail o retired request modes v t issued named is same =
     let rest : List Note = Terms (terms_for o request) ∷ [] in
-    retired_whole t.serial (outcome_of supply (ModifyAsking o retired request modes)).notes trail (list_any (λ u. u.serial == t.serial) (tokens_of trail supply.now o))
-    (pend_retires supply o (retire retired ++ rest) modes None t.serial ∙ before_retires t.serial retired rest refl ∙ ap (list_any (λ u. u.serial == t.serial)) is)
+    retired_whole t.serial (outcome_of supply (ModifyAsking o retired request modes)).notes trail
+    (list_any (λ u. u.serial == t.serial) (tokens_of trail supply.now o))
+    (pend_retires supply o (retire retired ++ rest) modes None t.serial ∙ before_retires t.serial retired rest refl
+    ∙ ap (list_any (λ u. u.serial == t.serial)) is)
     (modified_retired trail supply.now o v t issued named same)
 
-pub fate : (supply : Supply) (trail : List Note) (call : Call) (action : Action) (t : TokenNote) → IsSound trail → PendingRetires trail → Cause trail supply.now call action → HasNote trail (Issued t)
+pub fate : (supply : Supply) (trail : List Note) (call : Call) (action : Action) (t : TokenNote) → IsSound trail → PendingRetires trail
+    → Cause trail supply.now call action → HasNote trail (Issued t)
     → Fate trail (reverse (outcome_of supply action).notes) t
 fate supply trail call action t sound pending cause issued = at action cause
   where
@@ -99,14 +108,16 @@ fate supply trail call action t sound pending cause issued = at action cause
     other action e = Untouched (silent_others supply action t.grant e)
 
     -- the action is on another grant, or on the token's
-    on : (action : Action) (o : OpeningNote) → changed action ≡ Some o → (o.grant ≡ t.grant → Fate trail (reverse (outcome_of supply action).notes) t) → Fate trail (reverse (outcome_of supply action).notes) t
+    on : (action : Action) (o : OpeningNote) → changed action ≡ Some o → (o.grant ≡ t.grant → Fate trail (reverse (outcome_of supply action).notes) t)
+        → Fate trail (reverse (outcome_of supply action).notes) t
     on action o is own = by (o.grant == t.grant) refl
       where
         by : (b : Bool) → (o.grant == t.grant) ≡ b → Fate trail (reverse (outcome_of supply action).notes) t
         by true e = own (eqb-true o.grant t.grant e)
         by false e = other action (subst (IsAnother t.grant) (sym is) e)
 
-    ends : (o : OpeningNote) (notes : List Note) → o.grant ≡ t.grant → first_of (state_change_in t.grant) notes ≡ None → Fate trail (Finalized o.grant ∷ notes) t
+    ends : (o : OpeningNote) (notes : List Note) → o.grant ≡ t.grant → first_of (state_change_in t.grant) notes ≡ None
+        → Fate trail (Finalized o.grant ∷ notes) t
     ends o notes e none = GrantEnds (or_left (o.grant == t.grant) (list_any (is_end_of t.grant) notes) (eq-eqb o.grant t.grant e)) none
 
     at : (action : Action) → Cause trail supply.now call action → Fate trail (reverse (outcome_of supply action).notes) t
@@ -154,18 +165,21 @@ live_parts trail now t e =
 live_from : (trail : List Note) (now : ℕ) (t : TokenNote) → LiveParts trail now t → is_live trail now t ≡ true
 live_from trail now t parts =
     and_from (not (list_any (is_retirement t.serial) trail) && nat_lt now t.until) (is_approved (grant_state trail t.grant now))
-    (and_from (not (list_any (is_retirement t.serial) trail)) (nat_lt now t.until) (not_from_false (list_any (is_retirement t.serial) trail) parts.kept) parts.early) parts.approved
+    (and_from (not (list_any (is_retirement t.serial) trail)) (nat_lt now t.until) (not_from_false (list_any (is_retirement t.serial) trail) parts.kept)
+    parts.early) parts.approved
 
 ended_unapproved : (notes trail : List Note) (g now : ℕ) → list_any (is_end_of g) notes ≡ true → is_approved (grant_state (notes ++ trail) g now) ≡ false
 ended_unapproved notes trail g now e =
-    let whole : list_any (is_end_of g) (notes ++ trail) ≡ true = list_any-append (is_end_of g) notes trail ∙ or_left (list_any (is_end_of g) notes) (list_any (is_end_of g) trail) e in
+    let whole : list_any (is_end_of g) (notes ++ trail) ≡ true = list_any-append (is_end_of g) notes trail
+    ∙ or_left (list_any (is_end_of g) notes) (list_any (is_end_of g) trail) e in
     rw whole refl
 
 live_was : (trail notes : List Note) (now : ℕ) (t : TokenNote) → Fate trail notes t → is_live (notes ++ trail) now t ≡ true → is_live trail now t ≡ true
 live_was trail notes now t (Untouched silent) e =
     let parts = live_parts (notes ++ trail) now t e in
     live_from trail now t (record {
-      kept = (or_parts (list_any (is_retirement t.serial) notes) (list_any (is_retirement t.serial) trail) (sym (list_any-append (is_retirement t.serial) notes trail) ∙ parts.kept)).1;
+      kept = (or_parts (list_any (is_retirement t.serial) notes) (list_any (is_retirement t.serial) trail)
+          (sym (list_any-append (is_retirement t.serial) notes trail) ∙ parts.kept)).1;
       early = parts.early;
       approved = ap is_approved (sym (silent_state t.grant now notes trail silent)) ∙ parts.approved;
     })
@@ -175,12 +189,14 @@ live_was trail notes now t (GrantEnds ended none) e =
 
 -- ---- and a pending grant's tokens stay retired
 
-unchanged : (trail notes : List Note) (t : TokenNote) (r : RoundNote) → PendingRetires trail → HasNote trail (Issued t) → first_of (state_change_in t.grant) notes ≡ None
+unchanged : (trail notes : List Note) (t : TokenNote) (r : RoundNote) → PendingRetires trail → HasNote trail (Issued t)
+    → first_of (state_change_in t.grant) notes ≡ None
     → first_of (state_change_in t.grant) (notes ++ trail) ≡ Some (ToPending r) → list_any (is_retirement t.serial) (notes ++ trail) ≡ true
 unchanged trail notes t r pending issued none e =
     let before : first_of (state_change_in t.grant) trail ≡ Some (ToPending r) =
     ap (λ c. option_or c (first_of (state_change_in t.grant) trail)) (sym none) ∙ sym (first_of-append (state_change_in t.grant) notes trail) ∙ e in
-    list_any-append (is_retirement t.serial) notes trail ∙ or_right (list_any (is_retirement t.serial) notes) (list_any (is_retirement t.serial) trail) (pending t r issued before)
+    list_any-append (is_retirement t.serial) notes trail
+    ∙ or_right (list_any (is_retirement t.serial) notes) (list_any (is_retirement t.serial) trail) (pending t r issued before)
 
 pending_kept : (trail notes : List Note) (t : TokenNote) (r : RoundNote) → PendingRetires trail → HasNote trail (Issued t) → Fate trail notes t
     → first_of (state_change_in t.grant) (notes ++ trail) ≡ Some (ToPending r) → list_any (is_retirement t.serial) (notes ++ trail) ≡ true
@@ -209,13 +225,16 @@ grant_approves supply o before asks single subject instance trail e =
     let look = state_change_in o.grant in
     let tokens : List Note = map Issued (tokens_for supply o asks 0) in
     let last : List Note = door_note supply o (2 * length asks) ∷ [] in
-    let turned : reverse ((before ++ tokens) ++ last) ≡ door_note supply o (2 * length asks) ∷ reverse (before ++ tokens) = reverse-append (before ++ tokens) last in
+    let turned : reverse ((before ++ tokens) ++ last) ≡ door_note supply o (2 * length asks)
+    ∷ reverse (before ++ tokens) = reverse-append (before ++ tokens) last in
     let inner : reverse (before ++ tokens) ≡ reverse tokens ++ reverse before = reverse-append before tokens in
-    let none : first_of look (reverse tokens) ≡ None = none_changes o.grant (reverse tokens) (each-reverse (λ n. look n ≡ None) tokens (issued_changes o.grant (tokens_for supply o asks 0))) in
+    let none : first_of look (reverse tokens)
+    ≡ None = none_changes o.grant (reverse tokens) (each-reverse (λ n. look n ≡ None) tokens (issued_changes o.grant (tokens_for supply o asks 0))) in
     first_of-append look (reverse ((before ++ tokens) ++ last)) trail
     ∙ ap (λ (ns : List Note). option_or (first_of look ns) (first_of look trail)) turned
     ∙ ap (λ (ns : List Note). option_or (first_of look ns) (first_of look trail)) inner
-    ∙ ap (λ c. option_or c (first_of look trail)) (first_of-append look (reverse tokens) (reverse before) ∙ ap (λ c. option_or c (first_of look (reverse before))) none ∙ e)
+    ∙ ap (λ c. option_or c (first_of look trail))
+    (first_of-append look (reverse tokens) (reverse before) ∙ ap (λ c. option_or c (first_of look (reverse before))) none ∙ e)
 
 approved_is : (g : ℕ) (rest : List Note) (consent : List Right) → first_of (state_change_in g) (Approved g consent ∷ rest) ≡ Some ToApproved
 approved_is g rest consent = ap (λ b. option_or (some_if b ToApproved) (first_of (state_change_in g) rest)) (eq-eqb g g refl)
@@ -223,7 +242,8 @@ approved_is g rest consent = ap (λ b. option_or (some_if b ToApproved) (first_o
 modify_approves : (o : OpeningNote) (request : GrantRequest) (consent : List Right) (retired : List TokenNote)
     → first_of (state_change_in o.grant) (reverse (retire retired ++ Terms (terms_for o request) ∷ Approved o.grant consent ∷ [])) ≡ Some ToApproved
 modify_approves o request consent retired =
-    let turned : reverse (retire retired ++ Terms (terms_for o request) ∷ Approved o.grant consent ∷ []) ≡ Approved o.grant consent ∷ Terms (terms_for o request) ∷ reverse (retire retired) =
+    let turned : reverse (retire retired ++ Terms (terms_for o request) ∷ Approved o.grant consent ∷ []) ≡ Approved o.grant consent
+    ∷ Terms (terms_for o request) ∷ reverse (retire retired) =
     reverse-append (retire retired) (Terms (terms_for o request) ∷ Approved o.grant consent ∷ []) in
     ap (first_of (state_change_in o.grant)) turned ∙ approved_is o.grant (Terms (terms_for o request) ∷ reverse (retire retired)) consent
 
@@ -239,17 +259,20 @@ grant_approved whole supply o before asks single subject instance e h =
     each-append (IsIssuedApproved whole) (before ++ map Issued (tokens_for supply o asks 0)) (door_note supply o (2 * length asks) ∷ [])
     (each-append (IsIssuedApproved whole) before (map Issued (tokens_for supply o asks 0)) h (tokens_approved whole supply o asks 0 e)) (tt, tt)
 
-retire_approved : (whole : List Note) (ts : List TokenNote) (rest : List Note) → EachNote (IsIssuedApproved whole) rest → EachNote (IsIssuedApproved whole) (retire ts ++ rest)
+retire_approved : (whole : List Note) (ts : List TokenNote) (rest : List Note) → EachNote (IsIssuedApproved whole) rest
+    → EachNote (IsIssuedApproved whole) (retire ts ++ rest)
 retire_approved whole [] rest h = h
 retire_approved whole (t ∷ ts) rest h = (tt, retire_approved whole ts rest h)
 
-pend_approved : (whole : List Note) (supply : Supply) (o : OpeningNote) (before : List Note) (modes : Modes) (instance : Option Text) → EachNote (IsIssuedApproved whole) before
+pend_approved : (whole : List Note) (supply : Supply) (o : OpeningNote) (before : List Note) (modes : Modes) (instance : Option Text)
+    → EachNote (IsIssuedApproved whole) before
     → EachNote (IsIssuedApproved whole) (pending_outcome supply o before modes instance).notes
 pend_approved whole supply o before modes instance h =
     each-append (IsIssuedApproved whole) before (door_note supply o 0 ∷ Pended (round_for supply o modes) ∷ []) h (tt, (tt, tt))
 
 -- an approved grant is in no round
-approved_unpending : (trail : List Note) (g now : ℕ) (r : RoundNote) → is_approved (grant_state trail g now) ≡ true → first_of (state_change_in g) trail ≡ Some (ToPending r) → ⊥
+approved_unpending : (trail : List Note) (g now : ℕ) (r : RoundNote) → is_approved (grant_state trail g now) ≡ true
+    → first_of (state_change_in g) trail ≡ Some (ToPending r) → ⊥
 approved_unpending trail g now r approved e =
     at (list_any (is_end_of g) trail || has_ended (first_of (opening_in g) trail) now) (nat_le r.over now) (rw e at approved)
   where
@@ -270,12 +293,15 @@ action_approved supply trail call (RevokeToken t false) a = (tt, tt)
 action_approved supply trail call (OpenAtOnce o request) a =
     let before : List Note = Opened o ∷ Terms (terms_for o request) ∷ Approved o.grant [] ∷ [] in
     grant_approved (reverse (outcome_of supply (OpenAtOnce o request)).notes ++ trail) supply o before request.asks request.single None (instance_of o)
-    (grant_approves supply o before request.asks request.single None (instance_of o) trail (approved_is o.grant (Terms (terms_for o request) ∷ Opened o ∷ []) [])) (tt, (tt, (tt, tt)))
+    (grant_approves supply o before request.asks request.single None (instance_of o) trail
+    (approved_is o.grant (Terms (terms_for o request) ∷ Opened o ∷ []) [])) (tt, (tt, (tt, tt)))
 action_approved supply trail call (OpenAsking o request modes) a =
-    pend_approved (reverse (outcome_of supply (OpenAsking o request modes)).notes ++ trail) supply o (Opened o ∷ Terms (terms_for o request) ∷ []) modes (instance_of o) (tt, (tt, tt))
+    pend_approved (reverse (outcome_of supply (OpenAsking o request modes)).notes ++ trail) supply o (Opened o ∷ Terms (terms_for o request) ∷ []) modes
+    (instance_of o) (tt, (tt, tt))
 action_approved supply trail call (CollectDecision o w d asks) a =
     let before : List Note = Approved o.grant d.rights ∷ [] in
-    grant_approved (reverse (outcome_of supply (CollectDecision o w d asks)).notes ++ trail) supply o before asks w.single (if w.subject then d.subject else None) None
+    grant_approved (reverse (outcome_of supply (CollectDecision o w d asks)).notes ++ trail) supply o before asks w.single
+    (if w.subject then d.subject else None) None
     (grant_approves supply o before asks w.single (if w.subject then d.subject else None) None trail (approved_is o.grant [] d.rights)) (tt, tt)
 action_approved supply trail call (ModifyAtOnce o consent retired request) a =
     let rest : List Note = Terms (terms_for o request) ∷ Approved o.grant consent ∷ [] in
@@ -296,13 +322,15 @@ action_approved supply trail call _ a = tt
 
 -- ---- after one entry
 
-pub pending_after : (supply : Supply) (trail : List Note) (call : Call) (action : Action) → IsSound trail → PendingRetires trail → Cause trail supply.now call action
+pub pending_after : (supply : Supply) (trail : List Note) (call : Call) (action : Action) → IsSound trail → PendingRetires trail
+    → Cause trail supply.now call action
     → PendingRetires (reverse (outcome_of supply action).notes ++ trail)
 pending_after supply trail call action sound pending cause t r h e =
     let notes : List Note = (outcome_of supply action).notes in
     let whole : List Note = reverse notes ++ trail in
     elim (note_cases (reverse notes) trail (Issued t) h) [
-      | inl new ↦ absurd (each_of (IsIssuedApproved whole) (reverse notes) (Issued t) (each-reverse (IsIssuedApproved whole) notes (action_approved supply trail call action cause)) new r e)
+      | inl new ↦ absurd (each_of (IsIssuedApproved whole) (reverse notes) (Issued t)
+          (each-reverse (IsIssuedApproved whole) notes (action_approved supply trail call action cause)) new r e)
       | inr old ↦ pending_kept trail (reverse notes) t r pending old (fate supply trail call action t sound pending cause old) e
     ]
 
@@ -321,7 +349,8 @@ issues_more : (one other : TokenNote → Bool) (trail : List Note) → ((t : Tok
 issues_more one other trail more (Issued t) h e = some_if_test (other t) t ∙ more t h (sym (some_if_test (one t) t) ∙ e)
 issues_more one other trail more _ h e = e
 
-tokens_issued : (supply : Supply) (o : OpeningNote) (asks : List Ask) (k : ℕ) → count_by (issues any_token) (map Issued (tokens_for supply o asks k)) ≡ length asks
+tokens_issued : (supply : Supply) (o : OpeningNote) (asks : List Ask) (k : ℕ)
+    → count_by (issues any_token) (map Issued (tokens_for supply o asks k)) ≡ length asks
 tokens_issued supply o [] k = refl
 tokens_issued supply o (ask ∷ asks) k =
     let c = count-cons (issues any_token) (Issued (token_for supply o ask k)) (map Issued (tokens_for supply o asks (k + 2))) in
@@ -333,7 +362,8 @@ retire_issued (t ∷ ts) rest =
     let c = count-cons (issues any_token) (Retired t.serial ByModification) (retire ts ++ rest) in
     let k = retire_issued ts rest in omega arith
 
-grant_issued : (supply : Supply) (o : OpeningNote) (before : List Note) (asks : List Ask) (single : Bool) (subject instance : Option Text) → count_by (issues any_token) before ≡ 0
+grant_issued : (supply : Supply) (o : OpeningNote) (before : List Note) (asks : List Ask) (single : Bool) (subject instance : Option Text)
+    → count_by (issues any_token) before ≡ 0
     → count_by (issues any_token) (grant_outcome supply o before asks single subject instance).notes ≡ length asks
 grant_issued supply o before asks single subject instance none =
     let a = count-append (issues any_token) (before ++ map Issued (tokens_for supply o asks 0)) (door_note supply o (2 * length asks) ∷ []) in
@@ -342,16 +372,19 @@ grant_issued supply o before asks single subject instance none =
 
 pend_issued : (supply : Supply) (o : OpeningNote) (before : List Note) (modes : Modes) (instance : Option Text)
     → count_by (issues any_token) (pending_outcome supply o before modes instance).notes ≡ count_by (issues any_token) before
-pend_issued supply o before modes instance = let a = count-append (issues any_token) before (door_note supply o 0 ∷ Pended (round_for supply o modes) ∷ []) in omega arith
+pend_issued supply o before modes instance = let a = count-append (issues any_token) before (door_note supply o 0 ∷ Pended (round_for supply o modes) ∷ []) in
+    omega arith
 
 -- ---- live tokens after one entry
 
 -- those issued before the entry that are live after it, and those that the entry issues, are no more than may be
 abbrev StayWithin : Supply → List Note → Action → Type 0
 StayWithin supply trail action =
-    count_by (issues any_token) (outcome_of supply action).notes + count_by (issues (is_live (reverse (outcome_of supply action).notes ++ trail) supply.now)) trail ≤ live_limit
+    count_by (issues any_token) (outcome_of supply action).notes
+    + count_by (issues (is_live (reverse (outcome_of supply action).notes ++ trail) supply.now)) trail ≤ live_limit
 
-within : (supply : Supply) (trail : List Note) (call : Call) (action : Action) → IsSound trail → PendingRetires trail → Cause trail supply.now call action → HasRoom trail supply.now action
+within : (supply : Supply) (trail : List Note) (call : Call) (action : Action) → IsSound trail → PendingRetires trail → Cause trail supply.now call action
+    → HasRoom trail supply.now action
     → length (live_tokens trail supply.now) ≤ live_limit → StayWithin supply trail action
 within supply trail call action sound pending cause room h = at action cause room
   where
@@ -367,7 +400,8 @@ within supply trail call action sound pending cause room h = at action cause roo
         (issues_more (is_live whole supply.now) (is_live trail supply.now) trail
         (λ t k e. live_was trail (reverse (outcome_of supply action).notes) supply.now t (fate supply trail call action t sound pending a k) e))
 
-    plain : (action : Action) → Cause trail supply.now call action → count_by (issues any_token) (outcome_of supply action).notes + length (live_tokens trail supply.now) ≤ live_limit
+    plain : (action : Action) → Cause trail supply.now call action
+        → count_by (issues any_token) (outcome_of supply action).notes + length (live_tokens trail supply.now) ≤ live_limit
         → StayWithin supply trail action
     plain action a few = let k = old action a in let c = counted in omega arith
 
@@ -388,7 +422,8 @@ within supply trail call action sound pending cause room h = at action cause roo
     at (RevokeToken t false) a r = plain (RevokeToken t false) a (omega arith)
     at (OpenAtOnce o request) a r = plain (OpenAtOnce o request) a
         (let few = r.1 in
-        let k = grant_issued supply o (Opened o ∷ Terms (terms_for o request) ∷ Approved o.grant [] ∷ []) request.asks request.single None (instance_of o) refl in omega arith)
+        let k = grant_issued supply o (Opened o ∷ Terms (terms_for o request) ∷ Approved o.grant [] ∷ []) request.asks request.single None (instance_of o)
+        refl in omega arith)
     at (OpenAsking o request modes) a r = plain (OpenAsking o request modes) a
         (let k = pend_issued supply o (Opened o ∷ Terms (terms_for o request) ∷ []) modes (instance_of o) in omega arith)
     at (CollectDecision o w d asks) a r = plain (CollectDecision o w d asks) a
@@ -405,29 +440,35 @@ within supply trail call action sound pending cause room h = at action cause roo
         let weaker = count_weaker (issues (is_live whole supply.now)) (issues others) trail
         (issues_more (is_live whole supply.now) others trail (λ t issued e.
         and_from (is_live trail supply.now t) (not (t.grant == o.grant))
-        (live_was trail (reverse (outcome_of supply (ModifyAtOnce o consent retired request)).notes) supply.now t (fate supply trail call (ModifyAtOnce o consent retired request) t sound pending a issued) e)
+        (live_was trail (reverse (outcome_of supply (ModifyAtOnce o consent retired request)).notes) supply.now t
+        (fate supply trail call (ModifyAtOnce o consent retired request) t sound pending a issued) e)
         (not_from_false (t.grant == o.grant) (false_from_ne_true (t.grant == o.grant) (λ same.
         let retires = at_once_retires supply trail o consent retired request a.0.0 t issued a.0.2 a.2 (sym (eqb-true t.grant o.grant same)) in
         let no = sym (live_parts whole supply.now t e).kept ∙ retires in cc no))))) in omega arith
     at (RotateToken o t key) a r =
         let whole : List Note = reverse (outcome_of supply (RotateToken o t key)).notes ++ trail in
         let issued : HasNote trail (Issued t) = (managed_issued trail supply.now a.1.0 t a.1.2).0 in
-        let retires : list_any (is_retirement t.serial) whole ≡ true = or_left (t.serial == t.serial) (list_any (is_retirement t.serial) trail) (eq-eqb t.serial t.serial refl) in
-        let dead : is_live whole supply.now t ≡ false = false_from_ne_true (is_live whole supply.now t) (λ e. let no = sym (live_parts whole supply.now t e).kept ∙ retires in cc no) in
+        let retires : list_any (is_retirement t.serial) whole
+        ≡ true = or_left (t.serial == t.serial) (list_any (is_retirement t.serial) trail) (eq-eqb t.serial t.serial refl) in
+        let dead : is_live whole supply.now t
+        ≡ false = false_from_ne_true (is_live whole supply.now t) (λ e. let no = sym (live_parts whole supply.now t e).kept ∙ retires in cc no) in
         let less = count_less (issues (is_live whole supply.now)) (issues (is_live trail supply.now)) trail (Issued t) issued
         (some_if_test (is_live whole supply.now t) t ∙ dead) (some_if_test (is_live trail supply.now t) t ∙ a.2)
         (issues_more (is_live whole supply.now) (is_live trail supply.now) trail
-        (λ u k e. live_was trail (reverse (outcome_of supply (RotateToken o t key)).notes) supply.now u (fate supply trail call (RotateToken o t key) u sound pending a k) e)) in
+        (λ u k e. live_was trail (reverse (outcome_of supply (RotateToken o t key)).notes) supply.now u
+        (fate supply trail call (RotateToken o t key) u sound pending a k) e)) in
         let c = counted in omega arith
 
-pub tokens_within : (supply : Supply) (trail : List Note) (call : Call) (action : Action) → IsSound trail → PendingRetires trail → Cause trail supply.now call action → HasRoom trail supply.now action
+pub tokens_within : (supply : Supply) (trail : List Note) (call : Call) (action : Action) → IsSound trail → PendingRetires trail
+    → Cause trail supply.now call action → HasRoom trail supply.now action
     → length (live_tokens trail supply.now) ≤ live_limit → length (live_tokens (reverse (outcome_of supply action).notes ++ trail) supply.now) ≤ live_limit
 tokens_within supply trail call action sound pending cause room h =
     let notes : List Note = (outcome_of supply action).notes in
     let whole : List Note = reverse notes ++ trail in
     let all = issued_counted (is_live whole supply.now) whole in
     let parts = count-append (issues (is_live whole supply.now)) (reverse notes) trail in
-    let new = count_weaker (issues (is_live whole supply.now)) (issues any_token) (reverse notes) (issues_more (is_live whole supply.now) any_token (reverse notes) (λ t k e. refl)) in
+    let new = count_weaker (issues (is_live whole supply.now)) (issues any_token) (reverse notes)
+    (issues_more (is_live whole supply.now) any_token (reverse notes) (λ t k e. refl)) in
     let turned = count-reverse (issues any_token) notes in
     let few = within supply trail call action sound pending cause room h in omega arith
 
@@ -440,4 +481,9 @@ tokens_later trail now later le =
     (issues_more (is_live trail later) (is_live trail now) trail (λ t k e.
     let parts = live_parts trail later t e in
     let early : later < t.until = ltb-true later t.until parts.early in
-    live_from trail now t (record { kept = parts.kept; early = lt-ltb now t.until (omega arith); approved = approved_earlier trail t.grant now later le parts.approved }))) in omega arith
+    live_from trail now t (record {
+      kept = parts.kept;
+      early = lt-ltb now t.until (omega arith);
+      approved = approved_earlier trail t.grant now later le
+          parts.approved;
+    }))) in omega arith

@@ -32,7 +32,8 @@ pub length-filter_map : {A B : Type 0} (pick : A → Option B) (xs : List A) →
 length-filter_map pick [] = refl
 length-filter_map {A} {B} pick (x ∷ xs) =
     let k = count-cons (λ (y : A). is_some (pick y)) x xs in
-    let rest = length-filter_map pick xs in at (pick x) ∙ (let e : cond (is_some (pick x)) 1 0 + length (filter_map pick xs) ≡ count_by (λ y. is_some (pick y)) (x ∷ xs) = omega arith in e)
+    let rest = length-filter_map pick xs in at (pick x)
+    ∙ (let e : cond (is_some (pick x)) 1 0 + length (filter_map pick xs) ≡ count_by (λ y. is_some (pick y)) (x ∷ xs) = omega arith in e)
   where
     at : (found : Option B) → length (cons_option found (filter_map pick xs)) ≡ cond (is_some found) 1 0 + length (filter_map pick xs)
     at None = omega arith
@@ -122,17 +123,21 @@ issued_skipped : (test : Note → Bool) (tokens : List TokenNote) → SkipsCommo
 issued_skipped test [] skips = refl
 issued_skipped test (t ∷ ts) skips = skipped test (Issued t) (map Issued ts) (skips.issued t) ∙ issued_skipped test ts skips
 
-pub retire_skipped : (test : Note → Bool) (tokens : List TokenNote) (rest : List Note) → SkipsCommon test → count_by test (retire tokens ++ rest) ≡ count_by test rest
+pub retire_skipped : (test : Note → Bool) (tokens : List TokenNote) (rest : List Note) → SkipsCommon test
+    → count_by test (retire tokens ++ rest) ≡ count_by test rest
 retire_skipped test [] rest skips = refl
-retire_skipped test (t ∷ ts) rest skips = skipped test (Retired t.serial ByModification) (retire ts ++ rest) (skips.retired t.serial) ∙ retire_skipped test ts rest skips
+retire_skipped test (t ∷ ts) rest skips = skipped test (Retired t.serial ByModification) (retire ts ++ rest) (skips.retired t.serial)
+    ∙ retire_skipped test ts rest skips
 
-pub grant_skipped : (test : Note → Bool) (supply : Supply) (o : OpeningNote) (before : List Note) (asks : List Ask) (single : Bool) (subject instance : Option Text) → SkipsCommon test
+pub grant_skipped : (test : Note → Bool) (supply : Supply) (o : OpeningNote) (before : List Note) (asks : List Ask) (single : Bool)
+    (subject instance : Option Text) → SkipsCommon test
     → count_by test (grant_outcome supply o before asks single subject instance).notes ≡ count_by test before
 grant_skipped test supply o before asks single subject instance skips =
     let a = count-append test (before ++ map Issued (tokens_for supply o asks 0)) (door_note supply o (2 * length asks) ∷ []) in
     let b = count-append test before (map Issued (tokens_for supply o asks 0)) in
     let c = issued_skipped test (tokens_for supply o asks 0) skips in
-    let d = skipped test (door_note supply o (2 * length asks)) [] (skips.door o.grant (drawn_value supply (2 * length asks)) (supply.now + wait)) in omega arith
+    let d = skipped test (door_note supply o (2 * length asks)) [] (skips.door o.grant (drawn_value supply (2 * length asks)) (supply.now + wait)) in omega
+    arith
 
 pub pend_skipped : (test : Note → Bool) (supply : Supply) (o : OpeningNote) (before : List Note) (modes : Modes) (instance : Option Text) → SkipsCommon test
     → count_by test (pending_outcome supply o before modes instance).notes ≡ count_by test before

@@ -33,11 +33,13 @@ door_first g earliest w ns = rw (eq-eqb g g refl) refl
 pub door_last : (g earliest : ℕ) (w : Text) (before : List Note) → first_of (door_in g) (reverse (before ++ Door g w earliest ∷ [])) ≡ Some w
 door_last g earliest w before = ap (first_of (door_in g)) (reverse-append before (Door g w earliest ∷ [])) ∙ door_first g earliest w (reverse before)
 
-grant_uses : (supply : Supply) (o : OpeningNote) (before : List Note) (asks : List Ask) (single : Bool) (subject instance : Option Text) → RenewsOrEnds o.grant (reverse (grant_outcome supply o before asks single subject instance).notes)
+grant_uses : (supply : Supply) (o : OpeningNote) (before : List Note) (asks : List Ask) (single : Bool) (subject instance : Option Text)
+    → RenewsOrEnds o.grant (reverse (grant_outcome supply o before asks single subject instance).notes)
 grant_uses supply o before asks single subject instance =
     inl (drawn_value supply _, door_last o.grant (supply.now + 5) (drawn_value supply _) (before ++ map Issued (tokens_for supply o asks 0)))
 
-pend_uses : (supply : Supply) (o : OpeningNote) (before : List Note) (modes : Modes) (instance : Option Text) → RenewsOrEnds o.grant (reverse (pending_outcome supply o before modes instance).notes)
+pend_uses : (supply : Supply) (o : OpeningNote) (before : List Note) (modes : Modes) (instance : Option Text)
+    → RenewsOrEnds o.grant (reverse (pending_outcome supply o before modes instance).notes)
 pend_uses supply o before modes instance =
     inl (
       drawn_value supply 0,
@@ -52,7 +54,8 @@ ends_itself g ns = rw (eq-eqb g g refl) refl
 abbrev pub NamedRenewsOrEnds : List Note → ℕ → Text → List Note → Type 0
 NamedRenewsOrEnds trail now v new = (o : OpeningNote) × (named_grant trail now v ≡ Some o) × RenewsOrEnds o.grant new
 
-from_names : (trail : List Note) (now : ℕ) (call : Call) (o : OpeningNote) (v : Text) (new : List Note) → presented_door call ≡ Some v → Names trail now call o → RenewsOrEnds o.grant new → NamedRenewsOrEnds trail now v new
+from_names : (trail : List Note) (now : ℕ) (call : Call) (o : OpeningNote) (v : Text) (new : List Note) → presented_door call ≡ Some v → Names trail now call o
+    → RenewsOrEnds o.grant new → NamedRenewsOrEnds trail now v new
 from_names trail now call o v new p names uses =
     let same : names.0 ≡ v = (let e = sym names.1 ∙ p in cc e) in
     (o, subst (λ (w : Text). named_grant trail now w ≡ Some o) same names.2, uses)
@@ -60,22 +63,31 @@ from_names trail now call o v new p names uses =
 no_door : (call : Call) (v : Text) (P : Type 0) → presented_door call ≡ Some v → presented_door call ≡ None → P
 no_door call v P p n = let e = sym p ∙ n in cc e
 
-action_uses : (supply : Supply) (trail : List Note) (call : Call) (v : Text) (action : Action) → Cause trail supply.now call action → presented_door call ≡ Some v
-    → (is_success (outcome_of supply action).reply || list_any is_ending (outcome_of supply action).notes) ≡ true → NamedRenewsOrEnds trail supply.now v (reverse (outcome_of supply action).notes)
+action_uses : (supply : Supply) (trail : List Note) (call : Call) (v : Text) (action : Action) → Cause trail supply.now call action
+    → presented_door call ≡ Some v
+    → (is_success (outcome_of supply action).reply || list_any is_ending (outcome_of supply action).notes) ≡ true
+    → NamedRenewsOrEnds trail supply.now v (reverse (outcome_of supply action).notes)
 action_uses supply trail call v (Refuse code) a p s = cc s
 action_uses supply trail call v (OpenAtOnce o request) a p s = no_door call v _ p a.0
 action_uses supply trail call v (OpenAsking o request modes) a p s = no_door call v _ p a.0
-action_uses supply trail call v (RenewDoor o) a p s = from_names trail supply.now call o v (reverse (outcome_of supply (RenewDoor o)).notes) p a (inl (drawn_value supply 0, door_first o.grant (supply.now + 5) (drawn_value supply 0) []))
-action_uses supply trail call v (CollectDecision o w d asks) a p s = from_names trail supply.now call o v (reverse (outcome_of supply (CollectDecision o w d asks)).notes) p a.0
+action_uses supply trail call v (RenewDoor o) a p s = from_names trail supply.now call o v (reverse (outcome_of supply (RenewDoor o)).notes) p a
+    (inl (drawn_value supply 0, door_first o.grant (supply.now + 5) (drawn_value supply 0) []))
+action_uses supply trail call v (CollectDecision o w d asks) a p s = from_names trail supply.now call o v
+    (reverse (outcome_of supply (CollectDecision o w d asks)).notes) p a.0
     (grant_uses supply o (Approved o.grant d.rights ∷ []) asks w.single (if w.subject then d.subject else None) None)
 action_uses supply trail call v (WrongReference o) a p s = cc s
-action_uses supply trail call v (LastWrongReference o) a p s = from_names trail supply.now call o v (reverse (outcome_of supply (LastWrongReference o)).notes) p a.0 (inr (ends_itself o.grant (Wrong o.grant ∷ [])))
-action_uses supply trail call v (RefuseAndFinalize o code) a p s = from_names trail supply.now call o v (reverse (outcome_of supply (RefuseAndFinalize o code)).notes) p a.0 (inr (ends_itself o.grant []))
-action_uses supply trail call v (ModifyAtOnce o consent retired request) a p s = from_names trail supply.now call o v (reverse (outcome_of supply (ModifyAtOnce o consent retired request)).notes) p a.0
+action_uses supply trail call v (LastWrongReference o) a p s = from_names trail supply.now call o v (reverse (outcome_of supply (LastWrongReference o)).notes) p
+    a.0 (inr (ends_itself o.grant (Wrong o.grant ∷ [])))
+action_uses supply trail call v (RefuseAndFinalize o code) a p s = from_names trail supply.now call o v
+    (reverse (outcome_of supply (RefuseAndFinalize o code)).notes) p a.0 (inr (ends_itself o.grant []))
+action_uses supply trail call v (ModifyAtOnce o consent retired request) a p s = from_names trail supply.now call o v
+    (reverse (outcome_of supply (ModifyAtOnce o consent retired request)).notes) p a.0
     (grant_uses supply o (retire retired ++ Terms (terms_for o request) ∷ Approved o.grant consent ∷ []) request.asks request.single None None)
-action_uses supply trail call v (ModifyAsking o retired request modes) a p s = from_names trail supply.now call o v (reverse (outcome_of supply (ModifyAsking o retired request modes)).notes) p a.0
+action_uses supply trail call v (ModifyAsking o retired request modes) a p s = from_names trail supply.now call o v
+    (reverse (outcome_of supply (ModifyAsking o retired request modes)).notes) p a.0
     (pend_uses supply o (retire retired ++ Terms (terms_for o request) ∷ []) modes None)
-action_uses supply trail call v (CancelGrant o) a p s = from_names trail supply.now call o v (reverse (outcome_of supply (CancelGrant o)).notes) p a.0 (inr (ends_itself o.grant []))
+action_uses supply trail call v (CancelGrant o) a p s = from_names trail supply.now call o v (reverse (outcome_of supply (CancelGrant o)).notes) p a.0
+    (inr (ends_itself o.grant []))
 action_uses supply trail call v (RotateToken o t key) a p s = no_door call v _ p a.0
 action_uses supply trail call v (RevokeToken t b) a p s = no_door call v _ p a.0
 action_uses supply trail call v _ a p s = no_door call v _ p a
@@ -107,7 +119,8 @@ short_before e past h = let k = trail-shorter (reverse e.notes) (trail_of past) 
 pub distinct : (rules : Setup) (past : List Event) → IsLegalPast rules past → IsShort past → AreDistinct (trail_values (trail_of past))
 distinct rules past legal short = serialled_distinct (trail_values (trail_of past)) short (past_serialled rules past legal)
 
-use_spends : (rules : Setup) (e : Event) (past : List Event) (v : Text) → IsLegalPast rules (e ∷ past) → IsShort (e ∷ past) → uses_up v e ≡ true → IsSpent (trail_of (e ∷ past)) v
+use_spends : (rules : Setup) (e : Event) (past : List Event) (v : Text) → IsLegalPast rules (e ∷ past) → IsShort (e ∷ past) → uses_up v e ≡ true
+    → IsSpent (trail_of (e ∷ past)) v
 use_spends rules e past v legal short u =
     let supply = supply_at past e.moment e.draw in
     let why = chosen rules past e legal.0 in
@@ -119,9 +132,11 @@ use_spends rules e past v legal short u =
     (subst (λ (r : Reply). (is_success r || list_any is_ending e.notes) ≡ true) why.reply both.1) in
     let used = action_uses supply (trail_of past) e.call v action why.cause p so in
     let uses : RenewsOrEnds used.0.grant (reverse e.notes) = subst (λ (ns : List Note). RenewsOrEnds used.0.grant (reverse ns)) (sym why.notes) used.2 in
-    spent_now (reverse e.notes) (trail_of past) used.0.grant v (distinct rules (e ∷ past) legal short) (grant_named (trail_of past) supply.now v used.0 used.1).named_by uses
+    spent_now (reverse e.notes) (trail_of past) used.0.grant v (distinct rules (e ∷ past) legal short)
+    (grant_named (trail_of past) supply.now v used.0 used.1).named_by uses
 
-pub spent_after : (rules : Setup) (past : List Event) (v : Text) → IsLegalPast rules past → IsShort past → list_any (uses_up v) past ≡ true → IsSpent (trail_of past) v
+pub spent_after : (rules : Setup) (past : List Event) (v : Text) → IsLegalPast rules past → IsShort past → list_any (uses_up v) past ≡ true
+    → IsSpent (trail_of past) v
 spent_after rules [] v legal short u = cc u
 spent_after rules (e ∷ past) v legal short u = elim (or_cases (uses_up v e) (list_any (uses_up v) past) u) [
   | inl here ↦ use_spends rules e past v legal short here
@@ -129,7 +144,8 @@ spent_after rules (e ∷ past) v legal short u = elim (or_cases (uses_up v e) (l
       (spent_after rules past v legal.1 (short_before e past short) before)
 ]
 
-refused_next : (rules : Setup) (e : Event) (past : List Event) (v : Text) → IsLegalPast rules (e ∷ past) → IsShort past → list_any (uses_up v) past ≡ true → presented_door e.call ≡ Some v
+refused_next : (rules : Setup) (e : Event) (past : List Event) (v : Text) → IsLegalPast rules (e ∷ past) → IsShort past → list_any (uses_up v) past ≡ true
+    → presented_door e.call ≡ Some v
     → answer rules past e.moment e.draw e.call ≡ outcome_of (supply_at past e.moment e.draw) (Refuse InvalidContinuation)
 refused_next rules e past v legal short u p =
     ap (outcome_of (supply_at past e.moment e.draw)) (refuses rules (supply_at past e.moment e.draw) (trail_of past) e.call v p
@@ -146,7 +162,8 @@ refused_after rules (e ∷ past) v legal short = (
 success_uses : (v : Text) (past : List Event) → list_any (succeeds v) past ≡ true → list_any (uses_up v) past ≡ true
 success_uses v [] u = u
 success_uses v (e ∷ past) u = elim (or_cases (succeeds v e) (list_any (succeeds v) past) u) [
-  | inl here ↦ or_left (uses_up v e) (list_any (uses_up v) past) (wider (is_text v (presented_door e.call)) (is_success e.reply) (list_any is_ending e.notes) here)
+  | inl here ↦ or_left (uses_up v e) (list_any (uses_up v) past)
+      (wider (is_text v (presented_door e.call)) (is_success e.reply) (list_any is_ending e.notes) here)
   | inr before ↦ or_right (uses_up v e) (list_any (uses_up v) past) (success_uses v past before)
 ]
   where
@@ -159,7 +176,8 @@ once rules [] v legal short = tt
 once rules (e ∷ past) v legal short = (
   (λ here before.
       let both = and_parts (is_text v (presented_door e.call)) (is_success e.reply) here in
-      let reply : e.reply ≡ Error InvalidContinuation = (refused_after rules (e ∷ past) v legal short).0 (success_uses v past before) (is_text_is v (presented_door e.call) both.0) in
+      let reply : e.reply ≡ Error InvalidContinuation = (refused_after rules (e ∷ past) v legal short).0 (success_uses v past before)
+      (is_text_is v (presented_door e.call) both.0) in
       let no : is_success (Error InvalidContinuation) ≡ true = subst (λ (r : Reply). is_success r ≡ true) reply both.1 in cc no),
   once rules past v legal.1 (short_before e past short),
 )

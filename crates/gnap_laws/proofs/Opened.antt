@@ -25,11 +25,13 @@ origin_more trail more grows (Opened o) h = (h.0, grows (Terms h.0) h.1, h.2)
 origin_more trail more grows (Issued t) h = (h.0, grows (Opened h.0) h.1, h.2)
 origin_more trail more grows _ h = tt
 
-tokens_origin : (trail : List Note) (supply : Supply) (o p : OpeningNote) (asks : List Ask) (k : ℕ) → HasNote trail (Opened p) → p.grant ≡ o.grant → EachNote (HasOrigin trail) (map Issued (tokens_for supply o asks k))
+tokens_origin : (trail : List Note) (supply : Supply) (o p : OpeningNote) (asks : List Ask) (k : ℕ) → HasNote trail (Opened p) → p.grant ≡ o.grant
+    → EachNote (HasOrigin trail) (map Issued (tokens_for supply o asks k))
 tokens_origin trail supply o p [] k h e = tt
 tokens_origin trail supply o p (ask ∷ asks) k h e = ((p, h, e), tokens_origin trail supply o p asks (k + 2) h e)
 
-grant_origin : (trail : List Note) (supply : Supply) (o p : OpeningNote) (before : List Note) (asks : List Ask) (single : Bool) (subject instance : Option Text) → HasNote trail (Opened p) → p.grant ≡ o.grant
+grant_origin : (trail : List Note) (supply : Supply) (o p : OpeningNote) (before : List Note) (asks : List Ask) (single : Bool) (subject instance : Option Text)
+    → HasNote trail (Opened p) → p.grant ≡ o.grant
     → EachNote (HasOrigin trail) before → EachNote (HasOrigin trail) (grant_outcome supply o before asks single subject instance).notes
 grant_origin trail supply o p before asks single subject instance h e b =
     each-append (HasOrigin trail) (before ++ map Issued (tokens_for supply o asks 0)) (door_note supply o (2 * length asks) ∷ [])
@@ -81,7 +83,8 @@ past_origins rules (e ∷ past) legal =
     let why = chosen rules past e legal.0 in
     let supply = supply_at past e.moment e.draw in
     let old : (note : Note) → HasNote trail note → HasNote whole note = note-append_right (reverse e.notes) trail in
-    let new : (note : Note) → HasNote e.notes note → HasNote whole note = λ note h. note-append_left (reverse e.notes) trail note (note-reverse e.notes note h) in
+    let new : (note : Note) → HasNote e.notes note
+    → HasNote whole note = λ note h. note-append_left (reverse e.notes) trail note (note-reverse e.notes note h) in
     let added : EachNote (HasOrigin whole) e.notes = subst (EachNote (HasOrigin whole)) (sym why.notes)
     (action_origin supply trail whole e.call why.action why.cause old (λ note h. new note (subst (λ (ns : List Note). HasNote ns note) (sym why.notes) h))) in
     each-append (HasOrigin whole) (reverse e.notes) trail (each-reverse (HasOrigin whole) e.notes added)
@@ -94,6 +97,7 @@ opened_terms trail o whole h =
     let origin = each_of (HasOrigin trail) trail (Opened o) whole h in
     found_in (terms_in o.grant) trail (Terms origin.0) origin.0 origin.1 (some_if_same origin.0.grant o.grant origin.0 origin.2)
 
-pub issued_opened : (trail : List Note) (t : TokenNote) → HaveOrigins trail → HasNote trail (Issued t) → (o : OpeningNote) × (first_of (opening_in t.grant) trail ≡ Some o)
+pub issued_opened : (trail : List Note) (t : TokenNote) → HaveOrigins trail → HasNote trail (Issued t)
+    → (o : OpeningNote) × (first_of (opening_in t.grant) trail ≡ Some o)
 issued_opened trail t whole h =
     let origin = each_of (HasOrigin trail) trail (Issued t) whole h in opened_found trail origin.0 t.grant origin.1 origin.2

@@ -122,36 +122,42 @@ asking_why : (rules : Setup) (trail : List Note) (now : ℕ) (call : Call) (ask 
 asking_why rules trail now call ask None e h = cc e
 asking_why rules trail now call ask (Some m) e h = h m
 
-settle_starts : (rules : Setup) (key : Text) (consent : List Right) (request : GrantRequest) → settle rules key consent request ≡ ByAsking → has_start request.modes ≡ true
+settle_starts : (rules : Setup) (key : Text) (consent : List Right) (request : GrantRequest) → settle rules key consent request ≡ ByAsking
+    → has_start request.modes ≡ true
 settle_starts rules key consent request e = asking_starts _ _ (has_start request.modes) e
 
 begin_why : (rules : Setup) (trail : List Note) (now : ℕ) (key : Text) (request : GrantRequest) (not_after : Option ℕ) (o : OpeningNote) (s : Settled)
     → settle rules key [] request ≡ s → Explained rules trail now (Begin key request not_after) (begin_by s trail now o request)
 begin_why rules trail now key request not_after o Never e = inl e
 begin_why rules trail now key request not_after o AtOnce e =
-    if_known (Explained rules trail now (Begin key request not_after)) (pass_limit (live_tokens trail now) (length request.asks)) (Refuse RequestDenied) (OpenAtOnce o request)
+    if_known (Explained rules trail now (Begin key request not_after)) (pass_limit (live_tokens trail now) (length request.asks)) (Refuse RequestDenied)
+    (OpenAtOnce o request)
     (λ over. inr (inr (inr (e, ltb-true live_limit (length (live_tokens trail now) + length request.asks) over)))) (λ under. tt)
 begin_why rules trail now key request not_after o ByAsking e =
     asking_why rules trail now (Begin key request not_after) (OpenAsking o request) request.modes (settle_starts rules key [] request e) (λ m. tt)
 
 modify_why : (rules : Setup) (trail : List Note) (now : ℕ) (key value : Text) (request : GrantRequest) (o : OpeningNote) (s : Settled)
-    → named_grant trail now value ≡ Some o → settle rules o.key (consent_of trail o.grant) request ≡ s → Explained rules trail now (Modify key value request) (modify_by s trail now o request)
+    → named_grant trail now value ≡ Some o → settle rules o.key (consent_of trail o.grant) request ≡ s
+    → Explained rules trail now (Modify key value request) (modify_by s trail now o request)
 modify_why rules trail now key value request o Never named e = (o, named, inl e)
 modify_why rules trail now key value request o AtOnce named e =
     if_known (Explained rules trail now (Modify key value request)) (pass_limit (other_live_tokens trail now o) (length request.asks)) (Refuse RequestDenied)
     (ModifyAtOnce o (consent_of trail o.grant) (tokens_of trail now o) request)
     (λ over. (o, named, inr (e, ltb-true live_limit (length (other_live_tokens trail now o) + length request.asks) over))) (λ under. tt)
 modify_why rules trail now key value request o ByAsking named e =
-    asking_why rules trail now (Modify key value request) (ModifyAsking o (tokens_of trail now o) request) request.modes (settle_starts rules o.key (consent_of trail o.grant) request e) (λ m. tt)
+    asking_why rules trail now (Modify key value request) (ModifyAsking o (tokens_of trail now o) request) request.modes
+    (settle_starts rules o.key (consent_of trail o.grant) request e) (λ m. tt)
 
 -- ---- values that name something
 
 found_why : {A : Type 0} (rules : Setup) (trail : List Note) (now : ℕ) (call : Call) (code : ErrorCode) (act : A → Action) (found : Option A)
-    → (found ≡ None → HasCause rules trail now call code) → ((x : A) → found ≡ Some x → Explained rules trail now call (act x)) → Explained rules trail now call (on_found code act found)
+    → (found ≡ None → HasCause rules trail now call code) → ((x : A) → found ≡ Some x → Explained rules trail now call (act x))
+    → Explained rules trail now call (on_found code act found)
 found_why rules trail now call code act None none some = none refl
 found_why rules trail now call code act (Some x) none some = some x refl
 
-owner_why : (rules : Setup) (trail : List Note) (now : ℕ) (call : Call) (act : OpeningNote → Action) (owner : Text) (o : OpeningNote) → IsOwner trail now call owner
+owner_why : (rules : Setup) (trail : List Note) (now : ℕ) (call : Call) (act : OpeningNote → Action) (owner : Text) (o : OpeningNote)
+    → IsOwner trail now call owner
     → (owner ≡ caller call → Explained rules trail now call (act o)) → Explained rules trail now call (with_owner act owner (caller call) o)
 owner_why rules trail now call act owner o owns h =
     if_known (Explained rules trail now call) (same_text owner (caller call)) (act o) (Refuse InvalidClient)
@@ -162,26 +168,33 @@ owner_why rules trail now call act owner o owns h =
 abbrev In : List Note → ℕ → Text → OpeningNote → RoundNote → Type 0
 In = NamesRound
 
-collect_why : (rules : Setup) (trail : List Note) (now : ℕ) (key value : Text) (reference : Option Text) (o : OpeningNote) (r : RoundNote) (d : DecisionNote) (w : TermsNote) (v : Verdict)
+collect_why : (rules : Setup) (trail : List Note) (now : ℕ) (key value : Text) (reference : Option Text) (o : OpeningNote) (r : RoundNote) (d : DecisionNote)
+    (w : TermsNote) (v : Verdict)
     → In trail now value o r → decision_of trail o.grant ≡ Some d → d.verdict ≡ v → terms_of trail o.grant ≡ Some w
     → Explained rules trail now (Continue key value reference) (collect_by v trail now o d w)
 collect_why rules trail now key value reference o r d w Deny names decided e terms = (o, d, ((r, names), decided, e))
 collect_why rules trail now key value reference o r d w Unknown names decided e terms = (o, d, ((r, names), decided, e))
 collect_why rules trail now key value reference o r d w Grant names decided e terms =
-    if_known (Explained rules trail now (Continue key value reference)) (pass_limit (live_tokens trail now) (length (decided_asks d.rights w))) (Refuse RequestDenied)
+    if_known (Explained rules trail now (Continue key value reference)) (pass_limit (live_tokens trail now) (length (decided_asks d.rights w)))
+    (Refuse RequestDenied)
     (CollectDecision o w d (decided_asks d.rights w))
-    (λ over. (o, d, w, ((r, names), decided, e), terms, ltb-true live_limit (length (live_tokens trail now) + length (decided_asks d.rights w)) over)) (λ under. tt)
+    (λ over. (o, d, w, ((r, names), decided, e), terms, ltb-true live_limit (length (live_tokens trail now) + length (decided_asks d.rights w)) over))
+    (λ under. tt)
 
-collect_or_renew_why : (rules : Setup) (trail : List Note) (now : ℕ) (key value : Text) (reference : Option Text) (o : OpeningNote) (r : RoundNote) (d : Option DecisionNote)
-    → HaveOrigins trail → In trail now value o r → decision_of trail o.grant ≡ d → Explained rules trail now (Continue key value reference) (collect_or_renew trail now o d)
+collect_or_renew_why : (rules : Setup) (trail : List Note) (now : ℕ) (key value : Text) (reference : Option Text) (o : OpeningNote) (r : RoundNote)
+    (d : Option DecisionNote)
+    → HaveOrigins trail → In trail now value o r → decision_of trail o.grant ≡ d
+    → Explained rules trail now (Continue key value reference) (collect_or_renew trail now o d)
 collect_or_renew_why rules trail now key value reference o r None origins names decided = tt
 collect_or_renew_why rules trail now key value reference o r (Some d) origins names decided =
     let has = opened_terms trail o origins (grant_named trail now value o names.0).opened in
     let found : terms_of trail o.grant ≡ Some has.0 = has.1 in
-    subst (λ (t : Option TermsNote). Explained rules trail now (Continue key value reference) (on_found InvalidRequest (collect_by d.verdict trail now o d) t)) (sym found)
+    subst (λ (t : Option TermsNote). Explained rules trail now (Continue key value reference) (on_found InvalidRequest (collect_by d.verdict trail now o d) t))
+    (sym found)
     (collect_why rules trail now key value reference o r d has.0 d.verdict names decided refl found)
 
-round_why : (rules : Setup) (trail : List Note) (now : ℕ) (key value : Text) (reference : Option Text) (o : OpeningNote) (r : RoundNote) (d : Option DecisionNote)
+round_why : (rules : Setup) (trail : List Note) (now : ℕ) (key value : Text) (reference : Option Text) (o : OpeningNote) (r : RoundNote)
+    (d : Option DecisionNote)
     → HaveOrigins trail → wrongs_of trail o.grant < wrong_limit → In trail now value o r → decision_of trail o.grant ≡ d
     → Explained rules trail now (Continue key value reference) (continue_round trail now o reference d r)
 round_why rules trail now key value reference o r d origins few names decided =
@@ -200,7 +213,8 @@ round_why rules trail now key value reference o r d origins few names decided =
     P = Explained rules trail now (Continue key value reference)
 
 continue_why : (rules : Setup) (trail : List Note) (now : ℕ) (key value : Text) (reference : Option Text) (o : OpeningNote) (s : GrantState)
-    → HaveOrigins trail → KeepsLimits trail now → named_grant trail now value ≡ Some o → grant_state trail o.grant now ≡ s → Explained rules trail now (Continue key value reference) (continue_at s trail now o reference)
+    → HaveOrigins trail → KeepsLimits trail now → named_grant trail now value ≡ Some o → grant_state trail o.grant now ≡ s
+    → Explained rules trail now (Continue key value reference) (continue_at s trail now o reference)
 continue_why rules trail now key value reference o (IsPending r) origins limits named e =
     if_known (Explained rules trail now (Continue key value reference)) (not (is_some reference) && is_early trail now o) (Refuse TooFast) _
     (λ early. let both = and_parts (not (is_some reference)) (is_early trail now o) early in
@@ -210,7 +224,8 @@ continue_why rules trail now key value reference o IsApproved origins limits nam
     if_known (Explained rules trail now (Continue key value reference)) (is_some reference) (RefuseAndFinalize o TooManyAttempts) _
     (λ given. inl (o, named, e, given))
     (λ none. if_known (Explained rules trail now (Continue key value reference)) (is_early trail now o) (Refuse TooFast) (RenewDoor o)
-    (λ early. let first = before_first now (first_of (earliest_in o.grant) trail) early in (o, first.0, named, none_is reference (ap not none), first.1, first.2))
+    (λ early. let first = before_first now (first_of (earliest_in o.grant) trail) early in
+    (o, first.0, named, none_is reference (ap not none), first.1, first.2))
     (λ due. tt))
 continue_why rules trail now key value reference o IsFinalized origins limits named e = absurd (named_goes_on trail now value o named e)
 
@@ -228,7 +243,8 @@ rotate_why rules trail now key value (Some named) t o managed live same =
     (λ yes. tt) (λ no. inr (inr (t, named, managed, live, same, refl, unbound t.bearer (is_client (key_of rules named)) no)))
 rotate_why rules trail now key value None t o managed live same = tt
 
-show_why : (rules : Setup) (trail : List Note) (now : ℕ) (call : Call) (names : List Text) (binding : Option Binding) (wanted : Option (List Right)) (t : Option TokenNote)
+show_why : (rules : Setup) (trail : List Note) (now : ℕ) (call : Call) (names : List Text) (binding : Option Binding) (wanted : Option (List Right))
+    (t : Option TokenNote)
     → Explained rules trail now call (show_token names binding wanted t)
 show_why rules trail now call names binding wanted None = tt
 show_why rules trail now call names binding wanted (Some t) =
@@ -243,17 +259,21 @@ round_terms trail r origins opened =
 there : {A B : Type 0} (x : Option A) (a : A) → x ≡ Some a → x ≡ None → B
 there x a some none = let no = sym some ∙ none in cc no
 
-pub explained : (rules : Setup) (supply : Supply) (trail : List Note) (call : Call) → HaveOrigins trail → KeepsLimits trail supply.now → Explained rules trail supply.now call (action_of rules supply trail call)
+pub explained : (rules : Setup) (supply : Supply) (trail : List Note) (call : Call) → HaveOrigins trail → KeepsLimits trail supply.now
+    → Explained rules trail supply.now call (action_of rules supply trail call)
 explained rules supply trail (Begin key request not_after) origins limits =
-    if_known (Explained rules trail supply.now (Begin key request not_after)) (is_past supply.now not_after || nat_le live_limit (live_grants trail supply.now)) (Refuse RequestDenied) _
+    if_known (Explained rules trail supply.now (Begin key request not_after)) (is_past supply.now not_after || nat_le live_limit (live_grants trail supply.now))
+    (Refuse RequestDenied) _
     (λ none. elim (or_cases (is_past supply.now not_after) (nat_le live_limit (live_grants trail supply.now)) none) [
       | inl past ↦ inr (inl (past_end supply.now not_after past))
       | inr full ↦ inr (inr (inl (let least = leb-true live_limit (live_grants trail supply.now) full in let most = limits.grants in omega arith)))
     ])
     (λ some. begin_why rules trail supply.now key request not_after (opening trail supply.now key request not_after) (settle rules key [] request) refl)
 explained rules supply trail (Introspect server value binding wanted) origins limits =
-    if_known (Explained rules trail supply.now (Introspect server value binding wanted)) (serves_all (server_names (key_of rules server)) wanted) _ (Refuse InvalidAccess)
-    (λ served. show_why rules trail supply.now (Introspect server value binding wanted) (server_names (key_of rules server)) binding wanted (live_token trail supply.now value)) (λ unserved. unserved)
+    if_known (Explained rules trail supply.now (Introspect server value binding wanted)) (serves_all (server_names (key_of rules server)) wanted) _
+    (Refuse InvalidAccess)
+    (λ served. show_why rules trail supply.now (Introspect server value binding wanted) (server_names (key_of rules server)) binding wanted
+    (live_token trail supply.now value)) (λ unserved. unserved)
 explained rules supply trail Lapse origins limits = tt
 explained rules supply trail (Look front handle) origins limits =
     found_why rules trail supply.now (Look front handle) UnknownInteraction _ (round_by_handle trail supply.now handle) (λ none. none)
@@ -261,22 +281,27 @@ explained rules supply trail (Look front handle) origins limits =
     let terms = round_terms trail r origins opened in
     let opens = opened_found trail opened.0 r.grant opened.1 opened.2 in
     found_why rules trail supply.now (Look front handle) UnknownInteraction _ (terms_of trail r.grant) (there (terms_of trail r.grant) terms.0 terms.1)
-    (λ w is. found_why rules trail supply.now (Look front handle) UnknownInteraction _ (first_of (opening_in r.grant) trail) (there (first_of (opening_in r.grant) trail) opens.0 opens.1) (λ o at. tt)))
+    (λ w is. found_why rules trail supply.now (Look front handle) UnknownInteraction _ (first_of (opening_in r.grant) trail)
+    (there (first_of (opening_in r.grant) trail) opens.0 opens.1) (λ o at. tt)))
 explained rules supply trail (FindCode front code) origins limits =
     found_why rules trail supply.now (FindCode front code) UnknownInteraction _ (round_by_code trail supply.now code) (λ none. none) (λ r found. tt)
 explained rules supply trail (Decide front request) origins limits =
     found_why rules trail supply.now (Decide front request) UnknownInteraction _ (round_by_handle trail supply.now request.handle) (λ none. none)
     (λ r found. let terms = round_terms trail r origins (handle_opened trail supply.now request.handle r found) in
     found_why rules trail supply.now (Decide front request) UnknownInteraction _ (terms_of trail r.grant) (there (terms_of trail r.grant) terms.0 terms.1)
-    (λ w is. if_known (Explained rules trail supply.now (Decide front request)) (may_decide request.verdict (asked_rights w.asks) (rights_or (asked_rights w.asks) request.rights)) (TakeDecision r _ request) (Refuse InvalidRequest)
-    (λ may. tt) (λ more. let why = decides_more request.verdict (asked_rights w.asks) (rights_or (asked_rights w.asks) request.rights) more in (r, w, found, is, why.0, why.1))))
+    (λ w is. if_known (Explained rules trail supply.now (Decide front request))
+    (may_decide request.verdict (asked_rights w.asks) (rights_or (asked_rights w.asks) request.rights)) (TakeDecision r _ request) (Refuse InvalidRequest)
+    (λ may. tt) (λ more. let why = decides_more request.verdict (asked_rights w.asks) (rights_or (asked_rights w.asks) request.rights) more in
+    (r, w, found, is, why.0, why.1))))
 explained rules supply trail (Continue key value reference) origins limits =
     found_why rules trail supply.now (Continue key value reference) InvalidContinuation _ (named_grant trail supply.now value) (λ none. none)
-    (λ o named. owner_why rules trail supply.now (Continue key value reference) (λ o. continue_at (grant_state trail o.grant supply.now) trail supply.now o reference) o.key o (o, named, refl)
+    (λ o named. owner_why rules trail supply.now (Continue key value reference)
+    (λ o. continue_at (grant_state trail o.grant supply.now) trail supply.now o reference) o.key o (o, named, refl)
     (λ same. continue_why rules trail supply.now key value reference o (grant_state trail o.grant supply.now) origins limits named refl))
 explained rules supply trail (Modify key value request) origins limits =
     found_why rules trail supply.now (Modify key value request) InvalidContinuation _ (named_grant trail supply.now value) (λ none. none)
-    (λ o named. owner_why rules trail supply.now (Modify key value request) (λ o. modify_by (settle rules o.key (consent_of trail o.grant) request) trail supply.now o request) o.key o (o, named, refl)
+    (λ o named. owner_why rules trail supply.now (Modify key value request)
+    (λ o. modify_by (settle rules o.key (consent_of trail o.grant) request) trail supply.now o request) o.key o (o, named, refl)
     (λ same. modify_why rules trail supply.now key value request o (settle rules o.key (consent_of trail o.grant) request) named refl))
 explained rules supply trail (Cancel key value) origins limits =
     found_why rules trail supply.now (Cancel key value) InvalidContinuation _ (named_grant trail supply.now value) (λ none. none)
@@ -285,15 +310,18 @@ explained rules supply trail (Rotate key value new_key) origins limits =
     found_why rules trail supply.now (Rotate key value new_key) InvalidRotation _ (managed_token trail supply.now value) (λ none. inl none)
     (λ t managed. let opens = issued_opened trail t origins (managed_issued trail supply.now value t managed).0 in
     if_known (Explained rules trail supply.now (Rotate key value new_key)) (is_live trail supply.now t) _ (Refuse InvalidRotation)
-    (λ live. found_why rules trail supply.now (Rotate key value new_key) InvalidRotation _ (first_of (opening_in t.grant) trail) (there (first_of (opening_in t.grant) trail) opens.0 opens.1)
+    (λ live. found_why rules trail supply.now (Rotate key value new_key) InvalidRotation _ (first_of (opening_in t.grant) trail)
+    (there (first_of (opening_in t.grant) trail) opens.0 opens.1)
     (λ o found. owner_why rules trail supply.now (Rotate key value new_key) (rotate_key rules new_key t) t.key o (t, managed, refl)
     (λ same. rotate_why rules trail supply.now key value new_key t o managed live same)))
     (λ dead. inr (inl (t, managed, dead))))
 explained rules supply trail (Revoke key value) origins limits =
     found_why rules trail supply.now (Revoke key value) InvalidRequest _ (managed_token trail supply.now value) (λ none. none)
     (λ t managed. let opens = issued_opened trail t origins (managed_issued trail supply.now value t managed).0 in
-    found_why rules trail supply.now (Revoke key value) InvalidRequest _ (first_of (opening_in t.grant) trail) (there (first_of (opening_in t.grant) trail) opens.0 opens.1)
-    (λ o found. owner_why rules trail supply.now (Revoke key value) (λ o. RevokeToken t (list_any (is_retirement t.serial) trail)) t.key o (t, managed, refl) (λ same. tt)))
+    found_why rules trail supply.now (Revoke key value) InvalidRequest _ (first_of (opening_in t.grant) trail)
+    (there (first_of (opening_in t.grant) trail) opens.0 opens.1)
+    (λ o found. owner_why rules trail supply.now (Revoke key value) (λ o. RevokeToken t (list_any (is_retirement t.serial) trail)) t.key o (t, managed, refl)
+    (λ same. tt)))
 
 -- ---- so an error reply has its cause
 

@@ -36,14 +36,17 @@ HasRoom trail now (ModifyAtOnce o consent retired request) = length (other_live_
 HasRoom trail now (WrongReference o) = wrongs_of trail o.grant + 1 < wrong_limit
 HasRoom trail now _ = Unit {0}
 
-found_room : {A : Type 0} (trail : List Note) (now : ℕ) (code : ErrorCode) (act : A → Action) (found : Option A) → ((x : A) → HasRoom trail now (act x)) → HasRoom trail now (on_found code act found)
+found_room : {A : Type 0} (trail : List Note) (now : ℕ) (code : ErrorCode) (act : A → Action) (found : Option A) → ((x : A) → HasRoom trail now (act x))
+    → HasRoom trail now (on_found code act found)
 found_room trail now code act None room = tt
 found_room trail now code act (Some x) room = room x
 
-owner_room : (trail : List Note) (now : ℕ) (act : OpeningNote → Action) (owner key : Text) (o : OpeningNote) → HasRoom trail now (act o) → HasRoom trail now (with_owner act owner key o)
+owner_room : (trail : List Note) (now : ℕ) (act : OpeningNote → Action) (owner key : Text) (o : OpeningNote) → HasRoom trail now (act o)
+    → HasRoom trail now (with_owner act owner key o)
 owner_room trail now act owner key o room = if_both (HasRoom trail now) (same_text owner key) (act o) (Refuse InvalidClient) room tt
 
-asking_room : (trail : List Note) (now : ℕ) (ask : Modes → Action) (modes : Option Modes) → ((m : Modes) → HasRoom trail now (ask m)) → HasRoom trail now (ask_user ask modes)
+asking_room : (trail : List Note) (now : ℕ) (ask : Modes → Action) (modes : Option Modes) → ((m : Modes) → HasRoom trail now (ask m))
+    → HasRoom trail now (ask_user ask modes)
 asking_room trail now ask None room = tt
 asking_room trail now ask (Some m) room = room m
 
@@ -51,7 +54,8 @@ asking_room trail now ask (Some m) room = room m
 within : (live : List TokenNote) (more : ℕ) → pass_limit live more ≡ false → length live + more ≤ live_limit
 within live more under = ltb-false live_limit (length live + more) under
 
-begin_room : (s : Settled) (trail : List Note) (now : ℕ) (o : OpeningNote) (request : GrantRequest) → live_grants trail now < live_limit → HasRoom trail now (begin_by s trail now o request)
+begin_room : (s : Settled) (trail : List Note) (now : ℕ) (o : OpeningNote) (request : GrantRequest) → live_grants trail now < live_limit
+    → HasRoom trail now (begin_by s trail now o request)
 begin_room Never trail now o request few = tt
 begin_room AtOnce trail now o request few =
     if_known (HasRoom trail now) (pass_limit (live_tokens trail now) (length request.asks)) (Refuse RequestDenied) (OpenAtOnce o request)
@@ -61,22 +65,27 @@ begin_room ByAsking trail now o request few = asking_room trail now (OpenAsking 
 modify_room : (s : Settled) (trail : List Note) (now : ℕ) (o : OpeningNote) (request : GrantRequest) → HasRoom trail now (modify_by s trail now o request)
 modify_room Never trail now o request = tt
 modify_room AtOnce trail now o request =
-    if_known (HasRoom trail now) (pass_limit (other_live_tokens trail now o) (length request.asks)) (Refuse RequestDenied) (ModifyAtOnce o (consent_of trail o.grant) (tokens_of trail now o) request)
+    if_known (HasRoom trail now) (pass_limit (other_live_tokens trail now o) (length request.asks)) (Refuse RequestDenied)
+    (ModifyAtOnce o (consent_of trail o.grant) (tokens_of trail now o) request)
     (λ over. tt) (λ under. within (other_live_tokens trail now o) (length request.asks) under)
 modify_room ByAsking trail now o request = asking_room trail now (ModifyAsking o (tokens_of trail now o) request) request.modes (λ m. tt)
 
-collect_room : (v : Verdict) (trail : List Note) (now : ℕ) (o : OpeningNote) (d : DecisionNote) (w : TermsNote) → HasRoom trail now (collect_by v trail now o d w)
+collect_room : (v : Verdict) (trail : List Note) (now : ℕ) (o : OpeningNote) (d : DecisionNote) (w : TermsNote)
+    → HasRoom trail now (collect_by v trail now o d w)
 collect_room Deny trail now o d w = tt
 collect_room Unknown trail now o d w = tt
 collect_room Grant trail now o d w =
-    if_known (HasRoom trail now) (pass_limit (live_tokens trail now) (length (decided_asks d.rights w))) (Refuse RequestDenied) (CollectDecision o w d (decided_asks d.rights w))
+    if_known (HasRoom trail now) (pass_limit (live_tokens trail now) (length (decided_asks d.rights w))) (Refuse RequestDenied)
+    (CollectDecision o w d (decided_asks d.rights w))
     (λ over. tt) (λ under. within (live_tokens trail now) (length (decided_asks d.rights w)) under)
 
 collect_or_renew_room : (trail : List Note) (now : ℕ) (o : OpeningNote) (d : Option DecisionNote) → HasRoom trail now (collect_or_renew trail now o d)
 collect_or_renew_room trail now o None = tt
-collect_or_renew_room trail now o (Some d) = found_room trail now _ (collect_by d.verdict trail now o d) (terms_of trail o.grant) (λ w. collect_room d.verdict trail now o d w)
+collect_or_renew_room trail now o (Some d) = found_room trail now _ (collect_by d.verdict trail now o d) (terms_of trail o.grant)
+    (λ w. collect_room d.verdict trail now o d w)
 
-round_room : (trail : List Note) (now : ℕ) (o : OpeningNote) (reference : Option Text) (d : Option DecisionNote) (r : RoundNote) → HasRoom trail now (continue_round trail now o reference d r)
+round_room : (trail : List Note) (now : ℕ) (o : OpeningNote) (reference : Option Text) (d : Option DecisionNote) (r : RoundNote)
+    → HasRoom trail now (continue_round trail now o reference d r)
 round_room trail now o reference d r =
     if_both (HasRoom trail now) (not (is_some d) && nat_le r.until now) (RefuseAndFinalize o _) _ tt
     (if_both (HasRoom trail now) (not (is_some reference) && is_some r.modes.finish) (Refuse _) _ tt
@@ -85,18 +94,24 @@ round_room trail now o reference d r =
     (λ last. tt) (λ more. leb-false wrong_limit (wrongs_of trail o.grant + 1) more))
     (collect_or_renew_room trail now o d)))
 
-continue_room : (s : GrantState) (trail : List Note) (now : ℕ) (o : OpeningNote) (reference : Option Text) → HasRoom trail now (continue_at s trail now o reference)
+continue_room : (s : GrantState) (trail : List Note) (now : ℕ) (o : OpeningNote) (reference : Option Text)
+    → HasRoom trail now (continue_at s trail now o reference)
 continue_room (IsPending r) trail now o reference =
-    if_both (HasRoom trail now) (not (is_some reference) && is_early trail now o) (Refuse _) _ tt (round_room trail now o reference (decision_of trail o.grant) r)
+    if_both (HasRoom trail now) (not (is_some reference) && is_early trail now o) (Refuse _) _ tt
+    (round_room trail now o reference (decision_of trail o.grant) r)
 continue_room IsApproved trail now o reference =
-    if_both (HasRoom trail now) (is_some reference) (RefuseAndFinalize o TooManyAttempts) _ tt (if_both (HasRoom trail now) (is_early trail now o) (Refuse _) (RenewDoor o) tt tt)
+    if_both (HasRoom trail now) (is_some reference) (RefuseAndFinalize o TooManyAttempts) _ tt
+    (if_both (HasRoom trail now) (is_early trail now o) (Refuse _) (RenewDoor o) tt tt)
 continue_room IsFinalized trail now o reference = tt
 
-show_room : (trail : List Note) (now : ℕ) (names : List Text) (binding : Option Binding) (wanted : Option (List Right)) (t : Option TokenNote) → HasRoom trail now (show_token names binding wanted t)
+show_room : (trail : List Note) (now : ℕ) (names : List Text) (binding : Option Binding) (wanted : Option (List Right)) (t : Option TokenNote)
+    → HasRoom trail now (show_token names binding wanted t)
 show_room trail now names binding wanted None = tt
-show_room trail now names binding wanted (Some t) = if_both (HasRoom trail now) (suits names binding wanted t.rights t.bearer) (ShowToken _ t) ShowInactive tt tt
+show_room trail now names binding wanted (Some t) = if_both (HasRoom trail now) (suits names binding wanted t.rights t.bearer) (ShowToken _ t) ShowInactive tt
+    tt
 
-rotate_room : (rules : Setup) (trail : List Note) (now : ℕ) (new_key : Option Text) (t : TokenNote) (o : OpeningNote) → HasRoom trail now (rotate_key rules new_key t o)
+rotate_room : (rules : Setup) (trail : List Note) (now : ℕ) (new_key : Option Text) (t : TokenNote) (o : OpeningNote)
+    → HasRoom trail now (rotate_key rules new_key t o)
 rotate_room rules trail now (Some k) t o = if_both (HasRoom trail now) (can_bind rules t.bearer k) (RotateToken o t k) (Refuse InvalidRotation) tt tt
 rotate_room rules trail now None t o = tt
 
@@ -114,17 +129,20 @@ has_room rules supply trail (Look front handle) = found_room trail supply.now _ 
 has_room rules supply trail (FindCode front code) = found_room trail supply.now _ ShowHandle (round_by_code trail supply.now code) (λ r. tt)
 has_room rules supply trail (Decide front request) = found_room trail supply.now _ _ (round_by_handle trail supply.now request.handle)
     (λ r. found_room trail supply.now _ _ (terms_of trail r.grant)
-    (λ w. if_both (HasRoom trail supply.now) (may_decide request.verdict (asked_rights w.asks) (rights_or (asked_rights w.asks) request.rights)) (TakeDecision r _ request) (Refuse _) tt tt))
+    (λ w. if_both (HasRoom trail supply.now) (may_decide request.verdict (asked_rights w.asks) (rights_or (asked_rights w.asks) request.rights))
+    (TakeDecision r _ request) (Refuse _) tt tt))
 has_room rules supply trail (Continue key value reference) = found_room trail supply.now _ _ (named_grant trail supply.now value)
     (λ o. owner_room trail supply.now (λ o. continue_at (grant_state trail o.grant supply.now) trail supply.now o reference) o.key key o
     (continue_room (grant_state trail o.grant supply.now) trail supply.now o reference))
 has_room rules supply trail (Modify key value request) = found_room trail supply.now _ _ (named_grant trail supply.now value)
     (λ o. owner_room trail supply.now (λ o. modify_by (settle rules o.key (consent_of trail o.grant) request) trail supply.now o request) o.key key o
     (modify_room (settle rules o.key (consent_of trail o.grant) request) trail supply.now o request))
-has_room rules supply trail (Cancel key value) = found_room trail supply.now _ _ (named_grant trail supply.now value) (λ o. owner_room trail supply.now CancelGrant o.key key o tt)
+has_room rules supply trail (Cancel key value) = found_room trail supply.now _ _ (named_grant trail supply.now value)
+    (λ o. owner_room trail supply.now CancelGrant o.key key o tt)
 has_room rules supply trail (Rotate key value new_key) = found_room trail supply.now _ _ (managed_token trail supply.now value)
     (λ t. if_both (HasRoom trail supply.now) (is_live trail supply.now t) _ (Refuse _)
-    (found_room trail supply.now _ _ (first_of (opening_in t.grant) trail) (λ o. owner_room trail supply.now (rotate_key rules new_key t) t.key key o (rotate_room rules trail supply.now new_key t o))) tt)
+    (found_room trail supply.now _ _ (first_of (opening_in t.grant) trail)
+    (λ o. owner_room trail supply.now (rotate_key rules new_key t) t.key key o (rotate_room rules trail supply.now new_key t o))) tt)
 has_room rules supply trail (Revoke key value) = found_room trail supply.now _ _ (managed_token trail supply.now value)
     (λ t. found_room trail supply.now _ _ (first_of (opening_in t.grant) trail)
     (λ o. owner_room trail supply.now (λ o. RevokeToken t (list_any (is_retirement t.serial) trail)) t.key key o tt))

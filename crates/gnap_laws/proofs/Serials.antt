@@ -33,7 +33,8 @@ IsRun supply k (v ∷ vs) = (v ≡ drawn_value supply k) × IsRun supply (k + 1)
 reverse-onto : (w : Text) (ws vs : List Text) → reverse (w ∷ ws) ++ vs ≡ reverse ws ++ (w ∷ vs)
 reverse-onto w ws vs = ap (λ (x : List Text). x ++ vs) (reverse-append (w ∷ []) ws) ∙ append_assoc (reverse ws) (w ∷ []) vs
 
-pub serialled_more : (supply : Supply) (k : ℕ) (ws vs : List Text) → IsRun supply k ws → supply.first + k ≡ length vs + 1 → IsSerialled vs → IsSerialled (reverse ws ++ vs)
+pub serialled_more : (supply : Supply) (k : ℕ) (ws vs : List Text) → IsRun supply k ws → supply.first + k ≡ length vs + 1 → IsSerialled vs
+    → IsSerialled (reverse ws ++ vs)
 serialled_more supply k [] vs run e h = h
 serialled_more supply k (w ∷ ws) vs run e h =
     let here : w ≡ value_text (length vs + 1) (slice_index supply.words (2 * k)) (slice_index supply.words (2 * k + 1))
@@ -72,49 +73,64 @@ tokens_run supply o (ask ∷ asks) k = (
   refl,
   (
     refl,
-    (let e : k + 2 ≡ k + 1 + 1 = omega arith in subst (λ n. IsRun supply n (flat_map note_values (map Issued (tokens_for supply o asks (k + 2))))) e (tokens_run supply o asks (k + 2))),
+    (let e : k + 2 ≡ k + 1 + 1 = omega arith in subst (λ n. IsRun supply n (flat_map note_values (map Issued (tokens_for supply o asks (k + 2))))) e
+        (tokens_run supply o asks (k + 2))),
   ),
 )
 
-pub tokens_length : (supply : Supply) (o : OpeningNote) (asks : List Ask) (k : ℕ) → length (flat_map note_values (map Issued (tokens_for supply o asks k))) ≡ 2 * length asks
+pub tokens_length : (supply : Supply) (o : OpeningNote) (asks : List Ask) (k : ℕ)
+    → length (flat_map note_values (map Issued (tokens_for supply o asks k))) ≡ 2 * length asks
 tokens_length supply o [] k = refl
 tokens_length supply o (ask ∷ asks) k = let h = tokens_length supply o asks (k + 2) in omega arith
 
 flat-append : (xs ys : List Note) → flat_map note_values (xs ++ ys) ≡ flat_map note_values xs ++ flat_map note_values ys
 flat-append [] ys = refl
-flat-append (x ∷ xs) ys = ap (λ (r : List Text). note_values x ++ r) (flat-append xs ys) ∙ sym (append_assoc (note_values x) (flat_map note_values xs) (flat_map note_values ys))
+flat-append (x ∷ xs) ys = ap (λ (r : List Text). note_values x ++ r) (flat-append xs ys)
+    ∙ sym (append_assoc (note_values x) (flat_map note_values xs) (flat_map note_values ys))
 
 pub retired_none : (ts : List TokenNote) (rest : List Note) → flat_map note_values (retire ts ++ rest) ≡ flat_map note_values rest
 retired_none [] rest = refl
 retired_none (t ∷ ts) rest = retired_none ts rest
 
-pub grant_values : (supply : Supply) (o : OpeningNote) (before : List Note) (asks : List Ask) (single : Bool) (subject instance : Option Text) → flat_map note_values before ≡ []
-    → flat_map note_values (grant_outcome supply o before asks single subject instance).notes ≡ flat_map note_values (map Issued (tokens_for supply o asks 0)) ++ drawn_value supply (2 * length asks) ∷ []
+pub grant_values : (supply : Supply) (o : OpeningNote) (before : List Note) (asks : List Ask) (single : Bool) (subject instance : Option Text)
+    → flat_map note_values before ≡ []
+    → flat_map note_values (grant_outcome supply o before asks single subject instance).notes ≡ flat_map note_values (map Issued (tokens_for supply o asks 0))
+    ++ drawn_value supply (2 * length asks) ∷ []
 grant_values supply o before asks single subject instance none =
     flat-append (before ++ map Issued (tokens_for supply o asks 0)) _
-    ∙ ap (λ (x : List Text). x ++ drawn_value supply (2 * length asks) ∷ []) (flat-append before (map Issued (tokens_for supply o asks 0)) ∙ ap (λ (x : List Text). x ++ flat_map note_values (map Issued (tokens_for supply o asks 0))) none)
+    ∙ ap (λ (x : List Text). x ++ drawn_value supply (2 * length asks) ∷ [])
+    (flat-append before (map Issued (tokens_for supply o asks 0))
+    ∙ ap (λ (x : List Text). x ++ flat_map note_values (map Issued (tokens_for supply o asks 0))) none)
 
-grant_run : (supply : Supply) (o : OpeningNote) (before : List Note) (asks : List Ask) (single : Bool) (subject instance : Option Text) → flat_map note_values before ≡ []
+grant_run : (supply : Supply) (o : OpeningNote) (before : List Note) (asks : List Ask) (single : Bool) (subject instance : Option Text)
+    → flat_map note_values before ≡ []
     → IsRun supply 0 (flat_map note_values (grant_outcome supply o before asks single subject instance).notes)
 grant_run supply o before asks single subject instance none =
     subst (IsRun supply 0) (sym (grant_values supply o before asks single subject instance none))
-    (IsRun-append supply 0 (flat_map note_values (map Issued (tokens_for supply o asks 0))) (drawn_value supply (2 * length asks) ∷ []) (tokens_run supply o asks 0)
+    (IsRun-append supply 0 (flat_map note_values (map Issued (tokens_for supply o asks 0))) (drawn_value supply (2 * length asks) ∷ [])
+    (tokens_run supply o asks 0)
     (ap (drawn_value supply) (let h = tokens_length supply o asks 0 in omega arith), tt))
 
 shown_values : (now : ℕ) (ts : List TokenNote) → flat_map token_values (map (token_out now) ts) ≡ flat_map note_values (map Issued ts)
 shown_values now [] = refl
 shown_values now (t ∷ ts) = ap (λ (r : List Text). t.value ∷ t.manage ∷ r) (shown_values now ts)
 
-grant_draws : (supply : Supply) (o : OpeningNote) (before : List Note) (asks : List Ask) (single : Bool) (subject instance : Option Text) → flat_map note_values before ≡ []
-    → drawn_in (grant_outcome supply o before asks single subject instance).reply ≡ flat_map note_values (grant_outcome supply o before asks single subject instance).notes
+grant_draws : (supply : Supply) (o : OpeningNote) (before : List Note) (asks : List Ask) (single : Bool) (subject instance : Option Text)
+    → flat_map note_values before ≡ []
+    → drawn_in (grant_outcome supply o before asks single subject instance).reply
+    ≡ flat_map note_values (grant_outcome supply o before asks single subject instance).notes
 grant_draws supply o before asks single subject instance none =
-    ap (λ (x : List Text). x ++ drawn_value supply (2 * length asks) ∷ []) (shown_values supply.now (tokens_for supply o asks 0)) ∙ sym (grant_values supply o before asks single subject instance none)
+    ap (λ (x : List Text). x ++ drawn_value supply (2 * length asks) ∷ []) (shown_values supply.now (tokens_for supply o asks 0))
+    ∙ sym (grant_values supply o before asks single subject instance none)
 
 pub pend_values : (supply : Supply) (o : OpeningNote) (before : List Note) (modes : Modes) (instance : Option Text) → flat_map note_values before ≡ []
-    → flat_map note_values (pending_outcome supply o before modes instance).notes ≡ drawn_value supply 0 ∷ drawn_value supply 1 ∷ option_to_list (some_if (is_some modes.finish) (drawn_value supply 2))
+    → flat_map note_values (pending_outcome supply o before modes instance).notes ≡ drawn_value supply 0 ∷ drawn_value supply 1
+    ∷ option_to_list (some_if (is_some modes.finish) (drawn_value supply 2))
 pend_values supply o before modes instance none =
-    flat-append before _ ∙ ap (λ (x : List Text). x ++ (drawn_value supply 0 ∷ drawn_value supply 1 ∷ (option_to_list (some_if (is_some modes.finish) (drawn_value supply 2)) ++ []))) none
-    ∙ ap (λ (x : List Text). drawn_value supply 0 ∷ drawn_value supply 1 ∷ x) (append-nil (option_to_list (some_if (is_some modes.finish) (drawn_value supply 2))))
+    flat-append before _ ∙ ap (λ (x : List Text). x
+    ++ (drawn_value supply 0 ∷ drawn_value supply 1 ∷ (option_to_list (some_if (is_some modes.finish) (drawn_value supply 2)) ++ []))) none
+    ∙ ap (λ (x : List Text). drawn_value supply 0 ∷ drawn_value supply 1 ∷ x)
+    (append-nil (option_to_list (some_if (is_some modes.finish) (drawn_value supply 2))))
 
 listed_run : (supply : Supply) (k : ℕ) (b : Bool) → IsRun supply k (option_to_list (some_if b (drawn_value supply k)))
 listed_run supply k true = (refl, tt)
@@ -132,33 +148,46 @@ nonce_drawn false x = refl
 pend_draws : (supply : Supply) (o : OpeningNote) (before : List Note) (modes : Modes) (instance : Option Text) → flat_map note_values before ≡ []
     → drawn_in (pending_outcome supply o before modes instance).reply ≡ flat_map note_values (pending_outcome supply o before modes instance).notes
 pend_draws supply o before modes instance none =
-    ap (λ (x : List Text). drawn_value supply 0 ∷ drawn_value supply 1 ∷ x) (nonce_drawn (is_some modes.finish) (drawn_value supply 2)) ∙ sym (pend_values supply o before modes instance none)
+    ap (λ (x : List Text). drawn_value supply 0 ∷ drawn_value supply 1 ∷ x) (nonce_drawn (is_some modes.finish) (drawn_value supply 2))
+    ∙ sym (pend_values supply o before modes instance none)
 
-reference_run : (supply : Supply) (r : RoundNote) (f : Option Finish) → reference_in (finish_of supply r f) ≡ option_to_list (some_if (is_some f) (drawn_value supply 0))
+reference_run : (supply : Supply) (r : RoundNote) (f : Option Finish)
+    → reference_in (finish_of supply r f) ≡ option_to_list (some_if (is_some f) (drawn_value supply 0))
 reference_run supply r None = refl
 reference_run supply r (Some f) = refl
 
 -- the notes of an action have the values of the entry, from the first on
 pub outcome_run : (supply : Supply) (action : Action) → IsRun supply 0 (flat_map note_values (outcome_of supply action).notes)
-outcome_run supply (OpenAtOnce o request) = grant_run supply o (Opened o ∷ Terms (terms_for o request) ∷ Approved o.grant [] ∷ []) request.asks request.single None (instance_of o) refl
+outcome_run supply (OpenAtOnce o request) = grant_run supply o (Opened o ∷ Terms (terms_for o request) ∷ Approved o.grant [] ∷ []) request.asks request.single
+    None (instance_of o) refl
 outcome_run supply (OpenAsking o request modes) = pend_run supply o (Opened o ∷ Terms (terms_for o request) ∷ []) modes (instance_of o) refl
-outcome_run supply (TakeDecision r rights request) = subst (IsRun supply 0) (sym (append-nil (option_to_list (some_if (is_some r.modes.finish) (drawn_value supply 0))))) (listed_run supply 0 (is_some r.modes.finish))
+outcome_run supply (TakeDecision r rights request) = subst (IsRun supply 0)
+    (sym (append-nil (option_to_list (some_if (is_some r.modes.finish) (drawn_value supply 0))))) (listed_run supply 0 (is_some r.modes.finish))
 outcome_run supply (RenewDoor o) = (refl, tt)
-outcome_run supply (CollectDecision o w d asks) = grant_run supply o (Approved o.grant d.rights ∷ []) asks w.single (if w.subject then d.subject else None) None refl
-outcome_run supply (ModifyAtOnce o consent retired request) = grant_run supply o (retire retired ++ Terms (terms_for o request) ∷ Approved o.grant consent ∷ []) request.asks request.single None None (retired_none retired (Terms (terms_for o request) ∷ Approved o.grant consent ∷ []))
-outcome_run supply (ModifyAsking o retired request modes) = pend_run supply o (retire retired ++ Terms (terms_for o request) ∷ []) modes None (retired_none retired (Terms (terms_for o request) ∷ []))
+outcome_run supply (CollectDecision o w d asks) = grant_run supply o (Approved o.grant d.rights ∷ []) asks w.single (if w.subject then d.subject else None) None
+    refl
+outcome_run supply (ModifyAtOnce o consent retired request) = grant_run supply o (retire retired ++ Terms (terms_for o request) ∷ Approved o.grant consent ∷ [])
+    request.asks request.single None None (retired_none retired (Terms (terms_for o request) ∷ Approved o.grant consent ∷ []))
+outcome_run supply (ModifyAsking o retired request modes) = pend_run supply o (retire retired ++ Terms (terms_for o request) ∷ []) modes None
+    (retired_none retired (Terms (terms_for o request) ∷ []))
 outcome_run supply (RotateToken o t key) = (refl, (refl, tt))
 outcome_run supply (RevokeToken t true) = tt
 outcome_run supply _ = tt
 
 -- the reply of an action draws the values of its notes
 pub outcome_draws : (supply : Supply) (action : Action) → drawn_in (outcome_of supply action).reply ≡ flat_map note_values (outcome_of supply action).notes
-outcome_draws supply (OpenAtOnce o request) = grant_draws supply o (Opened o ∷ Terms (terms_for o request) ∷ Approved o.grant [] ∷ []) request.asks request.single None (instance_of o) refl
+outcome_draws supply (OpenAtOnce o request) = grant_draws supply o (Opened o ∷ Terms (terms_for o request) ∷ Approved o.grant [] ∷ []) request.asks
+    request.single None (instance_of o) refl
 outcome_draws supply (OpenAsking o request modes) = pend_draws supply o (Opened o ∷ Terms (terms_for o request) ∷ []) modes (instance_of o) refl
-outcome_draws supply (TakeDecision r rights request) = reference_run supply r r.modes.finish ∙ sym (append-nil (option_to_list (some_if (is_some r.modes.finish) (drawn_value supply 0))))
-outcome_draws supply (CollectDecision o w d asks) = grant_draws supply o (Approved o.grant d.rights ∷ []) asks w.single (if w.subject then d.subject else None) None refl
-outcome_draws supply (ModifyAtOnce o consent retired request) = grant_draws supply o (retire retired ++ Terms (terms_for o request) ∷ Approved o.grant consent ∷ []) request.asks request.single None None (retired_none retired (Terms (terms_for o request) ∷ Approved o.grant consent ∷ []))
-outcome_draws supply (ModifyAsking o retired request modes) = pend_draws supply o (retire retired ++ Terms (terms_for o request) ∷ []) modes None (retired_none retired (Terms (terms_for o request) ∷ []))
+outcome_draws supply (TakeDecision r rights request) = reference_run supply r r.modes.finish
+    ∙ sym (append-nil (option_to_list (some_if (is_some r.modes.finish) (drawn_value supply 0))))
+outcome_draws supply (CollectDecision o w d asks) = grant_draws supply o (Approved o.grant d.rights ∷ []) asks w.single (if w.subject then d.subject else None)
+    None refl
+outcome_draws supply (ModifyAtOnce o consent retired request) = grant_draws supply o
+    (retire retired ++ Terms (terms_for o request) ∷ Approved o.grant consent ∷ []) request.asks request.single None None
+    (retired_none retired (Terms (terms_for o request) ∷ Approved o.grant consent ∷ []))
+outcome_draws supply (ModifyAsking o retired request modes) = pend_draws supply o (retire retired ++ Terms (terms_for o request) ∷ []) modes None
+    (retired_none retired (Terms (terms_for o request) ∷ []))
 outcome_draws supply (RevokeToken t true) = refl
 outcome_draws supply _ = refl
 
@@ -179,8 +208,10 @@ past_serialled rules (e ∷ past) legal =
     let supply = supply_at past e.moment e.draw in
     let why = chosen rules past e legal.0 in
     let action = why.action in
-    subst IsSerialled (sym (trail-onto e.notes (trail_of past) ∙ ap (λ (ns : List Note). reverse (flat_map note_values ns) ++ trail_values (trail_of past)) why.notes))
-    (serialled_more supply 0 (flat_map note_values (outcome_of supply action).notes) (trail_values (trail_of past)) (outcome_run supply action) (omega arith) (past_serialled rules past legal.1))
+    subst IsSerialled (sym (trail-onto e.notes (trail_of past)
+    ∙ ap (λ (ns : List Note). reverse (flat_map note_values ns) ++ trail_values (trail_of past)) why.notes))
+    (serialled_more supply 0 (flat_map note_values (outcome_of supply action).notes) (trail_values (trail_of past)) (outcome_run supply action) (omega arith)
+    (past_serialled rules past legal.1))
 
 pub past_draws : (rules : Setup) (past : List Event) → IsLegalPast rules past → drawn_by past ≡ trail_values (trail_of past)
 past_draws rules [] legal = refl
@@ -188,7 +219,8 @@ past_draws rules (e ∷ past) legal =
     let supply = supply_at past e.moment e.draw in
     let why = chosen rules past e legal.0 in
     let action = why.action in
-    let same : drawn_in e.reply ≡ flat_map note_values e.notes = ap drawn_in why.reply ∙ outcome_draws supply action ∙ ap (flat_map note_values) (sym why.notes) in
+    let same : drawn_in e.reply ≡ flat_map note_values e.notes = ap drawn_in why.reply ∙ outcome_draws supply action
+    ∙ ap (flat_map note_values) (sym why.notes) in
     ap (λ (x : List Text). reverse x ++ drawn_by past) same
     ∙ ap (λ (x : List Text). reverse (flat_map note_values e.notes) ++ x) (past_draws rules past legal.1)
     ∙ sym (trail-onto e.notes (trail_of past))
@@ -197,4 +229,5 @@ past_draws rules (e ∷ past) legal =
 pub draws_distinct : (rules : Setup) (past : List Event) → IsLegalPast rules past → length (drawn_by past) < 2 ^ 64 → AreDistinct (drawn_by past)
 draws_distinct rules past legal few =
     subst AreDistinct (sym (past_draws rules past legal))
-    (serialled_distinct (trail_values (trail_of past)) (let e = ap (length {A = Text}) (past_draws rules past legal) in omega arith) (past_serialled rules past legal))
+    (serialled_distinct (trail_values (trail_of past)) (let e = ap (length {A = Text}) (past_draws rules past legal) in omega arith)
+    (past_serialled rules past legal))

@@ -47,15 +47,19 @@ abbrev pub IsSound : List Note → Type 0
 IsSound trail = AreSound (next_grant trail) (first_serial trail) trail
 
 pub names_known : (trail : List Note) (now : ℕ) (call : Call) (o : OpeningNote) → IsSound trail → Names trail now call o → o.grant < next_grant trail
-names_known trail now call o sound names = sound_note (next_grant trail) (first_serial trail) trail (Opened o) sound (grant_named trail now names.0 o names.2).opened
+names_known trail now call o sound names = sound_note (next_grant trail) (first_serial trail) trail (Opened o) sound
+    (grant_named trail now names.0 o names.2).opened
 
-tokens_sound : (supply : Supply) (o : OpeningNote) (asks : List Ask) (k g s : ℕ) → o.grant < g → supply.first + k + 2 * length asks ≤ s → AreSound g s (map Issued (tokens_for supply o asks k))
+tokens_sound : (supply : Supply) (o : OpeningNote) (asks : List Ask) (k g s : ℕ) → o.grant < g → supply.first + k + 2 * length asks ≤ s
+    → AreSound g s (map Issued (tokens_for supply o asks k))
 tokens_sound supply o [] k g s p h = tt
 tokens_sound supply o (ask ∷ asks) k g s p h =
     ((omega arith, p, (slice_index supply.words (2 * k), slice_index supply.words (2 * k + 1), refl)), tokens_sound supply o asks (k + 2) g s p (omega arith))
 
-grant_sound : (supply : Supply) (o : OpeningNote) (before : List Note) (asks : List Ask) (single : Bool) (subject instance : Option Text) (g s : ℕ) → flat_map note_values before ≡ [] → o.grant < g
-    → supply.first + length (flat_map note_values (grant_outcome supply o before asks single subject instance).notes) ≤ s → AreSound g s before → AreSound g s (grant_outcome supply o before asks single subject instance).notes
+grant_sound : (supply : Supply) (o : OpeningNote) (before : List Note) (asks : List Ask) (single : Bool) (subject instance : Option Text) (g s : ℕ)
+    → flat_map note_values before ≡ [] → o.grant < g
+    → supply.first + length (flat_map note_values (grant_outcome supply o before asks single subject instance).notes) ≤ s → AreSound g s before
+    → AreSound g s (grant_outcome supply o before asks single subject instance).notes
 grant_sound supply o before asks single subject instance g s none p h b =
     let e = ap (length {A = Text}) (grant_values supply o before asks single subject instance none) in
     let l = length-append (flat_map note_values (map Issued (tokens_for supply o asks 0))) (drawn_value supply (2 * length asks) ∷ []) in
@@ -63,8 +67,10 @@ grant_sound supply o before asks single subject instance g s none p h b =
     each-append (SoundAt g s) (before ++ map Issued (tokens_for supply o asks 0)) (door_note supply o (2 * length asks) ∷ [])
     (each-append (SoundAt g s) before (map Issued (tokens_for supply o asks 0)) b (tokens_sound supply o asks 0 g s p (omega arith))) (tt, tt)
 
-pend_sound : (supply : Supply) (o : OpeningNote) (before : List Note) (modes : Modes) (instance : Option Text) (g s : ℕ) → AreSound g s before → AreSound g s (pending_outcome supply o before modes instance).notes
-pend_sound supply o before modes instance g s b = each-append (SoundAt g s) before (door_note supply o 0 ∷ Pended (round_for supply o modes) ∷ []) b (tt, (tt, tt))
+pend_sound : (supply : Supply) (o : OpeningNote) (before : List Note) (modes : Modes) (instance : Option Text) (g s : ℕ) → AreSound g s before
+    → AreSound g s (pending_outcome supply o before modes instance).notes
+pend_sound supply o before modes instance g s b = each-append (SoundAt g s) before (door_note supply o 0 ∷ Pended (round_for supply o modes) ∷ []) b
+    (tt, (tt, tt))
 
 opened_sum : (ns : List Note) (o : OpeningNote) → HasNote ns (Opened o) → 1 ≤ count_by is_opening ns
 opened_sum [] o h = absurd h
@@ -88,7 +94,8 @@ below-reverse : (s : ℕ) (xs : List TokenNote) → SerialsBelow s xs → Serial
 below-reverse s [] h = tt
 below-reverse s (x ∷ xs) h = subst (SerialsBelow s) (sym (reverse-append (x ∷ []) xs)) (below-append s (reverse xs) (x ∷ []) (below-reverse s xs h.1) (h.0, tt))
 
-below_cons : (g s : ℕ) (test : TokenNote → Bool) (n : Note) (ts : List TokenNote) → SoundAt g s n → SerialsBelow s ts → SerialsBelow s (cons_option (token_in test n) ts)
+below_cons : (g s : ℕ) (test : TokenNote → Bool) (n : Note) (ts : List TokenNote) → SoundAt g s n → SerialsBelow s ts
+    → SerialsBelow s (cons_option (token_in test n) ts)
 below_cons g s test (Issued t) ts h k = at (test t)
   where
     at : (b : Bool) → SerialsBelow s (cons_option (some_if b t) ts)
@@ -108,7 +115,8 @@ below_more : (s s' : ℕ) (ts : List TokenNote) → s ≤ s' → SerialsBelow s 
 below_more s s' [] p h = tt
 below_more s s' (t ∷ ts) p h = (let k = h.0 in omega arith, below_more s s' ts p h.1)
 
-pub modified_below : (trail : List Note) (now : ℕ) (o : OpeningNote) (ts : List TokenNote) (s : ℕ) → IsSound trail → ts ≡ tokens_of trail now o → first_serial trail ≤ s → SerialsBelow s ts
+pub modified_below : (trail : List Note) (now : ℕ) (o : OpeningNote) (ts : List TokenNote) (s : ℕ) → IsSound trail → ts ≡ tokens_of trail now o
+    → first_serial trail ≤ s → SerialsBelow s ts
 modified_below trail now o ts s sound e p =
     below_more (first_serial trail) s ts p (subst (SerialsBelow (first_serial trail)) (sym e)
     (below-reverse (first_serial trail) (filter_map (token_in (λ t. (t.grant == o.grant) && is_managed trail now t)) trail)
@@ -120,18 +128,22 @@ opened_counted ns o h = opened_sum ns o h
 pub old_known : (notes trail : List Note) (o : OpeningNote) → o.grant < next_grant trail → (g : ℕ) → next_grant (reverse notes ++ trail) ≤ g → o.grant < g
 old_known notes trail o low g p = let k = sum_by-append (λ (n : Note). cond (is_opening n) 1 0) (reverse notes) trail in omega arith
 
-pub new_known : (notes trail : List Note) (o : OpeningNote) → o.grant ≡ next_grant trail → HasNote notes (Opened o) → (g : ℕ) → next_grant (reverse notes ++ trail) ≤ g → o.grant < g
+pub new_known : (notes trail : List Note) (o : OpeningNote) → o.grant ≡ next_grant trail → HasNote notes (Opened o) → (g : ℕ)
+    → next_grant (reverse notes ++ trail) ≤ g → o.grant < g
 new_known notes trail o e h g p =
     let k = sum_by-append (λ (n : Note). cond (is_opening n) 1 0) (reverse notes) trail in
     let c = opened_counted (reverse notes) o (note-reverse notes (Opened o) h) in omega arith
 
 -- the next grant and serial after an action
-pub action_sound : (supply : Supply) (trail : List Note) (call : Call) (action : Action) (g s : ℕ) → IsSound trail → supply.first ≡ first_serial trail → Cause trail supply.now call action
-    → next_grant (reverse (outcome_of supply action).notes ++ trail) ≤ g → supply.first + length (flat_map note_values (outcome_of supply action).notes) ≤ s → AreSound g s (outcome_of supply action).notes
+pub action_sound : (supply : Supply) (trail : List Note) (call : Call) (action : Action) (g s : ℕ) → IsSound trail → supply.first ≡ first_serial trail
+    → Cause trail supply.now call action
+    → next_grant (reverse (outcome_of supply action).notes ++ trail) ≤ g → supply.first + length (flat_map note_values (outcome_of supply action).notes) ≤ s
+    → AreSound g s (outcome_of supply action).notes
 action_sound supply trail call (TakeDecision r rights request) g s sound first a p q = (tt, tt)
 action_sound supply trail call (OpenAtOnce o request) g s sound first a p q =
     let k : o.grant < g = new_known (outcome_of supply (OpenAtOnce o request)).notes trail o a.2 (inl refl) g p in
-    grant_sound supply o (Opened o ∷ Terms (terms_for o request) ∷ Approved o.grant [] ∷ []) request.asks request.single None (instance_of o) g s refl k q (k, (tt, (tt, tt)))
+    grant_sound supply o (Opened o ∷ Terms (terms_for o request) ∷ Approved o.grant [] ∷ []) request.asks request.single None (instance_of o) g s refl k q
+    (k, (tt, (tt, tt)))
 action_sound supply trail call (OpenAsking o request modes) g s sound first a p q =
     let k : o.grant < g = new_known (outcome_of supply (OpenAsking o request modes)).notes trail o a.2 (inl refl) g p in
     pend_sound supply o (Opened o ∷ Terms (terms_for o request) ∷ []) modes (instance_of o) g s (k, (tt, tt))
@@ -140,21 +152,36 @@ action_sound supply trail call (CollectDecision o w d asks) g s sound first a p 
     let k : o.grant < g = old_known (outcome_of supply (CollectDecision o w d asks)).notes trail o (names_known trail supply.now call o sound a.0) g p in
     grant_sound supply o (Approved o.grant d.rights ∷ []) asks w.single (if w.subject then d.subject else None) None g s refl k q (tt, tt)
 action_sound supply trail call (WrongReference o) g s sound first a p q = (tt, tt)
-action_sound supply trail call (LastWrongReference o) g s sound first a p q = (tt, (old_known (outcome_of supply (LastWrongReference o)).notes trail o (names_known trail supply.now call o sound a.0) g p, tt))
-action_sound supply trail call (RefuseAndFinalize o code) g s sound first a p q = (old_known (outcome_of supply (RefuseAndFinalize o code)).notes trail o (names_known trail supply.now call o sound a.0) g p, tt)
+action_sound supply trail call (LastWrongReference o) g s sound first a p q =
+    (tt, (old_known (outcome_of supply (LastWrongReference o)).notes trail o (names_known trail supply.now call o sound a.0) g p, tt))
+action_sound supply trail call (RefuseAndFinalize o code) g s sound first a p q =
+    (old_known (outcome_of supply (RefuseAndFinalize o code)).notes trail o (names_known trail supply.now call o sound a.0) g p, tt)
 action_sound supply trail call (ModifyAtOnce o consent retired request) g s sound first a p q =
-    let k : o.grant < g = old_known (outcome_of supply (ModifyAtOnce o consent retired request)).notes trail o (names_known trail supply.now call o sound a.0) g p in
-    grant_sound supply o (retire retired ++ Terms (terms_for o request) ∷ Approved o.grant consent ∷ []) request.asks request.single None None g s (retired_none retired (Terms (terms_for o request) ∷ Approved o.grant consent ∷ [])) k q
-    (retire_sound g s retired (Terms (terms_for o request) ∷ Approved o.grant consent ∷ []) (modified_below trail supply.now o retired s sound a.2 (omega arith)) (tt, (tt, tt)))
+    let k : o.grant < g = old_known (outcome_of supply (ModifyAtOnce o consent retired request)).notes trail o (names_known trail supply.now call o sound a.0) g
+    p in
+    grant_sound supply o (retire retired ++ Terms (terms_for o request) ∷ Approved o.grant consent ∷ []) request.asks request.single None None g s
+    (retired_none retired (Terms (terms_for o request) ∷ Approved o.grant consent ∷ [])) k q
+    (retire_sound g s retired (Terms (terms_for o request) ∷ Approved o.grant consent ∷ [])
+    (modified_below trail supply.now o retired s sound a.2 (omega arith)) (tt, (tt, tt)))
 action_sound supply trail call (ModifyAsking o retired request modes) g s sound first a p q =
     pend_sound supply o (retire retired ++ Terms (terms_for o request) ∷ []) modes None g s
     (retire_sound g s retired (Terms (terms_for o request) ∷ []) (modified_below trail supply.now o retired s sound a.2 (omega arith)) (tt, tt))
-action_sound supply trail call (CancelGrant o) g s sound first a p q = (old_known (outcome_of supply (CancelGrant o)).notes trail o (names_known trail supply.now call o sound a.0) g p, tt)
+action_sound supply trail call (CancelGrant o) g s sound first a p q =
+    (old_known (outcome_of supply (CancelGrant o)).notes trail o (names_known trail supply.now call o sound a.0) g p, tt)
 action_sound supply trail call (RotateToken o u key) g s sound first a p q =
     let u_sound = sound_note (next_grant trail) (first_serial trail) trail (Issued u) sound (managed_issued trail supply.now a.1.0 u a.1.2).0 in
     let u_low : u.serial < first_serial trail = u_sound.0 in
-    let g_low : o.grant < next_grant trail = (let e = (opening_noted trail u.grant o a.3).1 in let h = u_sound.1 in omega arith) in
-    (omega arith, ((omega arith, old_known (outcome_of supply (RotateToken o u key)).notes trail o g_low g p, (slice_index supply.words 0, slice_index supply.words 1, refl)), tt))
+    let g_low : o.grant < next_grant trail = (let e = (opening_noted trail u.grant o a.3).1 in let h = u_sound.1 in omega arith) in (
+      omega arith,
+      (
+        (
+          omega arith,
+          old_known (outcome_of supply (RotateToken o u key)).notes trail o g_low g p,
+          (slice_index supply.words 0, slice_index supply.words 1, refl),
+        ),
+        tt,
+      ),
+    )
 action_sound supply trail call (RevokeToken u false) g s sound first a p q =
     let u_sound = sound_note (next_grant trail) (first_serial trail) trail (Issued u) sound (managed_issued trail supply.now a.1.0 u a.1.2).0 in
     let u_low : u.serial < first_serial trail = u_sound.0 in (omega arith, tt)
@@ -172,17 +199,22 @@ past_sound rules (e ∷ past) legal =
     let values = ap (length {A = Text}) (trail-onto e.notes (trail_of past)) in
     let parts = length-append (reverse (flat_map note_values e.notes)) (trail_values (trail_of past)) in
     let flipped = length-reverse (flat_map note_values e.notes) in
-    let drawn : length (flat_map note_values (outcome_of supply action).notes) ≡ length (flat_map note_values e.notes) = ap (λ (ns : List Note). length (flat_map note_values ns)) (sym why.notes) in
-    let grants : next_grant (reverse (outcome_of supply action).notes ++ trail_of past) ≤ g = subst (λ (ns : List Note). next_grant (reverse ns ++ trail_of past) ≤ g) why.notes (omega arith) in
-    let more : next_grant (trail_of past) ≤ g = (let k = sum_by-append (λ (n : Note). cond (is_opening n) 1 0) (reverse e.notes) (trail_of past) in omega arith) in
+    let drawn : length (flat_map note_values (outcome_of supply action).notes)
+    ≡ length (flat_map note_values e.notes) = ap (λ (ns : List Note). length (flat_map note_values ns)) (sym why.notes) in
+    let grants : next_grant (reverse (outcome_of supply action).notes ++ trail_of past)
+    ≤ g = subst (λ (ns : List Note). next_grant (reverse ns ++ trail_of past) ≤ g) why.notes (omega arith) in
+    let more : next_grant (trail_of past)
+    ≤ g = (let k = sum_by-append (λ (n : Note). cond (is_opening n) 1 0) (reverse e.notes) (trail_of past) in omega arith) in
     each-append (SoundAt g s) (reverse e.notes) (trail_of past)
-    (each-reverse (SoundAt g s) e.notes (subst (AreSound g s) (sym why.notes) (action_sound supply (trail_of past) e.call action g s before refl why.cause grants (omega arith))))
+    (each-reverse (SoundAt g s) e.notes
+    (subst (AreSound g s) (sym why.notes) (action_sound supply (trail_of past) e.call action g s before refl why.cause grants (omega arith))))
     (each_more (SoundAt (next_grant (trail_of past)) (first_serial (trail_of past))) (SoundAt g s) (trail_of past)
     (λ n. sound_at_more (next_grant (trail_of past)) (first_serial (trail_of past)) g s n more (omega arith)) before)
 
 -- ---- a serial is that of one token
 
-same_value : (vs : List Text) (v w : Text) (s a b c d : ℕ) → length vs < 2 ^ 64 → s < 2 ^ 64 → IsSerialled vs → Has vs v → Has vs w → v ≡ value_text s a b → w ≡ value_text s c d → v ≡ w
+same_value : (vs : List Text) (v w : Text) (s a b c d : ℕ) → length vs < 2 ^ 64 → s < 2 ^ 64 → IsSerialled vs → Has vs v → Has vs w → v ≡ value_text s a b
+    → w ≡ value_text s c d → v ≡ w
 same_value [] v w s a b c d few low h hv hw ev ew = absurd hv
 same_value (x ∷ xs) v w s a b c d few low h (inl e) (inl f) ev ew = e ∙ sym f
 same_value (x ∷ xs) v w s a b c d few low h (inr p) (inr q) ev ew = same_value xs v w s a b c d (omega arith) low h.1 p q ev ew
@@ -197,7 +229,8 @@ same_value (x ∷ xs) v w s a b c d few low h (inr p) (inl f) ev ew =
     let top : s ≡ length xs + 1 = value_text_injective s (length xs + 1) c d h.0.0 h.0.1 low (omega arith) (sym ew ∙ f ∙ h.0.2) in
     let below : s ≡ r.0 = value_text_injective s r.0 a b r.1 r.2 low (omega arith) (sym ev ∙ r.4) in absurd (omega arith)
 
-pub one_serial : (trail : List Note) → IsSerialled (trail_values trail) → length (trail_values trail) < 2 ^ 64 → AreDistinct (trail_values trail) → IsSound trail → IsOneSerial trail
+pub one_serial : (trail : List Note) → IsSerialled (trail_values trail) → length (trail_values trail) < 2 ^ 64 → AreDistinct (trail_values trail)
+    → IsSound trail → IsOneSerial trail
 one_serial trail serialled few distinct sound t u ht hu e =
     let st = sound_note (next_grant trail) (first_serial trail) trail (Issued t) sound ht in
     let su = sound_note (next_grant trail) (first_serial trail) trail (Issued u) sound hu in

@@ -85,7 +85,8 @@ retire_on : (grant : ℕ) (ts : List TokenNote) (rest : List Note) → EachNote 
 retire_on grant [] rest h = h
 retire_on grant (t ∷ ts) rest h = (tt, retire_on grant ts rest h)
 
-grant_on : (supply : Supply) (o : OpeningNote) (before : List Note) (asks : List Ask) (single : Bool) (subject instance : Option Text) → EachNote (IsOn o.grant) before
+grant_on : (supply : Supply) (o : OpeningNote) (before : List Note) (asks : List Ask) (single : Bool) (subject instance : Option Text)
+    → EachNote (IsOn o.grant) before
     → EachNote (IsOn o.grant) (grant_outcome supply o before asks single subject instance).notes
 grant_on supply o before asks single subject instance h =
     each-append (IsOn o.grant) (before ++ map Issued (tokens_for supply o asks 0)) (door_note supply o (2 * length asks) ∷ [])
@@ -117,21 +118,24 @@ nothing : (grant : ℕ) → IsSilent grant []
 nothing grant = record { opening = refl; change = refl; unended = refl }
 
 -- the notes of an action say nothing of the state of another grant
-pub silent_others : (supply : Supply) (action : Action) (other : ℕ) → IsAnother other (changed action) → IsSilent other (reverse (outcome_of supply action).notes)
+pub silent_others : (supply : Supply) (action : Action) (other : ℕ) → IsAnother other (changed action)
+    → IsSilent other (reverse (outcome_of supply action).notes)
 silent_others supply (TakeDecision r rights request) other e = record { opening = refl; change = refl; unended = refl }
 silent_others supply (RenewDoor o) other e = record { opening = refl; change = refl; unended = refl }
 silent_others supply (WrongReference o) other e = record { opening = refl; change = refl; unended = refl }
 silent_others supply (RotateToken o t key) other e = record { opening = refl; change = refl; unended = refl }
 silent_others supply (RevokeToken t false) other e = record { opening = refl; change = refl; unended = refl }
 silent_others supply (OpenAtOnce o request) other e = silent_on o.grant other (outcome_of supply (OpenAtOnce o request)).notes e
-    (grant_on supply o (Opened o ∷ Terms (terms_for o request) ∷ Approved o.grant [] ∷ []) request.asks request.single None (instance_of o) (refl, (tt, (refl, tt))))
+    (grant_on supply o (Opened o ∷ Terms (terms_for o request) ∷ Approved o.grant [] ∷ []) request.asks request.single None (instance_of o)
+    (refl, (tt, (refl, tt))))
 silent_others supply (OpenAsking o request modes) other e = silent_on o.grant other (outcome_of supply (OpenAsking o request modes)).notes e
     (pend_on supply o (Opened o ∷ Terms (terms_for o request) ∷ []) modes (instance_of o) (refl, (tt, tt)))
 silent_others supply (CollectDecision o w d asks) other e = silent_on o.grant other (outcome_of supply (CollectDecision o w d asks)).notes e
     (grant_on supply o (Approved o.grant d.rights ∷ []) asks w.single (if w.subject then d.subject else None) None (refl, tt))
 silent_others supply (LastWrongReference o) other e = silent_on o.grant other (Wrong o.grant ∷ Finalized o.grant ∷ []) e (tt, (refl, tt))
 silent_others supply (RefuseAndFinalize o code) other e = silent_on o.grant other (Finalized o.grant ∷ []) e (refl, tt)
-silent_others supply (ModifyAtOnce o consent retired request) other e = silent_on o.grant other (outcome_of supply (ModifyAtOnce o consent retired request)).notes e
+silent_others supply (ModifyAtOnce o consent retired request) other e = silent_on o.grant other
+    (outcome_of supply (ModifyAtOnce o consent retired request)).notes e
     (grant_on supply o (retire retired ++ Terms (terms_for o request) ∷ Approved o.grant consent ∷ []) request.asks request.single None None
     (retire_on o.grant retired (Terms (terms_for o request) ∷ Approved o.grant consent ∷ []) (tt, (refl, tt))))
 silent_others supply (ModifyAsking o retired request modes) other e = silent_on o.grant other (outcome_of supply (ModifyAsking o retired request modes)).notes e
@@ -145,7 +149,8 @@ pub opened_is_another : (trail : List Note) (o : OpeningNote) (grant : ℕ) → 
 opened_is_another trail o grant e low = false_from_ne_true (o.grant == grant) (λ h. let same : o.grant ≡ grant = eqb-true o.grant grant h in omega arith)
 
 -- An entry says nothing of the state of a grant that was opened before, or the grant goes on before the entry.
-pub silent_or_goes_on : (supply : Supply) (trail : List Note) (call : Call) (action : Action) (grant : ℕ) → Cause trail supply.now call action → grant < next_grant trail
+pub silent_or_goes_on : (supply : Supply) (trail : List Note) (call : Call) (action : Action) (grant : ℕ) → Cause trail supply.now call action
+    → grant < next_grant trail
     → IsSilent grant (reverse (outcome_of supply action).notes) ⊎ (is_finalized (grant_state trail grant supply.now) ≡ false)
 silent_or_goes_on supply trail call action grant cause low = at action cause
   where
@@ -153,12 +158,14 @@ silent_or_goes_on supply trail call action grant cause low = at action cause
         → IsSilent grant (reverse (outcome_of supply action).notes) ⊎ (is_finalized (grant_state trail grant supply.now) ≡ false)
     named action o is names = by (o.grant == grant) refl
       where
-        by : (b : Bool) → (o.grant == grant) ≡ b → IsSilent grant (reverse (outcome_of supply action).notes) ⊎ (is_finalized (grant_state trail grant supply.now) ≡ false)
+        by : (b : Bool) → (o.grant == grant) ≡ b
+            → IsSilent grant (reverse (outcome_of supply action).notes) ⊎ (is_finalized (grant_state trail grant supply.now) ≡ false)
         by false e = inl (silent_others supply action grant (subst (IsAnother grant) (sym is) e))
         by true e = inr (subst (λ g. is_finalized (grant_state trail g supply.now) ≡ false) (eqb-true o.grant grant e)
             (not-true (is_finalized (grant_state trail o.grant supply.now)) (grant_named trail supply.now names.0 o names.2).goes_on))
 
-    at : (action : Action) → Cause trail supply.now call action → IsSilent grant (reverse (outcome_of supply action).notes) ⊎ (is_finalized (grant_state trail grant supply.now) ≡ false)
+    at : (action : Action) → Cause trail supply.now call action
+        → IsSilent grant (reverse (outcome_of supply action).notes) ⊎ (is_finalized (grant_state trail grant supply.now) ≡ false)
     at (OpenAtOnce o request) a = inl (silent_others supply (OpenAtOnce o request) grant (opened_is_another trail o grant a.2 low))
     at (OpenAsking o request modes) a = inl (silent_others supply (OpenAsking o request modes) grant (opened_is_another trail o grant a.2 low))
     at (CollectDecision o w d asks) a = named (CollectDecision o w d asks) o refl a.0
@@ -188,12 +195,14 @@ ended_later : (opening : Option OpeningNote) (now later : ℕ) → now ≤ later
 ended_later None now later le e = cc e
 ended_later (Some o) now later le e = later_too o.end now later le e
 
-over_later : (change : Option StateChange) (now later : ℕ) → now ≤ later → is_finalized (state_after change now) ≡ true → is_finalized (state_after change later) ≡ true
+over_later : (change : Option StateChange) (now later : ℕ) → now ≤ later → is_finalized (state_after change now) ≡ true
+    → is_finalized (state_after change later) ≡ true
 over_later None now later le e = cc e
 over_later (Some ToApproved) now later le e = cc e
 over_later (Some (ToPending r)) now later le e = at (nat_le r.over now) (nat_le r.over later) (later_too r.over now later le) e
   where
-    at : (a b : Bool) → (a ≡ true → b ≡ true) → is_finalized (if a then IsFinalized else IsPending r) ≡ true → is_finalized (if b then IsFinalized else IsPending r) ≡ true
+    at : (a b : Bool) → (a ≡ true → b ≡ true) → is_finalized (if a then IsFinalized else IsPending r) ≡ true
+        → is_finalized (if b then IsFinalized else IsPending r) ≡ true
     at true true more h = refl
     at true false more h = let no = more refl in cc no
     at false b more h = cc h
@@ -216,14 +225,16 @@ over_cases : (b : Bool) (s : GrantState) → is_finalized (if b then IsFinalized
 over_cases true s e = inl refl
 over_cases false s e = inr e
 
-ended_or_later : (ended : Bool) (opening : Option OpeningNote) (now later : ℕ) → now ≤ later → (ended || has_ended opening now) ≡ true → (ended || has_ended opening later) ≡ true
+ended_or_later : (ended : Bool) (opening : Option OpeningNote) (now later : ℕ) → now ≤ later → (ended || has_ended opening now) ≡ true
+    → (ended || has_ended opening later) ≡ true
 ended_or_later ended opening now later le e = elim (or_cases ended (has_ended opening now) e) [
   | inl k ↦ or_left ended (has_ended opening later) k
   | inr k ↦ or_right ended (has_ended opening later) (ended_later opening now later le k)
 ]
 
 -- A finalized grant stays finalized.
-pub finalized_later : (trail : List Note) (grant now later : ℕ) → now ≤ later → is_finalized (grant_state trail grant now) ≡ true → is_finalized (grant_state trail grant later) ≡ true
+pub finalized_later : (trail : List Note) (grant now later : ℕ) → now ≤ later → is_finalized (grant_state trail grant now) ≡ true
+    → is_finalized (grant_state trail grant later) ≡ true
 finalized_later trail grant now later le e =
     let ended = list_any (is_end_of grant) trail in
     let opening = first_of (opening_in grant) trail in
@@ -235,9 +246,11 @@ finalized_later trail grant now later le e =
     ])
 
 -- An approved grant was approved before, as far as no note came in between.
-pub approved_earlier : (trail : List Note) (grant now later : ℕ) → now ≤ later → is_approved (grant_state trail grant later) ≡ true → is_approved (grant_state trail grant now) ≡ true
+pub approved_earlier : (trail : List Note) (grant now later : ℕ) → now ≤ later → is_approved (grant_state trail grant later) ≡ true
+    → is_approved (grant_state trail grant now) ≡ true
 approved_earlier trail grant now later le e =
-    at (list_any (is_end_of grant) trail || has_ended (first_of (opening_in grant) trail) now) (list_any (is_end_of grant) trail || has_ended (first_of (opening_in grant) trail) later)
+    at (list_any (is_end_of grant) trail || has_ended (first_of (opening_in grant) trail) now)
+    (list_any (is_end_of grant) trail || has_ended (first_of (opening_in grant) trail) later)
     (ended_or_later (list_any (is_end_of grant) trail) (first_of (opening_in grant) trail) now later le) e
   where
     at : (a b : Bool) → (a ≡ true → b ≡ true) → is_approved (if b then IsFinalized else state_after (first_of (state_change_in grant) trail) later) ≡ true

@@ -36,54 +36,74 @@ use Rattle.gnap_laws.proofs.Came.{IssuedAt, EndedOrAlive, all_ended_or_alive, no
 -- ---- what an action hands out is what its notes issue
 
 abbrev pub Hands : Supply → Action → Type 0
-Hands supply action = (f : TokenOut → Bool) → Decides (list_any f (handed_tokens (outcome_of supply action).reply)) ((t : TokenNote) × HasNote (outcome_of supply action).notes (Issued t) × (f (token_out supply.now t) ≡ true))
+Hands supply action = (f : TokenOut → Bool)
+    → Decides (list_any f (handed_tokens (outcome_of supply action).reply))
+    ((t : TokenNote) × HasNote (outcome_of supply action).notes (Issued t) × (f (token_out supply.now t) ≡ true))
 
-some_shown : (now : ℕ) (f : TokenOut → Bool) (ts : List TokenNote) → list_any f (map (token_out now) ts) ≡ true → (t : TokenNote) × HasNote (map Issued ts) (Issued t) × (f (token_out now t) ≡ true)
+some_shown : (now : ℕ) (f : TokenOut → Bool) (ts : List TokenNote) → list_any f (map (token_out now) ts) ≡ true
+    → (t : TokenNote) × HasNote (map Issued ts) (Issued t) × (f (token_out now t) ≡ true)
 some_shown now f [] e = cc e
 some_shown now f (t ∷ ts) e = elim (or_cases (f (token_out now t)) (list_any f (map (token_out now) ts)) e) [
   | inl a ↦ (t, inl refl, a)
   | inr b ↦ let r = some_shown now f ts b in (r.0, inr r.1, r.2)
 ]
 
-shown_some : (now : ℕ) (f : TokenOut → Bool) (ts : List TokenNote) (t : TokenNote) → HasNote (map Issued ts) (Issued t) → f (token_out now t) ≡ true → list_any f (map (token_out now) ts) ≡ true
+shown_some : (now : ℕ) (f : TokenOut → Bool) (ts : List TokenNote) (t : TokenNote) → HasNote (map Issued ts) (Issued t) → f (token_out now t) ≡ true
+    → list_any f (map (token_out now) ts) ≡ true
 shown_some now f [] t h e = absurd h
 shown_some now f (u ∷ ts) t (inl k) e =
     or_left (f (token_out now u)) (list_any f (map (token_out now) ts)) (let is : t ≡ u = cc k in subst (λ (x : TokenNote). f (token_out now x) ≡ true) is e)
 shown_some now f (u ∷ ts) t (inr k) e = or_right (f (token_out now u)) (list_any f (map (token_out now) ts)) (shown_some now f ts t k e)
 
-grant_hands : (supply : Supply) (o : OpeningNote) (before : List Note) (asks : List Ask) (single : Bool) (subject instance : Option Text) (f : TokenOut → Bool) → HasNoToken before
-    → Decides (list_any f (handed_tokens (grant_outcome supply o before asks single subject instance).reply)) ((t : TokenNote) × HasNote (grant_outcome supply o before asks single subject instance).notes (Issued t) × (f (token_out supply.now t) ≡ true))
+grant_hands : (supply : Supply) (o : OpeningNote) (before : List Note) (asks : List Ask) (single : Bool) (subject instance : Option Text) (f : TokenOut → Bool)
+    → HasNoToken before
+    → Decides (list_any f (handed_tokens (grant_outcome supply o before asks single subject instance).reply))
+    ((t : TokenNote) × HasNote (grant_outcome supply o before asks single subject instance).notes (Issued t) × (f (token_out supply.now t) ≡ true))
 grant_hands supply o before asks single subject instance f none = (
-  (λ e. let r = some_shown supply.now f (tokens_for supply o asks 0) e in
-      (r.0, note-append_left (before ++ map Issued (tokens_for supply o asks 0)) (door_note supply o (2 * length asks) ∷ []) (Issued r.0) (note-append_right before (map Issued (tokens_for supply o asks 0)) (Issued r.0) r.1), r.2)),
+  (λ e. let r = some_shown supply.now f (tokens_for supply o asks 0) e in (
+    r.0,
+    note-append_left (before ++ map Issued (tokens_for supply o asks 0)) (door_note supply o (2 * length asks) ∷ []) (Issued r.0)
+        (note-append_right before (map Issued (tokens_for supply o asks 0)) (Issued r.0) r.1),
+    r.2,
+  )),
   (λ h. shown_some supply.now f (tokens_for supply o asks 0) h.0 (grant_token supply o before asks single subject instance h.0 none h.1) h.2),
 )
 
-none_handed : (f : TokenOut → Bool) (ns : List Note) (now : ℕ) → HasNoToken ns → Decides (list_any f []) ((t : TokenNote) × HasNote ns (Issued t) × (f (token_out now t) ≡ true))
+none_handed : (f : TokenOut → Bool) (ns : List Note) (now : ℕ) → HasNoToken ns
+    → Decides (list_any f []) ((t : TokenNote) × HasNote ns (Issued t) × (f (token_out now t) ≡ true))
 none_handed f ns now none = ((λ e. cc e), (λ h. absurd (none h.0 h.1)))
 
 nothing : HasNoToken []
 nothing = λ t h. h
 
 pub hands : (supply : Supply) (action : Action) → Hands supply action
-hands supply (TakeDecision r rights request) f = none_handed f (outcome_of supply (TakeDecision r rights request)).notes supply.now (not_tokens (outcome_of supply (TakeDecision r rights request)).notes (tt, tt))
-hands supply (OpenAtOnce o request) f = grant_hands supply o (Opened o ∷ Terms (terms_for o request) ∷ Approved o.grant [] ∷ []) request.asks request.single None (instance_of o) f (not_tokens (Opened o ∷ Terms (terms_for o request) ∷ Approved o.grant [] ∷ []) (tt, (tt, (tt, tt))))
-hands supply (OpenAsking o request modes) f = none_handed f (outcome_of supply (OpenAsking o request modes)).notes supply.now (not_tokens (outcome_of supply (OpenAsking o request modes)).notes (tt, (tt, (tt, (tt, tt)))))
+hands supply (TakeDecision r rights request) f = none_handed f (outcome_of supply (TakeDecision r rights request)).notes supply.now
+    (not_tokens (outcome_of supply (TakeDecision r rights request)).notes (tt, tt))
+hands supply (OpenAtOnce o request) f = grant_hands supply o (Opened o ∷ Terms (terms_for o request) ∷ Approved o.grant [] ∷ []) request.asks request.single
+    None (instance_of o) f (not_tokens (Opened o ∷ Terms (terms_for o request) ∷ Approved o.grant [] ∷ []) (tt, (tt, (tt, tt))))
+hands supply (OpenAsking o request modes) f = none_handed f (outcome_of supply (OpenAsking o request modes)).notes supply.now
+    (not_tokens (outcome_of supply (OpenAsking o request modes)).notes (tt, (tt, (tt, (tt, tt)))))
 hands supply (RenewDoor o) f = none_handed f (outcome_of supply (RenewDoor o)).notes supply.now (not_tokens (outcome_of supply (RenewDoor o)).notes (tt, tt))
-hands supply (CollectDecision o w d asks) f = grant_hands supply o (Approved o.grant d.rights ∷ []) asks w.single (if w.subject then d.subject else None) None f (not_tokens (Approved o.grant d.rights ∷ []) (tt, tt))
-hands supply (WrongReference o) f = none_handed f (outcome_of supply (WrongReference o)).notes supply.now (not_tokens (outcome_of supply (WrongReference o)).notes (tt, tt))
-hands supply (LastWrongReference o) f = none_handed f (outcome_of supply (LastWrongReference o)).notes supply.now (not_tokens (outcome_of supply (LastWrongReference o)).notes (tt, (tt, tt)))
-hands supply (RefuseAndFinalize o code) f = none_handed f (outcome_of supply (RefuseAndFinalize o code)).notes supply.now (not_tokens (outcome_of supply (RefuseAndFinalize o code)).notes (tt, tt))
+hands supply (CollectDecision o w d asks) f = grant_hands supply o (Approved o.grant d.rights ∷ []) asks w.single (if w.subject then d.subject else None) None f
+    (not_tokens (Approved o.grant d.rights ∷ []) (tt, tt))
+hands supply (WrongReference o) f = none_handed f (outcome_of supply (WrongReference o)).notes supply.now
+    (not_tokens (outcome_of supply (WrongReference o)).notes (tt, tt))
+hands supply (LastWrongReference o) f = none_handed f (outcome_of supply (LastWrongReference o)).notes supply.now
+    (not_tokens (outcome_of supply (LastWrongReference o)).notes (tt, (tt, tt)))
+hands supply (RefuseAndFinalize o code) f = none_handed f (outcome_of supply (RefuseAndFinalize o code)).notes supply.now
+    (not_tokens (outcome_of supply (RefuseAndFinalize o code)).notes (tt, tt))
 hands supply (ModifyAtOnce o consent retired request) f =
     grant_hands supply o (retire retired ++ Terms (terms_for o request) ∷ Approved o.grant consent ∷ []) request.asks request.single None None f
-    (not_tokens (retire retired ++ Terms (terms_for o request) ∷ Approved o.grant consent ∷ []) (retire_not_tokens retired (Terms (terms_for o request) ∷ Approved o.grant consent ∷ []) (tt, (tt, tt))))
+    (not_tokens (retire retired ++ Terms (terms_for o request) ∷ Approved o.grant consent ∷ [])
+    (retire_not_tokens retired (Terms (terms_for o request) ∷ Approved o.grant consent ∷ []) (tt, (tt, tt))))
 hands supply (ModifyAsking o retired request modes) f =
     none_handed f (outcome_of supply (ModifyAsking o retired request modes)).notes supply.now
     (λ t h. elim (note_cases (retire retired ++ Terms (terms_for o request) ∷ []) (door_note supply o 0 ∷ Pended (round_for supply o modes) ∷ []) (Issued t) h) [
       | inl x ↦ not_tokens (retire retired ++ Terms (terms_for o request) ∷ []) (retire_not_tokens retired (Terms (terms_for o request) ∷ []) (tt, tt)) t x
       | inr y ↦ not_tokens (door_note supply o 0 ∷ Pended (round_for supply o modes) ∷ []) (tt, (tt, tt)) t y
     ])
-hands supply (CancelGrant o) f = none_handed f (outcome_of supply (CancelGrant o)).notes supply.now (not_tokens (outcome_of supply (CancelGrant o)).notes (tt, tt))
+hands supply (CancelGrant o) f = none_handed f (outcome_of supply (CancelGrant o)).notes supply.now
+    (not_tokens (outcome_of supply (CancelGrant o)).notes (tt, tt))
 hands supply (RotateToken o u key) f = (
   (λ e. (successor supply o u key, inr (inl refl), sym (or-false (f (token_out supply.now (successor supply o u key)))) ∙ e)),
   (λ h. or_left (f (token_out supply.now (successor supply o u key))) false (subst (λ (x : TokenNote). f (token_out supply.now x) ≡ true) (is h.0 h.1) h.2)),
@@ -93,7 +113,8 @@ hands supply (RotateToken o u key) f = (
     is t (inl x) = cc x
     is t (inr (inl x)) = cc x
     is t (inr (inr x)) = absurd x
-hands supply (RevokeToken u false) f = none_handed f (outcome_of supply (RevokeToken u false)).notes supply.now (not_tokens (outcome_of supply (RevokeToken u false)).notes (tt, tt))
+hands supply (RevokeToken u false) f = none_handed f (outcome_of supply (RevokeToken u false)).notes supply.now
+    (not_tokens (outcome_of supply (RevokeToken u false)).notes (tt, tt))
 hands supply _ f = none_handed f [] supply.now nothing
 
 -- ---- the end of a grant bounds its tokens
@@ -130,9 +151,11 @@ retire_no_opening : (ts : List TokenNote) (rest : List Note) → AreNotOpenings 
 retire_no_opening [] rest h = h
 retire_no_opening (t ∷ ts) rest h = (tt, retire_no_opening ts rest h)
 
-grant_no_opening : (supply : Supply) (o : OpeningNote) (before : List Note) (asks : List Ask) (single : Bool) (subject instance : Option Text) → AreNotOpenings before → AreNotOpenings (grant_outcome supply o before asks single subject instance).notes
+grant_no_opening : (supply : Supply) (o : OpeningNote) (before : List Note) (asks : List Ask) (single : Bool) (subject instance : Option Text)
+    → AreNotOpenings before → AreNotOpenings (grant_outcome supply o before asks single subject instance).notes
 grant_no_opening supply o before asks single subject instance h =
-    openings-append (before ++ map Issued (tokens_for supply o asks 0)) (door_note supply o (2 * length asks) ∷ []) (openings-append before (map Issued (tokens_for supply o asks 0)) h (issued_no_opening (tokens_for supply o asks 0))) (tt, tt)
+    openings-append (before ++ map Issued (tokens_for supply o asks 0)) (door_note supply o (2 * length asks) ∷ [])
+    (openings-append before (map Issued (tokens_for supply o asks 0)) h (issued_no_opening (tokens_for supply o asks 0))) (tt, tt)
 
 abbrev pub opening_by : Action → Option OpeningNote
 opening_by (OpenAtOnce o request) = Some o
@@ -140,7 +163,8 @@ opening_by (OpenAsking o request modes) = Some o
 opening_by _ = None
 
 -- what an action opens has the next number, and there is one of it
-opens : (supply : Supply) (trail : List Note) (call : Call) (action : Action) (o : OpeningNote) → Cause trail supply.now call action → HasNote (outcome_of supply action).notes (Opened o) → (opening_by action ≡ Some o) × (o.grant ≡ next_grant trail)
+opens : (supply : Supply) (trail : List Note) (call : Call) (action : Action) (o : OpeningNote) → Cause trail supply.now call action
+    → HasNote (outcome_of supply action).notes (Opened o) → (opening_by action ≡ Some o) × (o.grant ≡ next_grant trail)
 opens supply trail call (Refuse code) o a h = absurd h
 opens supply trail call (ShowToken access u) o a h = absurd h
 opens supply trail call ShowInactive o a h = absurd h
@@ -149,24 +173,34 @@ opens supply trail call (ShowRound r w q) o a h = absurd h
 opens supply trail call (ShowHandle r) o a h = absurd h
 opens supply trail call (TakeDecision r rights request) o a h = absurd (not_openings (outcome_of supply (TakeDecision r rights request)).notes o (tt, tt) h)
 opens supply trail call (OpenAtOnce q request) o a (inl e) = (let is : o ≡ q = cc e in (ap Some (sym is), ap (λ (r : OpeningNote). r.grant) is ∙ a.2))
-opens supply trail call (OpenAtOnce q request) o a (inr h) = absurd (not_openings (grant_outcome supply q (Terms (terms_for q request) ∷ Approved q.grant [] ∷ []) request.asks request.single None (instance_of q)).notes o (grant_no_opening supply q (Terms (terms_for q request) ∷ Approved q.grant [] ∷ []) request.asks request.single None (instance_of q) (tt, (tt, tt))) h)
+opens supply trail call (OpenAtOnce q request) o a (inr h) = absurd
+    (not_openings (grant_outcome supply q (Terms (terms_for q request) ∷ Approved q.grant [] ∷ []) request.asks request.single None (instance_of q)).notes o
+    (grant_no_opening supply q (Terms (terms_for q request) ∷ Approved q.grant [] ∷ []) request.asks request.single None (instance_of q) (tt, (tt, tt))) h)
 opens supply trail call (OpenAsking q request modes) o a (inl e) = (let is : o ≡ q = cc e in (ap Some (sym is), ap (λ (r : OpeningNote). r.grant) is ∙ a.2))
-opens supply trail call (OpenAsking q request modes) o a (inr h) = absurd (not_openings (Terms (terms_for q request) ∷ door_note supply q 0 ∷ Pended (round_for supply q modes) ∷ []) o (tt, (tt, (tt, tt))) h)
+opens supply trail call (OpenAsking q request modes) o a (inr h) = absurd
+    (not_openings (Terms (terms_for q request) ∷ door_note supply q 0 ∷ Pended (round_for supply q modes) ∷ []) o (tt, (tt, (tt, tt))) h)
 opens supply trail call (RenewDoor q) o a h = absurd (not_openings (outcome_of supply (RenewDoor q)).notes o (tt, tt) h)
-opens supply trail call (CollectDecision q w d asks) o a h = absurd (not_openings (outcome_of supply (CollectDecision q w d asks)).notes o (grant_no_opening supply q (Approved q.grant d.rights ∷ []) asks w.single (if w.subject then d.subject else None) None (tt, tt)) h)
+opens supply trail call (CollectDecision q w d asks) o a h = absurd
+    (not_openings (outcome_of supply (CollectDecision q w d asks)).notes o
+    (grant_no_opening supply q (Approved q.grant d.rights ∷ []) asks w.single (if w.subject then d.subject else None) None (tt, tt)) h)
 opens supply trail call (WrongReference q) o a h = absurd (not_openings (outcome_of supply (WrongReference q)).notes o (tt, tt) h)
 opens supply trail call (LastWrongReference q) o a h = absurd (not_openings (outcome_of supply (LastWrongReference q)).notes o (tt, (tt, tt)) h)
 opens supply trail call (RefuseAndFinalize q code) o a h = absurd (not_openings (outcome_of supply (RefuseAndFinalize q code)).notes o (tt, tt) h)
 opens supply trail call (ModifyAtOnce q consent retired request) o a h =
-    absurd (not_openings (outcome_of supply (ModifyAtOnce q consent retired request)).notes o (grant_no_opening supply q (retire retired ++ Terms (terms_for q request) ∷ Approved q.grant consent ∷ []) request.asks request.single None None (retire_no_opening retired (Terms (terms_for q request) ∷ Approved q.grant consent ∷ []) (tt, (tt, tt)))) h)
+    absurd (not_openings (outcome_of supply (ModifyAtOnce q consent retired request)).notes o
+    (grant_no_opening supply q (retire retired ++ Terms (terms_for q request) ∷ Approved q.grant consent ∷ []) request.asks request.single None None
+    (retire_no_opening retired (Terms (terms_for q request) ∷ Approved q.grant consent ∷ []) (tt, (tt, tt)))) h)
 opens supply trail call (ModifyAsking q retired request modes) o a h =
-    absurd (not_openings (outcome_of supply (ModifyAsking q retired request modes)).notes o (openings-append (retire retired ++ Terms (terms_for q request) ∷ []) (door_note supply q 0 ∷ Pended (round_for supply q modes) ∷ []) (retire_no_opening retired (Terms (terms_for q request) ∷ []) (tt, tt)) (tt, (tt, tt))) h)
+    absurd (not_openings (outcome_of supply (ModifyAsking q retired request modes)).notes o
+    (openings-append (retire retired ++ Terms (terms_for q request) ∷ []) (door_note supply q 0 ∷ Pended (round_for supply q modes) ∷ [])
+    (retire_no_opening retired (Terms (terms_for q request) ∷ []) (tt, tt)) (tt, (tt, tt))) h)
 opens supply trail call (CancelGrant q) o a h = absurd (not_openings (outcome_of supply (CancelGrant q)).notes o (tt, tt) h)
 opens supply trail call (RotateToken q u key) o a h = absurd (not_openings (outcome_of supply (RotateToken q u key)).notes o (tt, (tt, tt)) h)
 opens supply trail call (RevokeToken u true) o a h = absurd h
 opens supply trail call (RevokeToken u false) o a h = absurd (not_openings (outcome_of supply (RevokeToken u false)).notes o (tt, tt) h)
 
-token_until : (supply : Supply) (o : OpeningNote) (asks : List Ask) (k : ℕ) (t : TokenNote) → HasNote (map Issued (tokens_for supply o asks k)) (Issued t) → (t.grant ≡ o.grant) × (t.until ≤ o.end)
+token_until : (supply : Supply) (o : OpeningNote) (asks : List Ask) (k : ℕ) (t : TokenNote) → HasNote (map Issued (tokens_for supply o asks k)) (Issued t)
+    → (t.grant ≡ o.grant) × (t.until ≤ o.end)
 token_until supply o [] k t h = absurd h
 token_until supply o (ask ∷ asks) k t (inl e) =
     let is : t ≡ token_for supply o ask k = cc e in
@@ -175,23 +209,31 @@ token_until supply o (ask ∷ asks) k t (inl e) =
 token_until supply o (ask ∷ asks) k t (inr h) = token_until supply o asks (k + 2) t h
 
 -- an action issues tokens under an opening, which was there or is new
-issues : (supply : Supply) (trail : List Note) (call : Call) (action : Action) (t : TokenNote) → Cause trail supply.now call action → HasNote (outcome_of supply action).notes (Issued t)
+issues : (supply : Supply) (trail : List Note) (call : Call) (action : Action) (t : TokenNote) → Cause trail supply.now call action
+    → HasNote (outcome_of supply action).notes (Issued t)
     → (o : OpeningNote) × (HasNote (outcome_of supply action).notes (Opened o) ⊎ HasNote trail (Opened o)) × (t.grant ≡ o.grant) × (t.until ≤ o.end)
 issues supply trail call (TakeDecision r rights request) t a h = absurd (not_tokens (outcome_of supply (TakeDecision r rights request)).notes (tt, tt) t h)
 issues supply trail call (OpenAtOnce o request) t a h =
-    let k = token_until supply o request.asks 0 t (grant_token supply o (Opened o ∷ Terms (terms_for o request) ∷ Approved o.grant [] ∷ []) request.asks request.single None (instance_of o) t (not_tokens (Opened o ∷ Terms (terms_for o request) ∷ Approved o.grant [] ∷ []) (tt, (tt, (tt, tt)))) h) in
+    let k = token_until supply o request.asks 0 t
+    (grant_token supply o (Opened o ∷ Terms (terms_for o request) ∷ Approved o.grant [] ∷ []) request.asks request.single None (instance_of o) t
+    (not_tokens (Opened o ∷ Terms (terms_for o request) ∷ Approved o.grant [] ∷ []) (tt, (tt, (tt, tt)))) h) in
     (o, inl (inl refl), k.0, k.1)
-issues supply trail call (OpenAsking o request modes) t a h = absurd (not_tokens (outcome_of supply (OpenAsking o request modes)).notes (tt, (tt, (tt, (tt, tt)))) t h)
+issues supply trail call (OpenAsking o request modes) t a h = absurd
+    (not_tokens (outcome_of supply (OpenAsking o request modes)).notes (tt, (tt, (tt, (tt, tt)))) t h)
 issues supply trail call (RenewDoor o) t a h = absurd (not_tokens (outcome_of supply (RenewDoor o)).notes (tt, tt) t h)
 issues supply trail call (CollectDecision o w d asks) t a h =
-    let k = token_until supply o asks 0 t (grant_token supply o (Approved o.grant d.rights ∷ []) asks w.single (if w.subject then d.subject else None) None t (not_tokens (Approved o.grant d.rights ∷ []) (tt, tt)) h) in
+    let k = token_until supply o asks 0 t
+    (grant_token supply o (Approved o.grant d.rights ∷ []) asks w.single (if w.subject then d.subject else None) None t
+    (not_tokens (Approved o.grant d.rights ∷ []) (tt, tt)) h) in
     (o, inr (grant_named trail supply.now a.0.0 o a.0.2).opened, k.0, k.1)
 issues supply trail call (WrongReference o) t a h = absurd (not_tokens (outcome_of supply (WrongReference o)).notes (tt, tt) t h)
 issues supply trail call (LastWrongReference o) t a h = absurd (not_tokens (outcome_of supply (LastWrongReference o)).notes (tt, (tt, tt)) t h)
 issues supply trail call (RefuseAndFinalize o code) t a h = absurd (not_tokens (outcome_of supply (RefuseAndFinalize o code)).notes (tt, tt) t h)
 issues supply trail call (ModifyAtOnce o consent retired request) t a h =
     let before : List Note = retire retired ++ Terms (terms_for o request) ∷ Approved o.grant consent ∷ [] in
-    let k = token_until supply o request.asks 0 t (grant_token supply o before request.asks request.single None None t (not_tokens before (retire_not_tokens retired (Terms (terms_for o request) ∷ Approved o.grant consent ∷ []) (tt, (tt, tt)))) h) in
+    let k = token_until supply o request.asks 0 t
+    (grant_token supply o before request.asks request.single None None t
+    (not_tokens before (retire_not_tokens retired (Terms (terms_for o request) ∷ Approved o.grant consent ∷ []) (tt, (tt, tt)))) h) in
     (o, inr (grant_named trail supply.now a.0.0 o a.0.2).opened, k.0, k.1)
 issues supply trail call (ModifyAsking o retired request modes) t a h =
     absurd (elim (note_cases (retire retired ++ Terms (terms_for o request) ∷ []) (door_note supply o 0 ∷ Pended (round_for supply o modes) ∷ []) (Issued t) h) [
@@ -232,7 +274,8 @@ one_opening rules (x ∷ past) legal o p ho hp e =
     new q h = opens (supply_at past x.moment x.draw) (trail_of past) x.call (chosen rules past x legal.0).action q
         (chosen rules past x legal.0).cause (subst (λ (ns : List Note). HasNote ns (Opened q)) (chosen rules past x legal.0).notes h)
 
-    at : HasNote x.notes (Opened o) ⊎ HasNote (trail_of past) (Opened o) → HasNote x.notes (Opened p) ⊎ HasNote (trail_of past) (Opened p) → IsOneOpening (trail_of past) → o ≡ p
+    at : HasNote x.notes (Opened o) ⊎ HasNote (trail_of past) (Opened o) → HasNote x.notes (Opened p) ⊎ HasNote (trail_of past) (Opened p)
+        → IsOneOpening (trail_of past) → o ≡ p
     at (inl a) (inl b) ih = let k = sym (new o a).0 ∙ (new p b).0 in cc k
     at (inl a) (inr b) ih =
         let n = (new o a).1 in
@@ -251,7 +294,8 @@ ends_bound rules (x ∷ past) legal t o ht ho e = at (trail_cases x past (Issued
         let k = issues (supply_at past x.moment x.draw) (trail_of past) x.call (chosen rules past x legal.0).action t (chosen rules past x legal.0).cause
         (subst (λ (ns : List Note). HasNote ns (Issued t)) (chosen rules past x legal.0).notes a) in
         let there : HasNote (trail_of (x ∷ past)) (Opened k.0) = elim k.1 [
-          | inl new ↦ note-append_left (reverse x.notes) (trail_of past) (Opened k.0) (note-reverse x.notes (Opened k.0) (subst (λ (ns : List Note). HasNote ns (Opened k.0)) (sym (chosen rules past x legal.0).notes) new))
+          | inl new ↦ note-append_left (reverse x.notes) (trail_of past) (Opened k.0)
+              (note-reverse x.notes (Opened k.0) (subst (λ (ns : List Note). HasNote ns (Opened k.0)) (sym (chosen rules past x legal.0).notes) new))
           | inr old ↦ note-append_right (reverse x.notes) (trail_of past) (Opened k.0) old
         ] in
         let same : o ≡ k.0 = one_opening rules (x ∷ past) legal o k.0 ho there (e ∙ k.2) in
@@ -270,12 +314,15 @@ ends_bound rules (x ∷ past) legal t o ht ho e = at (trail_cases x past (Issued
 -- ---- live tokens
 
 -- a token that is alive, before its until, is live
-live_now : (rules : Setup) (past : List Event) (chain : List Text) (n : ℕ) (t : TokenNote) → IsLegalPast rules past → IsAlive (trail_of past) chain t → n < t.until → is_live (trail_of past) n t ≡ true
+live_now : (rules : Setup) (past : List Event) (chain : List Text) (n : ℕ) (t : TokenNote) → IsLegalPast rules past → IsAlive (trail_of past) chain t
+    → n < t.until → is_live (trail_of past) n t ≡ true
 live_now rules past chain n t legal alive low =
     and_from (not (list_any (is_retirement t.serial) (trail_of past)) && nat_lt n t.until) (is_approved (grant_state (trail_of past) t.grant n))
     (and_from (not (list_any (is_retirement t.serial) (trail_of past))) (nat_lt n t.until) (ap not alive.kept) (lt-ltb n t.until low))
-    (ap is_approved (ap (λ b. if b || has_ended (first_of (opening_in t.grant) (trail_of past)) n then IsFinalized else state_after (first_of (state_change_in t.grant) (trail_of past)) n) alive.unended
-    ∙ ap (λ b. if b then IsFinalized else state_after (first_of (state_change_in t.grant) (trail_of past)) n) (not_past (first_of (opening_in t.grant) (trail_of past)) refl)
+    (ap is_approved (ap (λ b. if b || has_ended (first_of (opening_in t.grant) (trail_of past)) n then IsFinalized else state_after
+    (first_of (state_change_in t.grant) (trail_of past)) n) alive.unended
+    ∙ ap (λ b. if b then IsFinalized else state_after (first_of (state_change_in t.grant) (trail_of past)) n)
+    (not_past (first_of (opening_in t.grant) (trail_of past)) refl)
     ∙ ap (λ r. state_after r n) alive.approved))
   where
     not_past : (r : Option OpeningNote) → first_of (opening_in t.grant) (trail_of past) ≡ r → has_ended r n ≡ false
@@ -289,7 +336,8 @@ live_now rules past chain n t legal alive low =
 
 -- a token of the list of entries with the value, that passes the test, before its until, and not ended in the whole
 abbrev pub Comes : List Event → ℕ → Text → (TokenOut → Bool) → List Event → Type 0
-Comes whole n v test past = (p : ℕ) × (t : TokenNote) × IssuedAt past p t × (t.value ≡ v) × (test (token_out 0 t) ≡ true) × (n < t.until) × (is_ended t.manage (origin_of whole t.manage) p whole ≡ false)
+Comes whole n v test past = (p : ℕ) × (t : TokenNote) × IssuedAt past p t × (t.value ≡ v) × (test (token_out 0 t) ≡ true) × (n < t.until)
+    × (is_ended t.manage (origin_of whole t.manage) p whole ≡ false)
 
 -- the test doesn't look at the time
 abbrev pub IsTimeless : (TokenOut → Bool) → Type 0
@@ -300,9 +348,11 @@ now_more [] m = omega arith
 now_more (e ∷ past) m = omega arith
 
 -- what the entry e hands out comes, by the notes
-entry_comes : (rules : Setup) (whole past : List Event) (e : Event) (n : ℕ) (v : Text) (test : TokenOut → Bool) → IsNext rules past e → IsTimeless test → now_at past e.moment ≤ n
+entry_comes : (rules : Setup) (whole past : List Event) (e : Event) (n : ℕ) (v : Text) (test : TokenOut → Bool) → IsNext rules past e → IsTimeless test
+    → now_at past e.moment ≤ n
     → Decides (list_any (λ t. same_text t.value v && test t && has_come whole n past e t) (handed_tokens e.reply))
-    ((t : TokenNote) × HasNote e.notes (Issued t) × (t.value ≡ v) × (test (token_out 0 t) ≡ true) × (n < t.until) × (is_ended t.manage (origin_of whole t.manage) (length past) whole ≡ false))
+    ((t : TokenNote) × HasNote e.notes (Issued t) × (t.value ≡ v) × (test (token_out 0 t) ≡ true) × (n < t.until)
+    × (is_ended t.manage (origin_of whole t.manage) (length past) whole ≡ false))
 entry_comes rules whole past e n v test next timeless low =
     let supply = supply_at past e.moment e.draw in
     let why = chosen rules past e next in
@@ -314,7 +364,8 @@ entry_comes rules whole past e n v test next timeless low =
           let t = r.0 in
           let top = and_parts (same_text t.value v && test (token_out supply.now t)) (has_come whole n past e (token_out supply.now t)) r.2 in
           let ab = and_parts (same_text t.value v) (test (token_out supply.now t)) top.0 in
-          let cd = and_parts (nat_lt n (now_at past e.moment + (t.until - supply.now))) (not (is_ended t.manage (origin_of whole t.manage) (length past) whole)) top.1 in
+          let cd = and_parts (nat_lt n (now_at past e.moment + (t.until - supply.now))) (not (is_ended t.manage (origin_of whole t.manage) (length past) whole))
+          top.1 in
           let time : n < now_at past e.moment + (t.until - now_at past e.moment) = (Decides-ltb n (now_at past e.moment + (t.until - supply.now))).0 cd.0 in (
             t,
             subst (λ (ns : List Note). HasNote ns (Issued t)) (sym why.notes) r.1,
@@ -344,10 +395,11 @@ comes rules whole (e ∷ past) n v test legal timeless low =
     let m = now_more past e.moment in
     let here = entry_comes rules whole past e n v test legal.0 timeless (omega arith) in
     let below = comes rules whole past n v test legal.1 timeless (omega arith) in (
-      (λ k. elim (or_cases (list_any (λ t. same_text t.value v && test t && has_come whole n past e t) (handed_tokens e.reply)) (comes_from whole n v test past) k) [
-        | inl a ↦ let r = here.0 a in (length past, r.0, inl (refl, r.1), r.2, r.3, r.4, r.5)
-        | inr b ↦ let r = below.0 b in (r.0, r.1, inr r.2, r.3, r.4, r.5, r.6)
-      ]),
+      (λ k. elim (or_cases (list_any (λ t. same_text t.value v && test t && has_come whole n past e t) (handed_tokens e.reply)) (comes_from whole n v test past)
+          k) [
+            | inl a ↦ let r = here.0 a in (length past, r.0, inl (refl, r.1), r.2, r.3, r.4, r.5)
+            | inr b ↦ let r = below.0 b in (r.0, r.1, inr r.2, r.3, r.4, r.5, r.6)
+          ]),
       (λ g. elim g.2 [
         | inl a ↦ or_left (list_any (λ t. same_text t.value v && test t && has_come whole n past e t) (handed_tokens e.reply)) (comes_from whole n v test past)
             (here.1 (g.1, a.1, g.3, g.4, g.5, subst (λ (q : ℕ). is_ended g.1.manage (origin_of whole g.1.manage) q whole ≡ false) a.0 g.6))
@@ -362,21 +414,34 @@ Lives trail n v test = (t : TokenNote) × HasNote trail (Issued t) × (t.value �
 
 until_of : (trail : List Note) (n : ℕ) (t : TokenNote) → is_live trail n t ≡ true → n < t.until
 until_of trail n t h =
-    (Decides-ltb n t.until).0 (and_parts (not (list_any (is_retirement t.serial) trail)) (nat_lt n t.until) (and_parts (not (list_any (is_retirement t.serial) trail) && nat_lt n t.until) (is_approved (grant_state trail t.grant n)) h).0).1
+    (Decides-ltb n t.until).0 (and_parts (not (list_any (is_retirement t.serial) trail)) (nat_lt n t.until)
+    (and_parts (not (list_any (is_retirement t.serial) trail) && nat_lt n t.until) (is_approved (grant_state trail t.grant n)) h).0).1
 
-pub came_is_live : (rules : Setup) (past : List Event) (n : ℕ) (v : Text) (test : TokenOut → Bool) → IsLegalPast rules past → IsShort past → IsTimeless test → now_at past 0 ≤ n
+pub came_is_live : (rules : Setup) (past : List Event) (n : ℕ) (v : Text) (test : TokenOut → Bool) → IsLegalPast rules past → IsShort past → IsTimeless test
+    → now_at past 0 ≤ n
     → Decides (came past n v test) (Lives (trail_of past) n v test)
 came_is_live rules past n v test legal short timeless low =
     let c = comes rules past past n v test legal timeless low in (
       (λ k. let r = c.0 k in alive r.0 r.1 r.2 r.3 r.4 r.5 r.6 (all_ended_or_alive rules past legal short r.0 r.1 r.2)),
       (λ g.
           let at_p = noted_issued past g.0 g.1 in
-          c.1 (at_p.0, g.0, at_p.1, g.2, g.3, until_of (trail_of past) n g.0 g.4, running at_p.0 g.0 g.4 (all_ended_or_alive rules past legal short at_p.0 g.0 at_p.1))),
+          c.1 (
+            at_p.0,
+            g.0,
+            at_p.1,
+            g.2,
+            g.3,
+            until_of (trail_of past) n g.0 g.4,
+            running at_p.0 g.0 g.4
+                (all_ended_or_alive rules past legal short at_p.0 g.0 at_p.1),
+          )),
     )
   where
-    alive : (p : ℕ) (t : TokenNote) → IssuedAt past p t → t.value ≡ v → test (token_out 0 t) ≡ true → n < t.until → is_ended t.manage (origin_of past t.manage) p past ≡ false → EndedOrAlive past p t → Lives (trail_of past) n v test
+    alive : (p : ℕ) (t : TokenNote) → IssuedAt past p t → t.value ≡ v → test (token_out 0 t) ≡ true → n < t.until
+        → is_ended t.manage (origin_of past t.manage) p past ≡ false → EndedOrAlive past p t → Lives (trail_of past) n v test
     alive p t h value passes until not_ended (inl (ended, over)) = let k = sym not_ended ∙ ended in cc k
-    alive p t h value passes until not_ended (inr (false_end, q_low, living)) = (t, issued_noted past p t h, value, passes, live_now rules past _ n t legal living until)
+    alive p t h value passes until not_ended (inr (false_end, q_low, living)) =
+        (t, issued_noted past p t h, value, passes, live_now rules past _ n t legal living until)
 
     running : (p : ℕ) (t : TokenNote) → is_live (trail_of past) n t ≡ true → EndedOrAlive past p t → is_ended t.manage (origin_of past t.manage) p past ≡ false
     running p t live (inl (ended, over)) = absurd (live_not_over (trail_of past) n t live over)
@@ -397,9 +462,11 @@ first_has {B} look (m ∷ ns) n y (inr b) e k = first_has look ns n y b e (rest 
     rest None r q = q
     rest (Some x) r q = cc q
 
-told : (rules : Setup) (past : List Event) (supply : Supply) (n : ℕ) (server value : Text) (binding : Option Binding) (wanted : Option (List Right)) (found : Option TokenNote) → IsLegalPast rules past → IsShort past → now_at past 0 ≤ n
+told : (rules : Setup) (past : List Event) (supply : Supply) (n : ℕ) (server value : Text) (binding : Option Binding) (wanted : Option (List Right))
+    (found : Option TokenNote) → IsLegalPast rules past → IsShort past → now_at past 0 ≤ n
     → live_token (trail_of past) n value ≡ found
-    → tells rules past n (Introspect server value binding wanted) (outcome_of supply (show_token (server_names (key_of rules server)) binding wanted found)).reply ≡ true
+    → tells rules past n (Introspect server value binding wanted)
+    (outcome_of supply (show_token (server_names (key_of rules server)) binding wanted found)).reply ≡ true
 told rules past supply n server value binding wanted None legal short low e =
     let test : TokenOut → Bool = λ t. suits (server_names (key_of rules server)) binding wanted t.rights t.bearer in
     let c = came_is_live rules past n value test legal short (λ a b t. refl) low in
@@ -426,20 +493,28 @@ told rules past supply n server value binding wanted (Some t) legal short low e 
     parts = and_parts (same_text t.value value) (is_live (trail_of past) n t) is.1
 
     at : (b : Bool) → suits (server_names (key_of rules server)) binding wanted t.rights t.bearer ≡ b
-        → tells rules past n (Introspect server value binding wanted) (outcome_of supply (show_token (server_names (key_of rules server)) binding wanted (Some t))).reply ≡ true
-    at true s = rw s ((came_is_live rules past n value (λ x. suits (server_names (key_of rules server)) binding wanted x.rights x.bearer) legal short (λ a b x. refl) low).1
+        → tells rules past n (Introspect server value binding wanted)
+        (outcome_of supply (show_token (server_names (key_of rules server)) binding wanted (Some t))).reply ≡ true
+    at true s = rw s ((came_is_live rules past n value (λ x. suits (server_names (key_of rules server)) binding wanted x.rights x.bearer) legal short
+        (λ a b x. refl) low).1
         (t, there, (bytes_eq-Decides t.value value).0 parts.0, s, parts.1))
     at false s = rw s (ap not (false_from_ne_true (came past n value (λ x. suits (server_names (key_of rules server)) binding wanted x.rights x.bearer)) (λ k.
-        let l = (came_is_live rules past n value (λ x. suits (server_names (key_of rules server)) binding wanted x.rights x.bearer) legal short (λ a b x. refl) low).0 k in
-        let same : Issued l.0 ≡ Issued t = note_one (trail_of past) (Issued l.0) (Issued t) value (distinct rules past legal short) l.1 there (inr (inl (sym l.2))) (inr (inl (sym ((bytes_eq-Decides t.value value).0 parts.0)))) in
+        let l = (came_is_live rules past n value (λ x. suits (server_names (key_of rules server)) binding wanted x.rights x.bearer) legal short (λ a b x. refl)
+        low).0 k in
+        let same : Issued l.0 ≡ Issued t = note_one (trail_of past) (Issued l.0) (Issued t) value (distinct rules past legal short) l.1 there
+        (inr (inl (sym l.2))) (inr (inl (sym ((bytes_eq-Decides t.value value).0 parts.0)))) in
         let u : l.0 ≡ t = cc same in
-        let yes : suits (server_names (key_of rules server)) binding wanted t.rights t.bearer ≡ true = subst (λ (x : TokenNote). suits (server_names (key_of rules server)) binding wanted x.rights x.bearer ≡ true) u l.3 in
+        let yes : suits (server_names (key_of rules server)) binding wanted t.rights t.bearer
+        ≡ true = subst (λ (x : TokenNote). suits (server_names (key_of rules server)) binding wanted x.rights x.bearer ≡ true) u l.3 in
         both_ways (suits (server_names (key_of rules server)) binding wanted t.rights t.bearer) s yes)))
 
-told_or_refused : (rules : Setup) (past : List Event) (supply : Supply) (server value : Text) (binding : Option Binding) (wanted : Option (List Right)) (b : Bool) → IsLegalPast rules past → IsShort past → now_at past 0 ≤ supply.now
+told_or_refused : (rules : Setup) (past : List Event) (supply : Supply) (server value : Text) (binding : Option Binding) (wanted : Option (List Right))
+    (b : Bool) → IsLegalPast rules past → IsShort past → now_at past 0 ≤ supply.now
     → tells rules past supply.now (Introspect server value binding wanted)
-    (outcome_of supply (if b then show_token (server_names (key_of rules server)) binding wanted (live_token (trail_of past) supply.now value) else Refuse InvalidAccess)).reply ≡ true
-told_or_refused rules past supply server value binding wanted true legal short low = told rules past supply supply.now server value binding wanted (live_token (trail_of past) supply.now value) legal short low refl
+    (outcome_of supply (if b then show_token (server_names (key_of rules server)) binding wanted (live_token (trail_of past) supply.now value) else Refuse
+    InvalidAccess)).reply ≡ true
+told_or_refused rules past supply server value binding wanted true legal short low = told rules past supply supply.now server value binding wanted
+    (live_token (trail_of past) supply.now value) legal short low refl
 told_or_refused rules past supply server value binding wanted false legal short low = refl
 
 tells_call : (rules : Setup) (past : List Event) (supply : Supply) (call : Call) → IsLegalPast rules past → IsShort past → now_at past 0 ≤ supply.now
@@ -454,5 +529,6 @@ tells_right rules [] legal short = refl
 tells_right rules (e ∷ past) legal short =
     let supply = supply_at past e.moment e.draw in
     and_from (tells rules past (now_at past e.moment) e.call e.reply) (tells_all rules past)
-    (ap (tells rules past (now_at past e.moment) e.call) legal.0.reply ∙ tells_call rules past supply e.call legal.1 (short_before e past short) (now_more past e.moment))
+    (ap (tells rules past (now_at past e.moment) e.call) legal.0.reply
+    ∙ tells_call rules past supply e.call legal.1 (short_before e past short) (now_more past e.moment))
     (tells_right rules past legal.1 (short_before e past short))

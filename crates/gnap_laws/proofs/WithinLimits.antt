@@ -21,7 +21,8 @@ past_pending rules [] legal = λ t r h e. absurd h
 past_pending rules (e ∷ past) legal =
     let why = chosen rules past e legal.0 in
     subst (λ (ns : List Note). PendingRetires (reverse ns ++ trail_of past)) (sym why.notes)
-    (pending_after (supply_at past e.moment e.draw) (trail_of past) e.call why.action (past_sound rules past legal.1) (past_pending rules past legal.1) why.cause)
+    (pending_after (supply_at past e.moment e.draw) (trail_of past) e.call why.action (past_sound rules past legal.1) (past_pending rules past legal.1)
+    why.cause)
 
 now_at-least : (past : List Event) (moment : ℕ) → now_at past 0 ≤ now_at past moment
 now_at-least [] moment = omega arith

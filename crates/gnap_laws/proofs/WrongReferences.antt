@@ -44,13 +44,16 @@ wrongs_more g (n ∷ ns) trail =
 
 -- a grant that the action does not end has few wrong references after it
 few_after : (supply : Supply) (trail : List Note) (action : Action) (g : ℕ) → HasRoom trail supply.now action → wrongs_of trail g < wrong_limit
-    → list_any (is_end_of g) (outcome_of supply action).notes ≡ false → count_by (is_wrong_of g) (outcome_of supply action).notes + wrongs_of trail g < wrong_limit
+    → list_any (is_end_of g) (outcome_of supply action).notes ≡ false
+    → count_by (is_wrong_of g) (outcome_of supply action).notes + wrongs_of trail g < wrong_limit
 few_after supply trail (OpenAtOnce o request) g room few goes_on =
-    let k = grant_skipped (is_wrong_of g) supply o (Opened o ∷ Terms (terms_for o request) ∷ Approved o.grant [] ∷ []) request.asks request.single None (instance_of o) (skips g) in omega arith
+    let k = grant_skipped (is_wrong_of g) supply o (Opened o ∷ Terms (terms_for o request) ∷ Approved o.grant [] ∷ []) request.asks request.single None
+    (instance_of o) (skips g) in omega arith
 few_after supply trail (OpenAsking o request modes) g room few goes_on =
     let k = pend_skipped (is_wrong_of g) supply o (Opened o ∷ Terms (terms_for o request) ∷ []) modes (instance_of o) (skips g) in omega arith
 few_after supply trail (CollectDecision o w d asks) g room few goes_on =
-    let k = grant_skipped (is_wrong_of g) supply o (Approved o.grant d.rights ∷ []) asks w.single (if w.subject then d.subject else None) None (skips g) in omega arith
+    let k = grant_skipped (is_wrong_of g) supply o (Approved o.grant d.rights ∷ []) asks w.single (if w.subject then d.subject else None) None (skips g) in
+    omega arith
 few_after supply trail (WrongReference o) g room few goes_on = at (o.grant == g) refl
   where
     at : (b : Bool) → (o.grant == g) ≡ b → count_by (is_wrong_of g) (Wrong o.grant ∷ []) + wrongs_of trail g < wrong_limit
@@ -74,25 +77,30 @@ few_after supply trail _ g room few goes_on = omega arith
 
 -- ---- histories
 
-few_wrongs : (rules : Setup) (past : List Event) (g : ℕ) → IsLegalPast rules past → list_any (is_end_of g) (trail_of past) ≡ false → wrongs_of (trail_of past) g < wrong_limit
+few_wrongs : (rules : Setup) (past : List Event) (g : ℕ) → IsLegalPast rules past → list_any (is_end_of g) (trail_of past) ≡ false
+    → wrongs_of (trail_of past) g < wrong_limit
 few_wrongs rules [] g legal goes_on = omega arith
 few_wrongs rules (e ∷ past) g legal goes_on =
     let trail = trail_of past in
     let supply = supply_at past e.moment e.draw in
     let chosen = chosen_with_room rules past e legal.0 in
     let why = chosen.why in
-    let ends = or_parts (list_any (is_end_of g) (reverse e.notes)) (list_any (is_end_of g) trail) (sym (list_any-append (is_end_of g) (reverse e.notes) trail) ∙ goes_on) in
+    let ends = or_parts (list_any (is_end_of g) (reverse e.notes)) (list_any (is_end_of g) trail)
+    (sym (list_any-append (is_end_of g) (reverse e.notes) trail) ∙ goes_on) in
     let before = few_wrongs rules past g legal.1 ends.1 in
-    let here : list_any (is_end_of g) (outcome_of supply why.action).notes ≡ false = ap (list_any (is_end_of g)) (sym why.notes) ∙ sym (any-reverse (is_end_of g) e.notes) ∙ ends.0 in
+    let here : list_any (is_end_of g) (outcome_of supply why.action).notes ≡ false = ap (list_any (is_end_of g)) (sym why.notes)
+    ∙ sym (any-reverse (is_end_of g) e.notes) ∙ ends.0 in
     let few = few_after supply trail why.action g chosen.room before here in
-    let same : count_by (is_wrong_of g) (reverse e.notes) ≡ count_by (is_wrong_of g) (outcome_of supply why.action).notes = count-reverse (is_wrong_of g) e.notes ∙ ap (count_by (is_wrong_of g)) why.notes in
+    let same : count_by (is_wrong_of g) (reverse e.notes)
+    ≡ count_by (is_wrong_of g) (outcome_of supply why.action).notes = count-reverse (is_wrong_of g) e.notes ∙ ap (count_by (is_wrong_of g)) why.notes in
     let more = wrongs_more g (reverse e.notes) trail in omega arith
 
 -- a grant that a note ended is not pending
 pending_unended : (trail : List Note) (g now : ℕ) (round : RoundNote) → grant_state trail g now ≡ IsPending round → list_any (is_end_of g) trail ≡ false
 pending_unended trail g now round = at (list_any (is_end_of g) trail)
   where
-    at : (b : Bool) → (if b || has_ended (first_of (opening_in g) trail) now then IsFinalized else state_after (first_of (state_change_in g) trail) now) ≡ IsPending round → b ≡ false
+    at : (b : Bool) → (if b || has_ended (first_of (opening_in g) trail) now then IsFinalized else state_after (first_of (state_change_in g) trail) now)
+        ≡ IsPending round → b ≡ false
     at true e = cc e
     at false e = refl
 
@@ -102,7 +110,8 @@ pending_few : (rules : Setup) (past : List Event) (g now : ℕ) (round : RoundNo
 pending_few rules past g now round legal pending = few_wrongs rules past g legal (pending_unended (trail_of past) g now round pending)
 
 -- The same of a history.
-pub history_few : (rules : Setup) (h : List Event) (g now : ℕ) (round : RoundNote) → Legal grant_law rules h → grant_state (reverse (notes_of h)) g now ≡ IsPending round
+pub history_few : (rules : Setup) (h : List Event) (g now : ℕ) (round : RoundNote) → Legal grant_law rules h
+    → grant_state (reverse (notes_of h)) g now ≡ IsPending round
     → wrongs_of (reverse (notes_of h)) g < wrong_limit
 history_few rules h g now round legal pending =
     subst (λ (trail : List Note). wrongs_of trail g < wrong_limit) (trail-back h)

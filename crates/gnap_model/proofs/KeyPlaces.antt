@@ -39,7 +39,8 @@ place_more (x ∷ rows) (suc i) row q at = rw (place_more rows i row q at) (by (
 
     by : (c d : Bool) → same_text x.id q ≡ c → same_text row.id q ≡ d
         → cond c (Some 0) (option_map suc (cond d (Some (unwrap_or before i)) (place_of (take i rows) q)))
-        ≡ cond d (Some (unwrap_or (cond (same_text x.id row.id) (Some 0) (option_map suc before)) (suc i))) (cond c (Some 0) (option_map suc (place_of (take i rows) q)))
+        ≡ cond d (Some (unwrap_or (cond (same_text x.id row.id) (Some 0) (option_map suc before)) (suc i)))
+        (cond c (Some 0) (option_map suc (place_of (take i rows) q)))
     by true true c d = at_row true (ap (same_text x.id) (same_is row.id q d) ∙ c) c d
     by false true c d = at_row false (ap (same_text x.id) (same_is row.id q d) ∙ c) c d
     by true false c d = refl
@@ -108,7 +109,8 @@ module _ {X : Type 0} where
       by : (b : Bool) → same_text text q ≡ b
           → get_by (λ key. slice_cmp nat_cmp q key.items) new ≡ cond b value (get_by (λ key. slice_cmp nat_cmp q key.items) old)
       by true t = sym (ap (λ (p : Text). get_by (λ key. slice_cmp nat_cmp p key.items) new) (same_is text q t)) ∙ updates.1
-      by false t = others (eq_by_cmp (λ (a b : Vec ℕ). slice_cmp nat_cmp a.items b.items)) (is_at (λ (key : Vec ℕ). slice_cmp nat_cmp text key.items)) old.entries new.entries updates.3
+      by false t = others (eq_by_cmp (λ (a b : Vec ℕ). slice_cmp nat_cmp a.items b.items)) (is_at (λ (key : Vec ℕ). slice_cmp nat_cmp text key.items))
+          old.entries new.entries updates.3
           (λ key. is_eq (slice_cmp nat_cmp q key.items)) (λ a b. (eq_by_cmp_equiv nat_list_cmp_total).congr q a.items b.items) (λ key. apart key.items t)
 
 -- an id whose place wasn't noted

@@ -30,8 +30,10 @@ note-append_left (x ∷ xs) ys n (inr h) = inr (note-append_left xs ys n h)
 
 pub note-reverse : (xs : List Note) (n : Note) → HasNote xs n → HasNote (reverse xs) n
 note-reverse [] n h = absurd h
-note-reverse (x ∷ xs) n (inl e) = subst (λ (ns : List Note). HasNote ns n) (sym (reverse-append (x ∷ []) xs)) (note-append_right (reverse xs) (x ∷ []) n (inl e))
-note-reverse (x ∷ xs) n (inr h) = subst (λ (ns : List Note). HasNote ns n) (sym (reverse-append (x ∷ []) xs)) (note-append_left (reverse xs) (x ∷ []) n (note-reverse xs n h))
+note-reverse (x ∷ xs) n (inl e) = subst (λ (ns : List Note). HasNote ns n) (sym (reverse-append (x ∷ []) xs))
+    (note-append_right (reverse xs) (x ∷ []) n (inl e))
+note-reverse (x ∷ xs) n (inr h) = subst (λ (ns : List Note). HasNote ns n) (sym (reverse-append (x ∷ []) xs))
+    (note-append_left (reverse xs) (x ∷ []) n (note-reverse xs n h))
 
 -- ---- a fact of each note
 
@@ -72,7 +74,8 @@ any_noted test (n ∷ ns) e = elim (or_cases (test n) (list_any test ns) e) [
   | inr b ↦ let r = any_noted test ns b in (r.0, inr r.1, r.2)
 ]
 
-pub opening_noted : (trail : List Note) (grant : ℕ) (o : OpeningNote) → first_of (opening_in grant) trail ≡ Some o → HasNote trail (Opened o) × (o.grant ≡ grant)
+pub opening_noted : (trail : List Note) (grant : ℕ) (o : OpeningNote) → first_of (opening_in grant) trail ≡ Some o
+    → HasNote trail (Opened o) × (o.grant ≡ grant)
 opening_noted trail grant o e = let r = first_noted (opening_in grant) trail o e in at r.0 r.1 r.2
   where
     at : (n : Note) → HasNote trail n → opening_in grant n ≡ Some o → HasNote trail (Opened o) × (o.grant ≡ grant)
@@ -100,7 +103,8 @@ door_noted trail grant v e = let r = first_noted (door_in grant) trail v e in at
     at _ k h = cc h
 
 -- the round that a grant is pending in
-pub round_noted : (trail : List Note) (grant : ℕ) (r : RoundNote) → first_of (state_change_in grant) trail ≡ Some (ToPending r) → HasNote trail (Pended r) × (r.grant ≡ grant)
+pub round_noted : (trail : List Note) (grant : ℕ) (r : RoundNote) → first_of (state_change_in grant) trail ≡ Some (ToPending r)
+    → HasNote trail (Pended r) × (r.grant ≡ grant)
 round_noted trail grant r e = let f = first_noted (state_change_in grant) trail (ToPending r) e in at f.0 f.1 f.2
   where
     at : (n : Note) → HasNote trail n → state_change_in grant n ≡ Some (ToPending r) → HasNote trail (Pended r) × (r.grant ≡ grant)
@@ -112,7 +116,8 @@ round_noted trail grant r e = let f = first_noted (state_change_in grant) trail 
     at _ k h = cc h
 
 -- what a grant that is pending became last
-pending_change : (ended : Bool) (change : Option StateChange) (now : ℕ) (r : RoundNote) → (if ended then IsFinalized else state_after change now) ≡ IsPending r → change ≡ Some (ToPending r)
+pending_change : (ended : Bool) (change : Option StateChange) (now : ℕ) (r : RoundNote) → (if ended then IsFinalized else state_after change now) ≡ IsPending r
+    → change ≡ Some (ToPending r)
 pending_change true change now r e = cc e
 pending_change false None now r e = cc e
 pending_change false (Some ToApproved) now r e = cc e
@@ -122,8 +127,10 @@ pending_change false (Some (ToPending q)) now r e = at (nat_le q.over now) e
     at true h = cc h
     at false h = let same : q ≡ r = cc h in ap (λ (x : RoundNote). Some (ToPending x)) same
 
-pub round_change : (trail : List Note) (g now : ℕ) (r : RoundNote) → grant_state trail g now ≡ IsPending r → first_of (state_change_in g) trail ≡ Some (ToPending r)
-round_change trail g now r e = pending_change (list_any (is_end_of g) trail || has_ended (first_of (opening_in g) trail) now) (first_of (state_change_in g) trail) now r e
+pub round_change : (trail : List Note) (g now : ℕ) (r : RoundNote) → grant_state trail g now ≡ IsPending r
+    → first_of (state_change_in g) trail ≡ Some (ToPending r)
+round_change trail g now r e = pending_change (list_any (is_end_of g) trail || has_ended (first_of (opening_in g) trail) now)
+    (first_of (state_change_in g) trail) now r e
 
 pub pending_grant : (trail : List Note) (g now : ℕ) (r : RoundNote) → grant_state trail g now ≡ IsPending r → r.grant ≡ g
 pending_grant trail g now r e = (round_noted trail g r (round_change trail g now r e)).1
@@ -163,7 +170,8 @@ managed_issued trail now v t e =
 -- ---- a note that stands there is found
 
 -- a look-up that finds something in a note of the list finds something
-pub found_in : {B : Type 0} (look : Note → Option B) (ns : List Note) (n : Note) (y : B) → HasNote ns n → look n ≡ Some y → (z : B) × (first_of look ns ≡ Some z)
+pub found_in : {B : Type 0} (look : Note → Option B) (ns : List Note) (n : Note) (y : B) → HasNote ns n → look n ≡ Some y
+    → (z : B) × (first_of look ns ≡ Some z)
 found_in look [] n y h e = absurd h
 found_in {B} look (m ∷ ns) n y (inl same) e =
     let here : look m ≡ Some y = subst (λ k. look k ≡ Some y) same e in (y, rw here refl)
@@ -176,5 +184,6 @@ found_in {B} look (m ∷ ns) n y (inr h) e = at (look m) (found_in look ns n y h
 pub some_if_same : {A : Type 0} (g h : ℕ) (x : A) → g ≡ h → some_if (g == h) x ≡ Some x
 some_if_same g h x e = let same : (g == h) ≡ true = (Decides-eqb g h).1 e in rw same refl
 
-pub opened_found : (trail : List Note) (o : OpeningNote) (g : ℕ) → HasNote trail (Opened o) → o.grant ≡ g → (p : OpeningNote) × (first_of (opening_in g) trail ≡ Some p)
+pub opened_found : (trail : List Note) (o : OpeningNote) (g : ℕ) → HasNote trail (Opened o) → o.grant ≡ g
+    → (p : OpeningNote) × (first_of (opening_in g) trail ≡ Some p)
 opened_found trail o g h e = found_in (opening_in g) trail (Opened o) o h (some_if_same o.grant g o e)

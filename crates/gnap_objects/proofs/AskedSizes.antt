@@ -9,7 +9,8 @@ use Rattle.gnap_model.specs.declared.rights.Right.{Right}
 use Rattle.gnap_model.specs.Asked.{asked_rights}
 use Rattle.access_rights.specs.Printing.{right_data}
 
-items_size-append : (xs ys : List Right) → items_size (items (map right_data (xs ++ ys))) ≡ items_size (items (map right_data xs)) + items_size (items (map right_data ys))
+items_size-append : (xs ys : List Right)
+    → items_size (items (map right_data (xs ++ ys))) ≡ items_size (items (map right_data xs)) + items_size (items (map right_data ys))
 items_size-append [] ys = omega arith
 items_size-append (x ∷ xs) ys = let r = items_size-append xs ys in omega (arith, r)
 

@@ -47,7 +47,16 @@ grant_body_of modify d = do
   modes ← interact_of d
   small ← checked_size tokens
   Ok (record {
-    request = record { asks = tokens.asks; single = tokens.single; subject = subject; client = client.id; by_object = client.by_object; user = user; modes = modes };
+    request = record {
+      asks = tokens.asks;
+      single = tokens.single;
+      subject = subject;
+      client = client.id;
+      by_object = client.by_object;
+      user = user;
+      modes =
+          modes;
+    };
     repeats_flag = tokens.repeats_flag;
   })
 

@@ -9,6 +9,8 @@ ghost use Rattle.gnap_objects.specs.Introspections.{introspection_of};
 ghost use Rattle.gnap_objects.specs.UserCodes.{user_code_of};
 ghost use Rattle.gnap_objects.specs.Decisions.{handle_of, decide_request_of};
 ghost use Rattle.gnap_objects.specs.CallReading.{is_caller, stranger, IsReadable, body_in, begin_by, modify_by, continue_by, rotate_by, introspect_by, look_by, find_code_by, decide_by, caller_call, call_of, MachineTakes, IsTaken, IsCallOf, no_call};
+ghost use Rattle.gnap_model.specs.declared.calls.Call.TheVariants as calls;
+ghost use Rattle.gnap_objects.specs.declared.call_reading.CallOrRefusal.TheVariants.{Accepted};
 ghost use Rattle.gnap_objects.specs.declared.call_reading.NoCall.TheVariants.{OutOfMemory};
 
 use crate::continuations::{read_continue, read_rotate};
@@ -158,6 +160,15 @@ fn begin_by(alloc: Global, key: &[u8], body: &Value) -> Result<Call, NoCall>
     })
 }
 
+// Copies of the id of the key that calls, and of the value that it presents.
+fn key_and_value(alloc: Global, key: &[u8], value: &[u8]) -> Result<(Bytes, Bytes), Mem>
+    ensures { IfOk result (λ both. both ≡ (key.now, value.now)) }
+{
+    let key = Bytes::from_slice(alloc, key)?;
+    let value = Bytes::from_slice(alloc, value)?;
+    Ok((key, value))
+}
+
 fn modify_by(alloc: Global, key: &[u8], value: &[u8], body: &Value) -> Result<Call, NoCall>
     requires key { IsUtf8 key.now }
     requires body { IsBody (view body.now) }
@@ -168,8 +179,7 @@ fn modify_by(alloc: Global, key: &[u8], value: &[u8], body: &Value) -> Result<Ca
     if wanted.repeats_flag {
         return Err(NoCall::Refused(ErrorCode::InvalidFlag));
     }
-    let key = Bytes::from_slice(alloc, key)?;
-    let value = Bytes::from_slice(alloc, value)?;
+    let (key, value) = key_and_value(alloc, key, value)?;
     Ok(Call::Modify {
         key,
         value,
@@ -188,13 +198,21 @@ fn continue_by(
     ensures taken { IfOk result MachineTakes }
 {
     let request = read_continue(alloc, body)?;
-    let key = Bytes::from_slice(alloc, key)?;
-    let value = Bytes::from_slice(alloc, value)?;
+    let (key, value) = key_and_value(alloc, key, value)?;
     Ok(Call::Continue {
         key,
         value,
         reference: request.reference,
     })
+}
+
+fn cancel_by(alloc: Global, key: &[u8], value: &[u8]) -> Result<Call, NoCall>
+    requires { IsUtf8 key.now }
+    ensures call { IsCallOf result (Accepted (calls.Cancel key.now value.now)) }
+    ensures taken { IfOk result MachineTakes }
+{
+    let (key, value) = key_and_value(alloc, key, value)?;
+    Ok(Call::Cancel { key, value })
 }
 
 fn rotate_by(alloc: Global, key: &[u8], value: &[u8], body: Option<&Value>) -> Result<Call, NoCall>
@@ -203,13 +221,21 @@ fn rotate_by(alloc: Global, key: &[u8], value: &[u8], body: Option<&Value>) -> R
     ensures taken { IfOk result MachineTakes }
 {
     let new_key = read_rotate(alloc, body)?;
-    let key = Bytes::from_slice(alloc, key)?;
-    let value = Bytes::from_slice(alloc, value)?;
+    let (key, value) = key_and_value(alloc, key, value)?;
     Ok(Call::Rotate {
         key,
         value,
         new_key,
     })
+}
+
+fn revoke_by(alloc: Global, key: &[u8], value: &[u8]) -> Result<Call, NoCall>
+    requires { IsUtf8 key.now }
+    ensures call { IsCallOf result (Accepted (calls.Revoke key.now value.now)) }
+    ensures taken { IfOk result MachineTakes }
+{
+    let (key, value) = key_and_value(alloc, key, value)?;
+    Ok(Call::Revoke { key, value })
 }
 
 fn introspect_by(alloc: Global, key: &[u8], body: &Value) -> Result<Call, NoCall>
@@ -280,16 +306,10 @@ fn caller_call(
         (CallKind::Continue, BodyForm::Absent) => continue_by(alloc, key, value, None),
         (CallKind::Continue, BodyForm::Object(body)) => continue_by(alloc, key, value, Some(body)),
         (CallKind::Modify, BodyForm::Object(body)) => modify_by(alloc, key, value, body),
-        (CallKind::Cancel, _) => Ok(Call::Cancel {
-            key: Bytes::from_slice(alloc, key)?,
-            value: Bytes::from_slice(alloc, value)?,
-        }),
+        (CallKind::Cancel, _) => cancel_by(alloc, key, value),
         (CallKind::Rotate, BodyForm::Absent) => rotate_by(alloc, key, value, None),
         (CallKind::Rotate, BodyForm::Object(body)) => rotate_by(alloc, key, value, Some(body)),
-        (CallKind::Revoke, _) => Ok(Call::Revoke {
-            key: Bytes::from_slice(alloc, key)?,
-            value: Bytes::from_slice(alloc, value)?,
-        }),
+        (CallKind::Revoke, _) => revoke_by(alloc, key, value),
         (CallKind::Introspect, BodyForm::Object(body)) => introspect_by(alloc, key, body),
         (CallKind::Look, BodyForm::Object(body)) => look_by(alloc, key, body),
         (CallKind::FindCode, BodyForm::Object(body)) => find_code_by(alloc, key, body),

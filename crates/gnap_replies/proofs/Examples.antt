@@ -51,7 +51,8 @@ granted : GoesOut (reply.Granted (value 3) (token (codes "photos") 1 None false 
 unfolding digits response_of token_data continue_data interact_data ask_data value_text encode_symbols escape_byte
 granted = refl
 
-labelled : GoesOut (reply.Granted (value 5) (token (codes "photos") 1 (Some (codes "a")) false ∷ token (codes "photos") 3 (Some (codes "b")) true ∷ []) false None (Some (codes "c1"))) 200
+labelled : GoesOut (reply.Granted (value 5) (token (codes "photos") 1 (Some (codes "a")) false ∷ token (codes "photos") 3 (Some (codes "b")) true ∷ []) false
+    None (Some (codes "c1"))) 200
     (Some (codes "{\"access_token\":[{\"access\":[\"photos\"],\"expires_in\":3600,\"label\":\"a\",\"manage\":{\"access_token\":{\"value\":\"AAAAAAAAAAIAAAAAAAAAAAAAAAAAAAAA\"},\"uri\":\"https://as.example/token\"},\"value\":\"AAAAAAAAAAEAAAAAAAAAAAAAAAAAAAAA\"},{\"access\":[\"photos\"],\"expires_in\":3600,\"flags\":[\"bearer\"],\"label\":\"b\",\"manage\":{\"access_token\":{\"value\":\"AAAAAAAAAAQAAAAAAAAAAAAAAAAAAAAA\"},\"uri\":\"https://as.example/token\"},\"value\":\"AAAAAAAAAAMAAAAAAAAAAAAAAAAAAAAA\"}],\"continue\":{\"access_token\":{\"value\":\"AAAAAAAAAAUAAAAAAAAAAAAAAAAAAAAA\"},\"uri\":\"https://as.example/continue\",\"wait\":5},\"instance_id\":\"c1\"}"))
 unfolding digits response_of token_data continue_data interact_data ask_data value_text encode_symbols escape_byte
 labelled = refl

@@ -52,10 +52,16 @@ offered_whole : (offered : Bool) (d : Data) → has_float d ≡ false → IsWhol
 offered_whole true d whole = whole
 offered_whole false d whole = tt
 
-interact_whole : (front : List ℕ) (modes : Modes) (handle code nonce : List ℕ) (expires_in : ℕ) → has_float (interact_data front modes handle code nonce expires_in) ≡ false
+interact_whole : (front : List ℕ) (modes : Modes) (handle code nonce : List ℕ) (expires_in : ℕ)
+    → has_float (interact_data front modes handle code nonce expires_in) ≡ false
 unfolding interact_data
-interact_whole front modes handle code nonce expires_in = onto_whole no_members (interact_fields front modes handle code nonce expires_in) refl
-    (refl, (offered_whole (is_some modes.finish) _ refl, (offered_whole modes.redirect _ refl, (offered_whole modes.user_code _ refl, (offered_whole modes.user_code_uri _ refl, tt)))))
+interact_whole front modes handle code nonce expires_in = onto_whole no_members (interact_fields front modes handle code nonce expires_in) refl (
+  refl,
+  (
+    offered_whole (is_some modes.finish) _ refl,
+    (offered_whole modes.redirect _ refl, (offered_whole modes.user_code _ refl, (offered_whole modes.user_code_uri _ refl, tt))),
+  ),
+)
 
 ask_whole : (ask : Ask) → AskFits ask → has_float (ask_data ask) ≡ false
 unfolding ask_data
@@ -79,7 +85,8 @@ key_whole false instance = refl
 
 reply_whole : (setup : Setup) (r : Reply) → ReplyFits r → IsWhole (response_of setup r).body
 unfolding response_of
-reply_whole setup (reply.Granted door tokens single subject instance) fits = onto_whole no_members (granted_fields setup.base door tokens single subject instance) refl
+reply_whole setup (reply.Granted door tokens single subject instance) fits = onto_whole no_members
+    (granted_fields setup.base door tokens single subject instance) refl
     (tokens_whole setup.base single tokens fits.1, (continue_whole setup.base door, (text_whole instance, (subject_whole subject, tt))))
 reply_whole setup (reply.Pending door modes handle code nonce expires_in instance) fits =
     let interact = interact_data setup.front modes handle code nonce expires_in in

@@ -1,3 +1,4 @@
+pub mod Drafts
 pub mod Endpoints
 pub mod Tokens
 pub mod Grants

@@ -1,16 +1,16 @@
 //! What the authorization server says of itself.
-ghost use Rattle.std.specs.Prelude.{◌≡◌, ◌++◌, Some, IfOk, OnOk, IsUtf8, map};
-ghost use Rattle.serde_json.specs.Data.{string};
-ghost use Rattle.serde_json.specs.View.{view, members_view};
+ghost use Rattle.std.specs.Prelude.{◌≡◌, IfOk, IsUtf8, map};
+ghost use Rattle.serde_json.specs.View.{view};
 ghost use Rattle.serde_json.specs.Written.{compact_text};
-ghost use Rattle.json_objects.specs.Objects.{texts_data, with_member};
+ghost use Rattle.json_objects.specs.Objects.{texts_data};
 ghost use Rattle.gnap_replies.specs.Discovery.{client_discovery, server_discovery};
 
+use crate::drafts::{Draft, word_value};
 use crate::endpoints::place_value;
 use bytes_and_lists::bytes::Bytes;
 use bytes_and_lists::memory::Mem;
-use json_objects::{compact_text, put};
-use serde_json::{Map, Value};
+use json_objects::compact_text;
+use serde_json::Value;
 use std::alloc::Global;
 
 fn words_value(alloc: Global, words: &[&str]) -> Result<Value, Mem>
@@ -18,25 +18,9 @@ fn words_value(alloc: Global, words: &[&str]) -> Result<Value, Mem>
 {
     let mut items = Vec::new(alloc);
     for word in words {
-        items.push(Value::try_from_str(alloc, *word)?)?;
+        items.push(word_value(alloc, *word)?)?;
     }
     Ok(Value::Array(items))
-}
-
-// Places the member that is the place with this path below the address.
-fn put_place(
-    map: &mut Map<String, Value>,
-    alloc: Global,
-    name: &str,
-    address: &[u8],
-    path: &str,
-) -> Result<(), Mem>
-    requires { IsUtf8 address.now }
-    ensures { OnOk result (members_view map.new.entries
-        ≡ with_member name.now (Some (string (address.now ++ path.now))) (members_view map.old.entries)) }
-{
-    let place = place_value(alloc, address, path)?;
-    put(map, alloc, name, Some(place))
 }
 
 #[tactic(auto, unfolding(crate::specs::Discovery::client_discovery))]
@@ -44,33 +28,20 @@ fn client_discovery_value(alloc: Global, base: &[u8]) -> Result<Value, Mem>
     requires { IsUtf8 base.now }
     ensures { IfOk result (λ v. view v ≡ client_discovery base.now) }
 {
-    let mut map = Map::new(alloc);
-    let formats = words_value(alloc, &["opaque"])?;
-    put(&mut map, alloc, "sub_id_formats_supported", Some(formats))?;
-    put(
-        &mut map,
-        alloc,
-        "key_rotation_supported",
-        Some(Value::Bool(true)),
-    )?;
-    let proofs = words_value(alloc, &["httpsig"])?;
-    put(&mut map, alloc, "key_proofs_supported", Some(proofs))?;
-    let modes = words_value(alloc, &["redirect", "user_code", "user_code_uri"])?;
-    put(
-        &mut map,
-        alloc,
-        "interaction_start_modes_supported",
-        Some(modes),
-    )?;
-    let methods = words_value(alloc, &["redirect", "push"])?;
-    put(
-        &mut map,
-        alloc,
-        "interaction_finish_methods_supported",
-        Some(methods),
-    )?;
-    put_place(&mut map, alloc, "grant_request_endpoint", base, "/gnap")?;
-    Ok(Value::Object(map))
+    Draft::new(alloc)
+        .with("sub_id_formats_supported", words_value(alloc, &["opaque"]))
+        .with_bool("key_rotation_supported", true)
+        .with("key_proofs_supported", words_value(alloc, &["httpsig"]))
+        .with(
+            "interaction_start_modes_supported",
+            words_value(alloc, &["redirect", "user_code", "user_code_uri"]),
+        )
+        .with(
+            "interaction_finish_methods_supported",
+            words_value(alloc, &["redirect", "push"]),
+        )
+        .with("grant_request_endpoint", place_value(alloc, base, "/gnap"))
+        .value()
 }
 
 #[tactic(auto, unfolding(crate::specs::Discovery::server_discovery))]
@@ -78,25 +49,18 @@ fn server_discovery_value(alloc: Global, base: &[u8]) -> Result<Value, Mem>
     requires { IsUtf8 base.now }
     ensures { IfOk result (λ v. view v ≡ server_discovery base.now) }
 {
-    let mut map = Map::new(alloc);
-    put_place(
-        &mut map,
-        alloc,
-        "resource_registration_endpoint",
-        base,
-        "/resource",
-    )?;
-    let proofs = words_value(alloc, &["httpsig"])?;
-    put(&mut map, alloc, "key_proofs_supported", Some(proofs))?;
-    put_place(
-        &mut map,
-        alloc,
-        "introspection_endpoint",
-        base,
-        "/introspect",
-    )?;
-    put_place(&mut map, alloc, "grant_request_endpoint", base, "/gnap")?;
-    Ok(Value::Object(map))
+    Draft::new(alloc)
+        .with(
+            "resource_registration_endpoint",
+            place_value(alloc, base, "/resource"),
+        )
+        .with("key_proofs_supported", words_value(alloc, &["httpsig"]))
+        .with(
+            "introspection_endpoint",
+            place_value(alloc, base, "/introspect"),
+        )
+        .with("grant_request_endpoint", place_value(alloc, base, "/gnap"))
+        .value()
 }
 
 /// The text of the answer to a client that asks what the server can do (RFC 9635, section 9), a compact JSON object.

@@ -2,21 +2,26 @@
 ghost use Rattle.std.specs.Prelude.{◌≡◌, IfOk};
 ghost use Rattle.serde_json.specs.View.{view};
 ghost use Rattle.json_objects.specs.Objects.{object_of};
-ghost use Rattle.gnap_replies.specs.Errors.{error_fields};
+ghost use Rattle.gnap_replies.specs.Errors.{code_fields, error_fields};
 
+use crate::drafts::{Draft, word_value};
 use bytes_and_lists::memory::Mem;
 use gnap_model::objects::ErrorCode;
-use json_objects::put;
-use serde_json::{Map, Value};
+use serde_json::Value;
 use std::alloc::Global;
+
+fn code_value(alloc: Global, code: ErrorCode) -> Result<Value, Mem>
+    ensures { IfOk result (λ v. view v ≡ object_of (code_fields code)) }
+{
+    Draft::new(alloc)
+        .with("code", word_value(alloc, code.text()))
+        .value()
+}
 
 pub fn error_value(alloc: Global, code: ErrorCode) -> Result<Value, Mem>
     ensures { IfOk result (λ v. view v ≡ object_of (error_fields code)) }
 {
-    let mut inner = Map::new(alloc);
-    let text = Value::try_from_str(alloc, code.text())?;
-    put(&mut inner, alloc, "code", Some(text))?;
-    let mut map = Map::new(alloc);
-    put(&mut map, alloc, "error", Some(Value::Object(inner)))?;
-    Ok(Value::Object(map))
+    Draft::new(alloc)
+        .with("error", code_value(alloc, code))
+        .value()
 }

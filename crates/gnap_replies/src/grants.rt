@@ -1,7 +1,7 @@
 //! The replies to a client as JSON (RFC 9635, section 3).
 ghost use Rattle.std.specs.Prelude.{◌≡◌, IfOk, IsUtf8, option_map};
 ghost use Rattle.std.specs.List.{AllByRecursion};
-ghost use Rattle.serde_json.specs.Data.{string};
+ghost use Rattle.serde_json.specs.Data.{string, array, item, no_items};
 ghost use Rattle.serde_json.specs.View.{view};
 ghost use Rattle.json_objects.specs.Objects.{object_of};
 ghost use Rattle.json_objects.specs.Texts.{IsUtf8Or};
@@ -9,14 +9,15 @@ ghost use Rattle.gnap_objects.specs.CallsFit.{TokenFits};
 ghost use Rattle.gnap_replies.specs.Endpoints.{interaction_page};
 ghost use Rattle.gnap_replies.specs.Grants.{continue_data, sub_id_fields, subject_data, granted_fields, where_offered, code_page_fields, interact_data, pending_fields, continuing_fields, rotated_fields};
 
+use crate::drafts::{Draft, lone_value, word_value};
 use crate::endpoints::{interaction_page_value, place_value};
 use crate::tokens::{bare_token_value, token_value, tokens_value};
 use bytes_and_lists::bytes::Bytes;
 use bytes_and_lists::memory::Mem;
 use gnap_model::calls::TokenOut;
 use gnap_model::objects::Modes;
-use json_objects::{optional_value, put, text_value};
-use serde_json::{Map, Value};
+use json_objects::{optional_value, text_value};
+use serde_json::Value;
 use std::alloc::Global;
 
 // The seconds before the first poll.
@@ -28,39 +29,47 @@ fn continue_value(alloc: Global, base: &[u8], door: &[u8]) -> Result<Value, Mem>
     requires door { IsUtf8 door.now }
     ensures { IfOk result (λ v. view v ≡ continue_data base.now door.now) }
 {
-    let mut map = Map::new(alloc);
-    put(&mut map, alloc, "wait", Some(Value::from(WAIT)))?;
-    let uri = place_value(alloc, base, "/continue")?;
-    put(&mut map, alloc, "uri", Some(uri))?;
-    let access_token = bare_token_value(alloc, door)?;
-    put(&mut map, alloc, "access_token", Some(access_token))?;
-    Ok(Value::Object(map))
+    Draft::new(alloc)
+        .with_number("wait", WAIT)
+        .with("uri", place_value(alloc, base, "/continue"))
+        .with("access_token", bare_token_value(alloc, door))
+        .value()
 }
 
 fn sub_id_value(alloc: Global, id: &[u8]) -> Result<Value, Mem>
     requires { IsUtf8 id.now }
     ensures { IfOk result (λ v. view v ≡ object_of (sub_id_fields id.now)) }
 {
-    let mut map = Map::new(alloc);
-    let id = text_value(alloc, id)?;
-    put(&mut map, alloc, "id", Some(id))?;
-    let format = Value::try_from_str(alloc, "opaque")?;
-    put(&mut map, alloc, "format", Some(format))?;
-    Ok(Value::Object(map))
+    Draft::new(alloc)
+        .with("id", text_value(alloc, id))
+        .with("format", word_value(alloc, "opaque"))
+        .value()
+}
+
+fn sub_ids_value(alloc: Global, id: &[u8]) -> Result<Value, Mem>
+    requires { IsUtf8 id.now }
+    ensures { IfOk result (λ v. view v ≡ array (item (object_of (sub_id_fields id.now)) no_items)) }
+{
+    lone_value(alloc, sub_id_value(alloc, id)?)
+}
+
+fn identified_value(alloc: Global, id: &[u8]) -> Result<Value, Mem>
+    requires { IsUtf8 id.now }
+    ensures { IfOk result (λ v. view v ≡ subject_data id.now) }
+{
+    Draft::new(alloc)
+        .with("sub_ids", sub_ids_value(alloc, id))
+        .value()
 }
 
 fn subject_value(alloc: Global, subject: &Option<Bytes>) -> Result<Option<Value>, Mem>
     requires { IsUtf8Or subject.now }
     ensures { IfOk result (λ v. option_map view v ≡ option_map subject_data subject.now) }
 {
-    let Some(id) = subject else {
-        return Ok(None);
-    };
-    let mut items = Vec::new(alloc);
-    items.push(sub_id_value(alloc, id.as_slice())?)?;
-    let mut map = Map::new(alloc);
-    put(&mut map, alloc, "sub_ids", Some(Value::Array(items)))?;
-    Ok(Some(Value::Object(map)))
+    match subject {
+        None => Ok(None),
+        Some(id) => Ok(Some(identified_value(alloc, id.as_slice())?)),
+    }
 }
 
 pub fn granted_value(
@@ -79,16 +88,12 @@ pub fn granted_value(
     requires instance { IsUtf8Or instance.now }
     ensures { IfOk result (λ v. view v ≡ object_of (granted_fields base.now door.now tokens.now single subject.now instance.now)) }
 {
-    let mut map = Map::new(alloc);
-    let subject = subject_value(alloc, subject)?;
-    put(&mut map, alloc, "subject", subject)?;
-    let instance = optional_value(alloc, instance)?;
-    put(&mut map, alloc, "instance_id", instance)?;
-    let continuation = continue_value(alloc, base, door)?;
-    put(&mut map, alloc, "continue", Some(continuation))?;
-    let tokens = tokens_value(alloc, base, single, tokens)?;
-    put(&mut map, alloc, "access_token", tokens)?;
-    Ok(Value::Object(map))
+    Draft::new(alloc)
+        .with_optional("subject", subject_value(alloc, subject))
+        .with_optional("instance_id", optional_value(alloc, instance))
+        .with("continue", continue_value(alloc, base, door))
+        .with_optional("access_token", tokens_value(alloc, base, single, tokens))
+        .value()
 }
 
 // The text, where its way to interact was offered.
@@ -118,6 +123,17 @@ fn offered_page(
     Ok(Some(interaction_page_value(alloc, front, handle)?))
 }
 
+fn code_page_value(alloc: Global, front: &[u8], code: &[u8]) -> Result<Value, Mem>
+    requires front { IsUtf8 front.now }
+    requires code { IsUtf8 code.now }
+    ensures { IfOk result (λ v. view v ≡ object_of (code_page_fields front.now code.now)) }
+{
+    Draft::new(alloc)
+        .with("uri", place_value(alloc, front, "/code"))
+        .with("code", text_value(alloc, code))
+        .value()
+}
+
 fn offered_code_page(
     alloc: Global,
     offered: bool,
@@ -131,12 +147,7 @@ fn offered_code_page(
     if !offered {
         return Ok(None);
     }
-    let mut map = Map::new(alloc);
-    let uri = place_value(alloc, front, "/code")?;
-    put(&mut map, alloc, "uri", Some(uri))?;
-    let code = text_value(alloc, code)?;
-    put(&mut map, alloc, "code", Some(code))?;
-    Ok(Some(Value::Object(map)))
+    Ok(Some(code_page_value(alloc, front, code)?))
 }
 
 /// How the client can interact with the user.
@@ -156,18 +167,19 @@ pub fn interact_value(
     requires nonce { IsUtf8 nonce.now }
     ensures { IfOk result (λ v. view v ≡ interact_data front.now modes.now handle.now code.now nonce.now expires_in) }
 {
-    let mut map = Map::new(alloc);
-    let user_code_uri = offered_code_page(alloc, modes.user_code_uri, front, code)?;
-    put(&mut map, alloc, "user_code_uri", user_code_uri)?;
-    let user_code = offered_text(alloc, modes.user_code, code)?;
-    put(&mut map, alloc, "user_code", user_code)?;
-    let redirect = offered_page(alloc, modes.redirect, front, handle)?;
-    put(&mut map, alloc, "redirect", redirect)?;
-    let finish = offered_text(alloc, modes.finish.is_some(), nonce)?;
-    put(&mut map, alloc, "finish", finish)?;
-    let expires_in = Value::from(expires_in);
-    put(&mut map, alloc, "expires_in", Some(expires_in))?;
-    Ok(Value::Object(map))
+    Draft::new(alloc)
+        .with_optional(
+            "user_code_uri",
+            offered_code_page(alloc, modes.user_code_uri, front, code),
+        )
+        .with_optional("user_code", offered_text(alloc, modes.user_code, code))
+        .with_optional(
+            "redirect",
+            offered_page(alloc, modes.redirect, front, handle),
+        )
+        .with_optional("finish", offered_text(alloc, modes.finish.is_some(), nonce))
+        .with_number("expires_in", expires_in)
+        .value()
 }
 
 pub fn pending_value(
@@ -182,13 +194,11 @@ pub fn pending_value(
     requires instance { IsUtf8Or instance.now }
     ensures { IfOk result (λ v. view v ≡ object_of (pending_fields base.now door.now (view interact) instance.now)) }
 {
-    let mut map = Map::new(alloc);
-    put(&mut map, alloc, "interact", Some(interact))?;
-    let instance = optional_value(alloc, instance)?;
-    put(&mut map, alloc, "instance_id", instance)?;
-    let continuation = continue_value(alloc, base, door)?;
-    put(&mut map, alloc, "continue", Some(continuation))?;
-    Ok(Value::Object(map))
+    Draft::new(alloc)
+        .with("interact", Ok(interact))
+        .with_optional("instance_id", optional_value(alloc, instance))
+        .with("continue", continue_value(alloc, base, door))
+        .value()
 }
 
 pub fn continuing_value(alloc: Global, base: &[u8], door: &[u8]) -> Result<Value, Mem>
@@ -196,10 +206,9 @@ pub fn continuing_value(alloc: Global, base: &[u8], door: &[u8]) -> Result<Value
     requires door { IsUtf8 door.now }
     ensures { IfOk result (λ v. view v ≡ object_of (continuing_fields base.now door.now)) }
 {
-    let mut map = Map::new(alloc);
-    let continuation = continue_value(alloc, base, door)?;
-    put(&mut map, alloc, "continue", Some(continuation))?;
-    Ok(Value::Object(map))
+    Draft::new(alloc)
+        .with("continue", continue_value(alloc, base, door))
+        .value()
 }
 
 pub fn rotated_value(alloc: Global, base: &[u8], token: &TokenOut) -> Result<Value, Mem>
@@ -207,8 +216,7 @@ pub fn rotated_value(alloc: Global, base: &[u8], token: &TokenOut) -> Result<Val
     requires token { TokenFits token.now }
     ensures { IfOk result (λ v. view v ≡ object_of (rotated_fields base.now token.now)) }
 {
-    let mut map = Map::new(alloc);
-    let token = token_value(alloc, base, token)?;
-    put(&mut map, alloc, "access_token", Some(token))?;
-    Ok(Value::Object(map))
+    Draft::new(alloc)
+        .with("access_token", token_value(alloc, base, token))
+        .value()
 }

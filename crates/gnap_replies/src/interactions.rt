@@ -1,15 +1,17 @@
 //! The replies to the consent front as JSON.
 ghost use Rattle.std.specs.Prelude.{◌≡◌, IfOk, IsUtf8, option_map, map, Some, None, [], true};
 ghost use Rattle.std.specs.List.{AllByRecursion};
-ghost use Rattle.serde_json.specs.Data.{string};
+ghost use Rattle.serde_json.specs.Data.{string, array};
 ghost use Rattle.serde_json.specs.View.{view};
-ghost use Rattle.json_objects.specs.Objects.{object_of};
+ghost use Rattle.json_objects.specs.Objects.{items, object_of};
 ghost use Rattle.json_objects.specs.Texts.{IsUtf8Or};
+ghost use Rattle.interaction.specs.Pushes.{push_body};
 ghost use Rattle.interaction.specs.Uris.{finish_uri};
 ghost use Rattle.gnap_objects.specs.Fits.{AskFits};
 ghost use Rattle.gnap_objects.specs.CallsFit.{EndingFits};
 ghost use Rattle.gnap_replies.specs.Interactions.{ask_data, shown_fields, handle_fields, hash_of, pushed_fields, redirected_fields, decided_fields};
 
+use crate::drafts::{Draft, word_value};
 use crate::endpoints::joined;
 use crate::tokens::flags_value;
 use access_rights::printing::rights_value;
@@ -18,8 +20,8 @@ use bytes_and_lists::memory::Mem;
 use gnap_model::calls::FinishOut;
 use gnap_model::objects::Ask;
 use interaction::{UriFault, finish_uri, interaction_hash, push_body};
-use json_objects::{optional_value, put, text_value};
-use serde_json::{Map, Value};
+use json_objects::{optional_value, text_value};
+use serde_json::Value;
 use std::alloc::Global;
 
 #[tactic(auto, unfolding(crate::specs::Interactions::ask_data))]
@@ -27,14 +29,11 @@ fn ask_value(alloc: Global, ask: &Ask) -> Result<Value, Mem>
     requires { AskFits ask.now }
     ensures { IfOk result (λ v. view v ≡ ask_data ask.now) }
 {
-    let mut map = Map::new(alloc);
-    let label = optional_value(alloc, &ask.label)?;
-    put(&mut map, alloc, "label", label)?;
-    let flags = flags_value(alloc, ask.bearer)?;
-    put(&mut map, alloc, "flags", flags)?;
-    let access = rights_value(alloc, &ask.rights)?;
-    put(&mut map, alloc, "access", Some(access))?;
-    Ok(Value::Object(map))
+    Draft::new(alloc)
+        .with_optional("label", optional_value(alloc, &ask.label))
+        .with_optional("flags", flags_value(alloc, ask.bearer))
+        .with("access", rights_value(alloc, &ask.rights))
+        .value()
 }
 
 fn each_ask(alloc: Global, asks: &[Ask]) -> Result<Vec<Value>, Mem>
@@ -46,6 +45,13 @@ fn each_ask(alloc: Global, asks: &[Ask]) -> Result<Vec<Value>, Mem>
         items.push(ask_value(alloc, ask)?)?;
     }
     Ok(items)
+}
+
+fn asks_value(alloc: Global, asks: &[Ask]) -> Result<Value, Mem>
+    requires { AllByRecursion AskFits asks.now }
+    ensures { IfOk result (λ v. view v ≡ array (items (map ask_data asks.now))) }
+{
+    Ok(Value::Array(each_ask(alloc, asks)?))
 }
 
 pub fn shown_value(
@@ -61,27 +67,22 @@ pub fn shown_value(
     requires user { IsUtf8Or user.now }
     ensures { IfOk result (λ v. view v ≡ object_of (shown_fields asks.now client.now expires_in subject user.now)) }
 {
-    let mut map = Map::new(alloc);
-    let user = optional_value(alloc, user)?;
-    put(&mut map, alloc, "user", user)?;
-    put(&mut map, alloc, "subject", Some(Value::Bool(subject)))?;
-    let expires_in = Value::from(expires_in);
-    put(&mut map, alloc, "expires_in", Some(expires_in))?;
-    let client = text_value(alloc, client)?;
-    put(&mut map, alloc, "client", Some(client))?;
-    let asks = Value::Array(each_ask(alloc, asks)?);
-    put(&mut map, alloc, "access_token", Some(asks))?;
-    Ok(Value::Object(map))
+    Draft::new(alloc)
+        .with_optional("user", optional_value(alloc, user))
+        .with_bool("subject", subject)
+        .with_number("expires_in", expires_in)
+        .with("client", text_value(alloc, client))
+        .with("access_token", asks_value(alloc, asks))
+        .value()
 }
 
 pub fn handle_value(alloc: Global, handle: &[u8]) -> Result<Value, Mem>
     requires { IsUtf8 handle.now }
     ensures { IfOk result (λ v. view v ≡ object_of (handle_fields handle.now)) }
 {
-    let mut map = Map::new(alloc);
-    let handle = text_value(alloc, handle)?;
-    put(&mut map, alloc, "handle", Some(handle))?;
-    Ok(Value::Object(map))
+    Draft::new(alloc)
+        .with("handle", text_value(alloc, handle))
+        .value()
 }
 
 fn hash(alloc: Global, base: &[u8], out: &FinishOut) -> Result<Bytes, Mem>
@@ -100,21 +101,27 @@ fn hash(alloc: Global, base: &[u8], out: &FinishOut) -> Result<Bytes, Mem>
     )
 }
 
+// What the front sends to the client.
+fn push_body_value(alloc: Global, base: &[u8], out: &FinishOut) -> Result<Value, Mem>
+    requires base { IsUtf8 base.now }
+    requires out { EndingFits (Some out.now) }
+    ensures { IfOk result (λ v. view v ≡ string (push_body (hash_of base.now out.now) out.now.reference)) }
+{
+    let hash = hash(alloc, base, out)?;
+    let body = push_body(alloc, hash.as_slice(), out.reference.as_slice())?;
+    text_value(alloc, body.as_slice())
+}
+
 fn pushed_value(alloc: Global, base: &[u8], out: &FinishOut) -> Result<Value, Mem>
     requires base { IsUtf8 base.now }
     requires out { EndingFits (Some out.now) }
     ensures { IfOk result (λ v. view v ≡ object_of (pushed_fields base.now out.now)) }
 {
-    let mut map = Map::new(alloc);
-    let uri = text_value(alloc, out.finish.uri.as_slice())?;
-    put(&mut map, alloc, "uri", Some(uri))?;
-    let push = Value::try_from_str(alloc, "push")?;
-    put(&mut map, alloc, "finish", Some(push))?;
-    let hash = hash(alloc, base, out)?;
-    let body = push_body(alloc, hash.as_slice(), out.reference.as_slice())?;
-    let body = text_value(alloc, body.as_slice())?;
-    put(&mut map, alloc, "body", Some(body))?;
-    Ok(Value::Object(map))
+    Draft::new(alloc)
+        .with("uri", text_value(alloc, out.finish.uri.as_slice()))
+        .with("finish", word_value(alloc, "push"))
+        .with("body", push_body_value(alloc, base, out))
+        .value()
 }
 
 // The URI that the user is sent to.
@@ -143,21 +150,19 @@ fn redirected_value(alloc: Global, base: &[u8], out: &FinishOut) -> Result<Value
     requires out { EndingFits (Some out.now) }
     ensures { IfOk result (λ v. view v ≡ object_of (redirected_fields base.now out.now)) }
 {
-    let mut map = Map::new(alloc);
     let uri = finish_uri_value(alloc, base, out)?;
-    put(&mut map, alloc, "uri", Some(uri))?;
-    let redirect = Value::try_from_str(alloc, "redirect")?;
-    put(&mut map, alloc, "finish", Some(redirect))?;
-    Ok(Value::Object(map))
+    Draft::new(alloc)
+        .with("uri", Ok(uri))
+        .with("finish", word_value(alloc, "redirect"))
+        .value()
 }
 
 fn none_value(alloc: Global) -> Result<Value, Mem>
     ensures { IfOk result (λ v. view v ≡ object_of (decided_fields [] None)) }
 {
-    let mut map = Map::new(alloc);
-    let none = Value::try_from_str(alloc, "none")?;
-    put(&mut map, alloc, "finish", Some(none))?;
-    Ok(Value::Object(map))
+    Draft::new(alloc)
+        .with("finish", word_value(alloc, "none"))
+        .value()
 }
 
 pub fn decided_value(alloc: Global, base: &[u8], finish: &Option<FinishOut>) -> Result<Value, Mem>

@@ -6,13 +6,14 @@ ghost use Rattle.json_objects.specs.Objects.{object_of};
 ghost use Rattle.access_rights.specs.Fits.{Fits};
 ghost use Rattle.gnap_replies.specs.Introspections.{key_data, active_fields, inactive_fields};
 
+use crate::drafts::Draft;
 use crate::endpoints::place_value;
 use crate::tokens::flags_value;
 use access_rights::printing::rights_value;
 use bytes_and_lists::memory::Mem;
 use gnap_model::rights::Rights;
-use json_objects::{put, text_value};
-use serde_json::{Map, Value};
+use json_objects::text_value;
+use serde_json::Value;
 use std::alloc::Global;
 
 fn key_value(alloc: Global, bearer: bool, instance: &[u8]) -> Result<Option<Value>, Mem>
@@ -39,27 +40,20 @@ pub fn active_value(
     requires instance { IsUtf8 instance.now }
     ensures { IfOk result (λ v. view v ≡ object_of (active_fields base.now access.now iat exp instance.now bearer)) }
 {
-    let mut map = Map::new(alloc);
-    let key = key_value(alloc, bearer, instance)?;
-    put(&mut map, alloc, "key", key)?;
-    let issuer = place_value(alloc, base, "/gnap")?;
-    put(&mut map, alloc, "iss", Some(issuer))?;
-    let instance = text_value(alloc, instance)?;
-    put(&mut map, alloc, "instance_id", Some(instance))?;
-    put(&mut map, alloc, "iat", Some(Value::from(iat)))?;
-    let flags = flags_value(alloc, bearer)?;
-    put(&mut map, alloc, "flags", flags)?;
-    put(&mut map, alloc, "exp", Some(Value::from(exp)))?;
-    put(&mut map, alloc, "active", Some(Value::Bool(true)))?;
-    let access = rights_value(alloc, access)?;
-    put(&mut map, alloc, "access", Some(access))?;
-    Ok(Value::Object(map))
+    Draft::new(alloc)
+        .with_optional("key", key_value(alloc, bearer, instance))
+        .with("iss", place_value(alloc, base, "/gnap"))
+        .with("instance_id", text_value(alloc, instance))
+        .with_number("iat", iat)
+        .with_optional("flags", flags_value(alloc, bearer))
+        .with_number("exp", exp)
+        .with_bool("active", true)
+        .with("access", rights_value(alloc, access))
+        .value()
 }
 
 pub fn inactive_value(alloc: Global) -> Result<Value, Mem>
     ensures { IfOk result (λ v. view v ≡ object_of inactive_fields) }
 {
-    let mut map = Map::new(alloc);
-    put(&mut map, alloc, "active", Some(Value::Bool(false)))?;
-    Ok(Value::Object(map))
+    Draft::new(alloc).with_bool("active", false).value()
 }

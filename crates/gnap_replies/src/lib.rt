@@ -7,6 +7,7 @@
 #![tactic(auto)]
 
 pub mod discovery;
+mod drafts;
 mod endpoints;
 mod errors;
 mod grants;

@@ -6,12 +6,13 @@ ghost use Rattle.json_objects.specs.Objects.{object_of};
 ghost use Rattle.gnap_objects.specs.CallsFit.{TokenFits};
 ghost use Rattle.gnap_replies.specs.Tokens.{flags_data, bare_token_fields, manage_fields, token_data, tokens_data};
 
+use crate::drafts::{Draft, lone_value, word_value};
 use crate::endpoints::place_value;
 use access_rights::printing::rights_value;
 use bytes_and_lists::memory::Mem;
 use gnap_model::calls::TokenOut;
-use json_objects::{optional_value, put, text_value};
-use serde_json::{Map, Value};
+use json_objects::{optional_value, text_value};
+use serde_json::Value;
 use std::alloc::Global;
 
 pub fn flags_value(alloc: Global, bearer: bool) -> Result<Option<Value>, Mem>
@@ -20,19 +21,16 @@ pub fn flags_value(alloc: Global, bearer: bool) -> Result<Option<Value>, Mem>
     if !bearer {
         return Ok(None);
     }
-    let mut items = Vec::new(alloc);
-    items.push(Value::try_from_str(alloc, "bearer")?)?;
-    Ok(Some(Value::Array(items)))
+    Ok(Some(lone_value(alloc, word_value(alloc, "bearer")?)?))
 }
 
 pub fn bare_token_value(alloc: Global, value: &[u8]) -> Result<Value, Mem>
     requires { IsUtf8 value.now }
     ensures { IfOk result (λ v. view v ≡ object_of (bare_token_fields value.now)) }
 {
-    let mut map = Map::new(alloc);
-    let value = text_value(alloc, value)?;
-    put(&mut map, alloc, "value", Some(value))?;
-    Ok(Value::Object(map))
+    Draft::new(alloc)
+        .with("value", text_value(alloc, value))
+        .value()
 }
 
 fn manage_value(alloc: Global, base: &[u8], manage: &[u8]) -> Result<Value, Mem>
@@ -40,12 +38,10 @@ fn manage_value(alloc: Global, base: &[u8], manage: &[u8]) -> Result<Value, Mem>
     requires manage { IsUtf8 manage.now }
     ensures { IfOk result (λ v. view v ≡ object_of (manage_fields base.now manage.now)) }
 {
-    let mut map = Map::new(alloc);
-    let uri = place_value(alloc, base, "/token")?;
-    put(&mut map, alloc, "uri", Some(uri))?;
-    let access_token = bare_token_value(alloc, manage)?;
-    put(&mut map, alloc, "access_token", Some(access_token))?;
-    Ok(Value::Object(map))
+    Draft::new(alloc)
+        .with("uri", place_value(alloc, base, "/token"))
+        .with("access_token", bare_token_value(alloc, manage))
+        .value()
 }
 
 #[tactic(auto, unfolding(crate::specs::Tokens::token_data))]
@@ -54,20 +50,14 @@ pub fn token_value(alloc: Global, base: &[u8], token: &TokenOut) -> Result<Value
     requires token { TokenFits token.now }
     ensures { IfOk result (λ v. view v ≡ token_data base.now token.now) }
 {
-    let mut map = Map::new(alloc);
-    let value = text_value(alloc, token.value.as_slice())?;
-    put(&mut map, alloc, "value", Some(value))?;
-    let manage = manage_value(alloc, base, token.manage.as_slice())?;
-    put(&mut map, alloc, "manage", Some(manage))?;
-    let label = optional_value(alloc, &token.label)?;
-    put(&mut map, alloc, "label", label)?;
-    let flags = flags_value(alloc, token.bearer)?;
-    put(&mut map, alloc, "flags", flags)?;
-    let expires_in = Value::from(token.expires_in);
-    put(&mut map, alloc, "expires_in", Some(expires_in))?;
-    let access = rights_value(alloc, &token.rights)?;
-    put(&mut map, alloc, "access", Some(access))?;
-    Ok(Value::Object(map))
+    Draft::new(alloc)
+        .with("value", text_value(alloc, token.value.as_slice()))
+        .with("manage", manage_value(alloc, base, token.manage.as_slice()))
+        .with_optional("label", optional_value(alloc, &token.label))
+        .with_optional("flags", flags_value(alloc, token.bearer))
+        .with_number("expires_in", token.expires_in)
+        .with("access", rights_value(alloc, &token.rights))
+        .value()
 }
 
 fn each_token(alloc: Global, base: &[u8], tokens: &[TokenOut]) -> Result<Vec<Value>, Mem>

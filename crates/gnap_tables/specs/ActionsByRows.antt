@@ -73,7 +73,8 @@ abbrev pub continue_round_rows : Tables → ℕ → GrantRow → Option Text →
 continue_round_rows tables now row reference decision round =
     if not (is_some decision) && nat_le round.until now then RefuseAndFinalize (opening_of row) InvalidInteraction
     else if not (is_some reference) && is_some round.modes.finish then Refuse InvalidRequest
-    else if is_wrong reference decision then (if nat_le wrong_limit (round.wrongs + 1) then LastWrongReference (opening_of row) else WrongReference (opening_of row))
+    else if is_wrong reference decision
+    then (if nat_le wrong_limit (round.wrongs + 1) then LastWrongReference (opening_of row) else WrongReference (opening_of row))
     else collect_or_renew_rows tables now row decision
 
 abbrev pub continue_by : Option Round → Tables → ℕ → GrantRow → Option Text → Action
@@ -119,14 +120,17 @@ row_action rules next tables now (Begin key request not_after) =
     else begin_rows (settle rules key [] request) tables now (opening_for next now key request not_after) request
 row_action rules next tables now (Introspect server value binding wanted) =
     let names = server_names (key_of rules server) in
-    if serves_all names wanted then show_token names binding wanted (option_map token_of (live_row now tables.grants value tables.tokens)) else Refuse InvalidAccess
+    if serves_all names wanted then show_token names binding wanted (option_map token_of (live_row now tables.grants value tables.tokens)) else Refuse
+    InvalidAccess
 row_action rules next tables now Lapse = LapseAction
 row_action rules next tables now (Look front handle) =
-    on_found UnknownInteraction (λ (i : Interaction). ShowRound i.round (terms_of_row i.row) (opening_of i.row)) (interaction_by_handle now handle tables.grants)
+    on_found UnknownInteraction (λ (i : Interaction). ShowRound i.round (terms_of_row i.row) (opening_of i.row))
+    (interaction_by_handle now handle tables.grants)
 row_action rules next tables now (FindCode front code) =
     on_found UnknownInteraction (λ (i : Interaction). ShowHandle i.round) (interaction_by_code now code tables.grants)
 row_action rules next tables now (Decide front request) =
-    on_found UnknownInteraction (λ (i : Interaction). decide_on request i.round (asked_rights i.row.asks)) (interaction_by_handle now request.handle tables.grants)
+    on_found UnknownInteraction (λ (i : Interaction). decide_on request i.round (asked_rights i.row.asks))
+    (interaction_by_handle now request.handle tables.grants)
 row_action rules next tables now (Continue key value reference) = with_row (continue_rows tables now reference) key (row_by_door value tables.grants)
 row_action rules next tables now (Modify key value request) =
     with_row (λ (row : GrantRow). modify_rows (settle rules row.key row.consent request) tables now row request) key (row_by_door value tables.grants)
@@ -136,7 +140,8 @@ row_action rules next tables now (Rotate key value new_key) =
     then on_row InvalidRotation tables.grants key token (rotate_key rules new_key (token_of token)) else Refuse InvalidRotation)
     (row_by_manage value tables.tokens)
 row_action rules next tables now (Revoke key value) =
-    on_found InvalidRequest (λ (token : TokenRow). on_row InvalidRequest tables.grants key token (λ (opening : OpeningNote). RevokeToken (token_of token) token.retired))
+    on_found InvalidRequest (λ (token : TokenRow). on_row InvalidRequest tables.grants key token
+    (λ (opening : OpeningNote). RevokeToken (token_of token) token.retired))
     (row_by_manage value tables.tokens)
 
 -- what the entry of a call draws on, where first is the next serial

@@ -52,4 +52,5 @@ row_answer rules kept draw call = outcome_of (row_supply kept.first kept.tables 
 
 -- what is kept after some notes
 abbrev pub with_notes : List Note → Kept → Kept
-with_notes notes kept = record kept { tables = after_notes notes kept.tables; next = kept.next + count_by is_opening notes; first = kept.first + length (flat_map note_values notes) }
+with_notes notes kept = record kept
+    { tables = after_notes notes kept.tables; next = kept.next + count_by is_opening notes; first = kept.first + length (flat_map note_values notes) }

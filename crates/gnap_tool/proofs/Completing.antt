@@ -41,7 +41,8 @@ module _ (before after : WorldState) where
   second_placed : (first second : Served) → after.files ≡ before.files ++ first ∷ second ∷ [] → slice_get (new_files before after) 1 ≡ Some second
   second_placed first second are = ap (λ (fs : List Served). slice_get fs 1) (placed (first ∷ second ∷ []) are)
 
-one_after_another : (before between after : WorldState) (first second : Served) → between.files ≡ before.files ++ first ∷ [] → after.files ≡ between.files ++ second ∷ []
+one_after_another : (before between after : WorldState) (first second : Served) → between.files ≡ before.files ++ first ∷ []
+    → after.files ≡ between.files ++ second ∷ []
     → after.files ≡ before.files ++ first ∷ second ∷ []
 one_after_another before between after first second one two =
     two ∙ ap (λ (fs : List Served). fs ++ second ∷ []) one ∙ append_assoc before.files (first ∷ []) (second ∷ [])
@@ -59,7 +60,8 @@ service_apart why (Err faults.OutOfMemory) is = absurd cc
 
 module _ (why : WrongSetup) (before after : WorldState) (out out_now : Told) where
   -- what isn't so of a file that was opened
-  no_file : (text : Option (List ℕ)) (P : List ℕ → List ℕ → Type 0) → ((taken rest : List ℕ) → P taken rest → ⊥) → Over text before after (Unopened out out_now (NoSetup why)) P → ⊥
+  no_file : (text : Option (List ℕ)) (P : List ℕ → List ℕ → Type 0) → ((taken rest : List ℕ) → P taken rest → ⊥)
+      → Over text before after (Unopened out out_now (NoSetup why)) P → ⊥
   no_file text P none (inl missing) = setup_apart why missing.1.1
   no_file text P none (inr is) = let rest = some_rest is.0.told in none is.0.told.taken rest.0 (is.3 rest.0 rest.1)
 
@@ -78,7 +80,8 @@ module _ (why : WrongSetup) (before after : WorldState) (out out_now : Told) whe
 
   -- The first file reads as a setup, by which nothing that follows ends without one.
   module _ {S : Type 0} (read : List ℕ → Option S) (text : Option (List ℕ)) (Then : WorldState → S → Type 0)
-      (none : (config : Served) (between : WorldState) (setup : S) → between.files ≡ before.files ++ config ∷ [] → ReadsAs read config setup → Then between setup → ⊥)
+      (none : (config : Served) (between : WorldState) (setup : S) → between.files ≡ before.files ++ config ∷ [] → ReadsAs read config setup
+      → Then between setup → ⊥)
       (holds : (config : Served) → after.files ≡ before.files ++ config ∷ [] → (setup : S) × ReadsAs read config setup) where
     no_follower : (config : Served) (between : WorldState) → between.files ≡ before.files ++ config ∷ []
         → ((rest : List ℕ) → IsRest config.told rest
@@ -104,17 +107,21 @@ first_holds read before after holds config are = holds config (first_placed befo
 
 no_service : (why : WrongSetup) (service : Service) (served : ServedSetup) (text : List ℕ → Option (List ℕ)) (before after : WorldState) (out out_now : Told)
     → ServiceHasSetup service before after
-    → BySetup setup_in (text served.config) before after out out_now (NoSetup why) (λ between setup. ServesBy service setup served text between after out out_now (NoSetup why)) → ⊥
+    → BySetup setup_in (text served.config) before after out out_now (NoSetup why)
+    (λ between setup. ServesBy service setup served text between after out out_now (NoSetup why)) → ⊥
 no_service why Grants served text before after out out_now holds carried =
-    no_by_setup why before after out out_now setup_in (text served.config) _ (λ config between setup one reads serves. serves_apart why between after out out_now _ serves.1)
+    no_by_setup why before after out out_now setup_in (text served.config) _
+    (λ config between setup one reads serves. serves_apart why between after out out_now _ serves.1)
     (first_holds setup_in before after holds) carried
 no_service why Sets served text before after out out_now holds carried =
-    no_by_setup why before after out out_now setup_in (text served.config) _ (λ config between setup one reads serves. serves_apart why between after out out_now _ serves.1)
+    no_by_setup why before after out out_now setup_in (text served.config) _
+    (λ config between setup one reads serves. serves_apart why between after out out_now _ serves.1)
     (first_holds setup_in before after holds) carried
 no_service why (Derivations pairs) served text before after out out_now holds carried =
     no_by_setup why before after out out_now setup_in (text served.config) _
     (λ config between setup one reads serves.
-    no_by_setup why between after out out_now (pairs_in setup) (text pairs) _ (λ file opened known two read derives. serves_apart why opened after out out_now _ derives.1)
+    no_by_setup why between after out out_now (pairs_in setup) (text pairs) _
+    (λ file opened known two read derives. serves_apart why opened after out out_now _ derives.1)
     (λ file two.
     let both = one_after_another before between after config file one two in
     holds.1 config setup (first_placed before after config (file ∷ []) both) reads file (second_placed before after config file both))
@@ -128,7 +135,8 @@ has_setup why (Replay file) text before after out out_now holds (inl missing) = 
 has_setup why (Replay file) text before after out out_now holds (inr is) =
     let held = holds is.0 (first_placed before after is.0 [] is.1) in
     ((is.3 held.1.0 held.1.1).by_setup held.0 held.1.2).one.each.0.ends
-has_setup why (Field kind file) text before after out out_now holds carried = no_file why before after out out_now _ _ (λ taken rest prints. prints.ends) carried
+has_setup why (Field kind file) text before after out out_now holds carried = no_file why before after out out_now _ _ (λ taken rest prints. prints.ends)
+    carried
 has_setup why (Sign config key created file _) text before after out out_now holds carried =
     no_by_setup why before after out out_now setup_in (text config) _
     (λ first between setup one reads over. no_file why between after out out_now _ _ (λ taken rest prints. prints.ends) over)
@@ -166,18 +174,22 @@ long_apart : (TooLong ≡ Failed) ⊎ (TooLong ≡ Memory) → ⊥
 long_apart (inl is) = absurd cc
 long_apart (inr is) = absurd cc
 
-module _ (before after : WorldState) (short : (place : ℕ) (file : Served) → slice_get (new_files before after) place ≡ Some file → length file.told.taken < 1073741824) where
+module _ (before after : WorldState)
+    (short : (place : ℕ) (file : Served) → slice_get (new_files before after) place ≡ Some file → length file.told.taken < 1073741824) where
   took_less : (place : ℕ) (file : Served) → slice_get (new_files before after) place ≡ Some file → Took TooLong file.told → ⊥
   took_less place file found took = let less = short place file found in omega (arith, less, took)
 
   -- the input is the one file of the command
-  one_file : (openings : List Opening) (out out_now : Told) (text : Option (List ℕ)) (P : List ℕ → List ℕ → Type 0) → UsesWorld openings (Some 0) before after TooLong
+  one_file : (openings : List Opening) (out out_now : Told) (text : Option (List ℕ)) (P : List ℕ → List ℕ → Type 0)
+      → UsesWorld openings (Some 0) before after TooLong
       → Over text before after (Unopened out out_now TooLong) P → ⊥
   one_file openings out out_now text P uses (inl missing) = long_apart missing.1.1
-  one_file openings out out_now text P uses (inr is) = let found = first_placed before after is.0 [] is.1 in took_less 0 is.0 found (uses.took 0 refl is.0 found)
+  one_file openings out out_now text P uses (inr is) = let found = first_placed before after is.0 [] is.1 in took_less 0 is.0 found
+      (uses.took 0 refl is.0 found)
 
   -- it is the second one, behind the setup
-  second_file : {A : Type 0} (openings : List Opening) (out out_now : Told) (text : Option (List ℕ)) (P : List ℕ → List ℕ → Type 0) (config : Served) (between opened : WorldState)
+  second_file : {A : Type 0} (openings : List Opening) (out out_now : Told) (text : Option (List ℕ)) (P : List ℕ → List ℕ → Type 0) (config : Served)
+      (between opened : WorldState)
       → UsesWorld openings (Some 1) before after TooLong → between.files ≡ before.files ++ config ∷ [] → opened.files ≡ between.files
       → Over text opened after (Unopened out out_now TooLong × A) P → ⊥
   second_file openings out out_now text P config between opened uses one same (inl missing) = long_apart missing.1.0.1
@@ -221,12 +233,15 @@ module _ (before after : WorldState) (short : (place : ℕ) (file : Served) → 
 -- ---- how it ended
 
 pub completes : (command : Command) (text : List ℕ → Option (List ℕ)) (before after : WorldState) (out out_now : Told) (count count_now : ℕ) (ended : Ended)
-    → CarriesOut command text before after out out_now ended → UsesWorld (openings_of command) (input_place command) before after ended → CountsWrites ended count count_now
+    → CarriesOut command text before after out out_now ended → UsesWorld (openings_of command) (input_place command) before after ended
+    → CountsWrites ended count count_now
     → NothingWentWrong command before after count count_now → IsCompleted (status_of ended)
 completes command text before after out out_now count count_now Done carried uses writes right = inl refl
 completes command text before after out out_now count count_now Refused carried uses writes right = inr (inl refl)
 completes command text before after out out_now count count_now Memory carried uses writes right = inr (inr refl)
 completes command text before after out out_now count count_now Failed carried uses writes right = absurd (right.reads (uses.failed refl))
 completes command text before after out out_now count count_now WriteFault carried uses writes right = absurd (right.writes writes)
-completes command text before after out out_now count count_now (NoSetup why) carried uses writes right = absurd (has_setup why command text before after out out_now right.setup carried)
-completes command text before after out out_now count count_now TooLong carried uses writes right = absurd (fits before after right.short command text out out_now uses carried)
+completes command text before after out out_now count count_now (NoSetup why) carried uses writes right = absurd
+    (has_setup why command text before after out out_now right.setup carried)
+completes command text before after out out_now count count_now TooLong carried uses writes right = absurd
+    (fits before after right.short command text out out_now uses carried)

@@ -16,7 +16,8 @@ use Rattle.gnap_tool.specs.Runs.{CarriesOut}
 use Rattle.world_uses.specs.Uses.{UsesWorld}
 
 -- where memory ran out before anything was opened
-pub starved_carries : (command : Command) (text : List ℕ → Option (List ℕ)) (world : WorldState) (out : Told) → CarriesOut command text world world out out Memory
+pub starved_carries : (command : Command) (text : List ℕ → Option (List ℕ)) (world : WorldState) (out : Told)
+    → CarriesOut command text world world out out Memory
 starved_carries (Replay file) text world out = inl (refl, (refl, inr refl))
 starved_carries (Field kind file) text world out = inl (refl, (refl, inr refl))
 starved_carries (Sign config key created file _) text world out = inl (refl, (refl, inr refl))

@@ -19,10 +19,12 @@ use Rattle.world_uses.proofs.Linked.{uses_around}
 use Rattle.gnap_tool.proofs.ServedGears.{gears_used}
 use Rattle.world_uses.proofs.Uses.{unopened_used}
 
-pub resources_used : {K : Type 0} (guards : GuardsKeeping K) (first last : K) (setup : RsSetup) (listen server : List ℕ) (quota : ℕ) (before after : WorldState) (answer : Result (Unit {0}) WorldFault)
+pub resources_used : {K : Type 0} (guards : GuardsKeeping K) (first last : K) (setup : RsSetup) (listen server : List ℕ) (quota : ℕ) (before after : WorldState)
+    (answer : Result (Unit {0}) WorldFault)
     → IsRsService guards setup listen server quota before after first last answer
     → UsesWorld (Link server ∷ Gears listen 1 quota ∷ []) None before after (ended_service answer)
-resources_used guards first _ setup listen server quota before after (Err fault) (not_linked _ same cause) = unopened_used (Link server ∷ Gears listen 1 quota ∷ []) None before after fault _ refl same cause
+resources_used guards first _ setup listen server quota before after (Err fault) (not_linked _ same cause) = unopened_used
+    (Link server ∷ Gears listen 1 quota ∷ []) None before after fault _ refl same cause
 resources_used guards first _ setup listen server quota before after (Err fault) (not_started _ same cause) =
     let open_now = with_opening (Link server) before in
     let middle : WorldState = record open_now { faults = after.faults } in
@@ -35,7 +37,8 @@ resources_used guards first _ setup listen server quota before after answer (ser
     (gears_used listen 1 quota open_now (with_gears (gear ∷ []) started) (gear ∷ []) answer refl refl ended) back
 
 -- where nothing was opened, with a cache or without one
-pub unserved : (setup : RsSetup) (listen server : List ℕ) (quota : ℕ) (cache : Option ℕ) (world : WorldState) (ended : Ended) → (ended ≡ Failed) ⊎ (ended ≡ Memory)
+pub unserved : (setup : RsSetup) (listen server : List ℕ) (quota : ℕ) (cache : Option ℕ) (world : WorldState) (ended : Ended)
+    → (ended ≡ Failed) ⊎ (ended ≡ Memory)
     → ServesRs setup listen server quota cache world world ended
 unserved setup listen server quota None world ended is = inl (refl, is)
 unserved setup listen server quota (Some capacity) world ended is = (inl (refl, is), accounts_mean setup capacity)
@@ -45,7 +48,8 @@ pub unserved_used : (listen server : List ℕ) (quota : ℕ) (world : WorldState
 unserved_used listen server quota world = unopened_used (Link server ∷ Gears listen 1 quota ∷ []) None world world faults.OutOfMemory Memory refl refl refl
 
 -- what was served with a new cache
-pub with_cache : (setup : RsSetup) (listen server : List ℕ) (quota : ℕ) (cache : Option ℕ) (capacity : ℕ) (first : Cache) (before after : WorldState) (ended : Ended)
+pub with_cache : (setup : RsSetup) (listen server : List ℕ) (quota : ℕ) (cache : Option ℕ) (capacity : ℕ) (first : Cache) (before after : WorldState)
+    (ended : Ended)
     → cache ≡ Some capacity → first ≡ new_cache capacity → ServesGuarded Caches first setup listen server quota before after ended
     → ServesRs setup listen server quota cache before after ended
 with_cache setup listen server quota cache capacity first before after ended is new serves =

@@ -33,7 +33,8 @@ module _ (setup : Setup) (address : List ℕ) (n quota : ℕ) (before after : Wo
 
   pub derivations_used : (pairs : List Pair) (answer : Result (Unit {0}) WorldFault) → IsDerivingService pairs setup address n quota before after answer
       → UsesWorld (Gears address n quota ∷ []) None before after (ended_service answer)
-  derivations_used pairs (Err fault) (derivations.not_started _ same cause) = unopened_used (Gears address n quota ∷ []) None before after fault _ refl same cause
+  derivations_used pairs (Err fault) (derivations.not_started _ same cause) = unopened_used (Gears address n quota ∷ []) None before after fault _ refl same
+      cause
   derivations_used pairs answer (derivations.served _ gears back many are ended) = gears_used address n quota before after gears answer back many ended
 
   pub sets_used : (answer : Result (Unit {0}) WorldFault) → IsSetService setup address n quota before after answer
@@ -42,7 +43,8 @@ module _ (setup : Setup) (address : List ℕ) (n quota : ℕ) (before after : Wo
   sets_used answer (sets.served _ gears back many are ended) = gears_used address n quota before after gears answer back many ended
 
 -- where nothing was opened behind the setup
-pub nothing_served : (service : Service) (setup : Setup) (served : ServedSetup) (text : List ℕ → Option (List ℕ)) (world : WorldState) (out : Told) (ended : Ended)
+pub nothing_served : (service : Service) (setup : Setup) (served : ServedSetup) (text : List ℕ → Option (List ℕ)) (world : WorldState) (out : Told)
+    (ended : Ended)
     → (ended ≡ Failed) ⊎ (ended ≡ Memory) → ServesBy service setup served text world world out out ended
 nothing_served Grants setup served text world out ended is = (refl, inl (refl, is))
 nothing_served (Derivations pairs) setup served text world out ended is = inl (refl, (refl, is))

@@ -136,7 +136,9 @@ fn tell_no_json<E: Sink>(err: &mut E, place: &FaultPlace) {
         FaultPlace::Syntax { .. } | FaultPlace::NoObject | FaultPlace::Number => {
             tell_fault(err, place)
         }
-        FaultPlace::Key(_) | FaultPlace::Unknown => tell_fault(err, &SetupFault::NotJson),
+        FaultPlace::Key(_) | FaultPlace::Unknown | FaultPlace::OutOfMemory => {
+            tell_fault(err, &SetupFault::NotJson)
+        }
     }
 }
 

@@ -65,11 +65,13 @@ text_if_fits false text fit = tt
 
 -- ---- tokens and rounds
 
-tokens_fit : (supply : Supply) (o : OpeningNote) (asks : List Ask) (k : ℕ) → AllByRecursion AskFits asks → AllByRecursion TokenFits (map (token_out supply.now) (tokens_for supply o asks k))
+tokens_fit : (supply : Supply) (o : OpeningNote) (asks : List Ask) (k : ℕ) → AllByRecursion AskFits asks
+    → AllByRecursion TokenFits (map (token_out supply.now) (tokens_for supply o asks k))
 tokens_fit supply o [] k h = tt
 tokens_fit supply o (ask ∷ asks) k h = ((value_fits _ _ _, value_fits _ _ _, h.0.0, h.0.1), tokens_fit supply o asks (k + 2) h.1)
 
-issued_fit : (supply : Supply) (o : OpeningNote) (asks : List Ask) (k : ℕ) → OpeningFits o → AllByRecursion AskFits asks → NotesFit (map Issued (tokens_for supply o asks k))
+issued_fit : (supply : Supply) (o : OpeningNote) (asks : List Ask) (k : ℕ) → OpeningFits o → AllByRecursion AskFits asks
+    → NotesFit (map Issued (tokens_for supply o asks k))
 issued_fit supply o [] k key h = tt
 issued_fit supply o (ask ∷ asks) k key h = ((h.0.0, h.0.1, key.0, value_fits _ _ _, value_fits _ _ _), issued_fit supply o asks (k + 2) key h.1)
 
@@ -80,7 +82,8 @@ retired_fit (t ∷ tokens) rest fit = (tt, retired_fit tokens rest fit)
 round_fits : (supply : Supply) (o : OpeningNote) (modes : Modes) → ModesFit modes → RoundFits (round_for supply o modes)
 round_fits supply o modes fit = (fit, value_fits _ _ _, text_if_fits _ _ (free_code_fits _ _ supply.taken), text_if_fits _ _ (value_fits _ _ _))
 
-ending_fits : (supply : Supply) (round : RoundNote) (finish : Option Finish) → RoundFits round → FinishFitsOr finish → EndingFits (finish_of supply round finish)
+ending_fits : (supply : Supply) (round : RoundNote) (finish : Option Finish) → RoundFits round → FinishFitsOr finish
+    → EndingFits (finish_of supply round finish)
 ending_fits supply round None fit finish_fit = tt
 ending_fits supply round (Some finish) fit finish_fit = (finish_fit, zeros_fit 32 round.nonce fit.3, value_fits _ _ _)
 

@@ -56,45 +56,55 @@ use Rattle.grant_machine.proofs.FoundFits.{all-append, all-reverse, all-filter, 
 
 -- ---- from a call that fits, after notes that fit, to an action that fits
 
-found_fits : {X : Type 0} (P : X → Type 0) (code : ErrorCode) (act : X → Action) (found : Option X) → IfSome found P → ((x : X) → P x → ActionFits (act x)) → ActionFits (on_found code act found)
+found_fits : {X : Type 0} (P : X → Type 0) (code : ErrorCode) (act : X → Action) (found : Option X) → IfSome found P → ((x : X) → P x → ActionFits (act x))
+    → ActionFits (on_found code act found)
 found_fits P code act None fit each = tt
 found_fits P code act (Some x) fit each = each x fit
 
 with_owner_fits : (act : OpeningNote → Action) (owner key : Text) (o : OpeningNote) → ActionFits (act o) → ActionFits (with_owner act owner key o)
 with_owner_fits act owner key o fit = if_both ActionFits (same_text owner key) (act o) (Refuse InvalidClient) fit tt
 
-with_grant_fits : (trail : List Note) (now : ℕ) (key value : Text) (act : OpeningNote → Action) → NotesFit trail → ((o : OpeningNote) → OpeningFits o → ActionFits (act o))
+with_grant_fits : (trail : List Note) (now : ℕ) (key value : Text) (act : OpeningNote → Action) → NotesFit trail
+    → ((o : OpeningNote) → OpeningFits o → ActionFits (act o))
     → ActionFits (with_grant act key (named_grant trail now value))
 with_grant_fits trail now key value act fit each =
-    found_fits OpeningFits InvalidContinuation (with_key act key) (named_grant trail now value) (named_fits trail now value trail fit) (λ o h. with_owner_fits act o.key key o (each o h))
+    found_fits OpeningFits InvalidContinuation (with_key act key) (named_grant trail now value) (named_fits trail now value trail fit)
+    (λ o h. with_owner_fits act o.key key o (each o h))
 
-ask_user_fits : (ask : Modes → Action) (modes : Option Modes) → ModesFitOr modes → ((m : Modes) → ModesFit m → ActionFits (ask m)) → ActionFits (ask_user ask modes)
+ask_user_fits : (ask : Modes → Action) (modes : Option Modes) → ModesFitOr modes → ((m : Modes) → ModesFit m → ActionFits (ask m))
+    → ActionFits (ask_user ask modes)
 ask_user_fits ask None fit each = tt
 ask_user_fits ask (Some modes) fit each = each modes fit
 
-begin_by_fits : (s : Settled) (trail : List Note) (now : ℕ) (o : OpeningNote) (request : GrantRequest) → OpeningFits o → AllByRecursion AskFits request.asks → ModesFitOr request.modes
+begin_by_fits : (s : Settled) (trail : List Note) (now : ℕ) (o : OpeningNote) (request : GrantRequest) → OpeningFits o → AllByRecursion AskFits request.asks
+    → ModesFitOr request.modes
     → ActionFits (begin_by s trail now o request)
 begin_by_fits Never trail now o request key asks modes = tt
 begin_by_fits AtOnce trail now o request key asks modes =
     if_both ActionFits (pass_limit (live_tokens trail now) (length request.asks)) (Refuse RequestDenied) (OpenAtOnce o request) tt (key, asks)
 begin_by_fits ByAsking trail now o request key asks modes = ask_user_fits (OpenAsking o request) request.modes modes (λ m fit. (key, asks, fit))
 
-modify_by_fits : (s : Settled) (trail : List Note) (now : ℕ) (o : OpeningNote) (request : GrantRequest) → NotesFit trail → OpeningFits o → AllByRecursion AskFits request.asks
+modify_by_fits : (s : Settled) (trail : List Note) (now : ℕ) (o : OpeningNote) (request : GrantRequest) → NotesFit trail → OpeningFits o
+    → AllByRecursion AskFits request.asks
     → ModesFitOr request.modes → ActionFits (modify_by s trail now o request)
 modify_by_fits Never trail now o request fit key asks modes = tt
-modify_by_fits AtOnce trail now o request fit key asks modes = if_both ActionFits (pass_limit (other_live_tokens trail now o) (length request.asks)) (Refuse RequestDenied)
+modify_by_fits AtOnce trail now o request fit key asks modes = if_both ActionFits (pass_limit (other_live_tokens trail now o) (length request.asks))
+    (Refuse RequestDenied)
     (ModifyAtOnce o (consent_of trail o.grant) (tokens_of trail now o) request) tt (key, consent_fits o.grant trail fit, asks)
 modify_by_fits ByAsking trail now o request fit key asks modes =
     ask_user_fits (ModifyAsking o (tokens_of trail now o) request) request.modes modes (λ m modes_fit. (asks, modes_fit))
 
-collect_by_fits : (verdict : Verdict) (trail : List Note) (now : ℕ) (o : OpeningNote) (d : DecisionNote) (terms : TermsNote) → OpeningFits o → DecidedFits d → TermsFit terms
+collect_by_fits : (verdict : Verdict) (trail : List Note) (now : ℕ) (o : OpeningNote) (d : DecisionNote) (terms : TermsNote) → OpeningFits o → DecidedFits d
+    → TermsFit terms
     → ActionFits (collect_by verdict trail now o d terms)
 collect_by_fits Deny trail now o d terms key decided asks = tt
 collect_by_fits Unknown trail now o d terms key decided asks = tt
-collect_by_fits Grant trail now o d terms key decided asks = if_both ActionFits (pass_limit (live_tokens trail now) (length (decided_asks d.rights terms))) (Refuse RequestDenied)
+collect_by_fits Grant trail now o d terms key decided asks = if_both ActionFits (pass_limit (live_tokens trail now) (length (decided_asks d.rights terms)))
+    (Refuse RequestDenied)
     (CollectDecision o terms d (decided_asks d.rights terms)) tt (key, decided, decided_fit d.rights terms.asks asks)
 
-collect_or_renew_fits : (trail : List Note) (now : ℕ) (o : OpeningNote) (decision : Option DecisionNote) → NotesFit trail → OpeningFits o → IfSome decision DecidedFits
+collect_or_renew_fits : (trail : List Note) (now : ℕ) (o : OpeningNote) (decision : Option DecisionNote) → NotesFit trail → OpeningFits o
+    → IfSome decision DecidedFits
     → ActionFits (collect_or_renew trail now o decision)
 collect_or_renew_fits trail now o None fit key decided = tt
 collect_or_renew_fits trail now o (Some d) fit key decided =
@@ -119,7 +129,8 @@ continue_at_fits IsApproved trail now o reference fit key =
     if_both ActionFits (is_some reference) (RefuseAndFinalize o TooManyAttempts) (if is_early trail now o then Refuse TooFast else RenewDoor o) tt
     (if_both ActionFits (is_early trail now o) (Refuse TooFast) (RenewDoor o) tt tt)
 continue_at_fits (IsPending round) trail now o reference fit key =
-    if_both ActionFits (not (is_some reference) && is_early trail now o) (Refuse TooFast) (continue_round trail now o reference (decision_of trail o.grant) round) tt
+    if_both ActionFits (not (is_some reference) && is_early trail now o) (Refuse TooFast)
+    (continue_round trail now o reference (decision_of trail o.grant) round) tt
     (continue_round_fits trail now o reference (decision_of trail o.grant) round fit key (decision_of_fits trail o.grant fit))
 
 rotate_key_fits : (rules : Setup) (new_key : Option Text) (t : TokenNote) (o : OpeningNote) → TokenNoteFits t → IsUtf8Or new_key
@@ -128,29 +139,37 @@ rotate_key_fits rules None t o token key = (token, token.2)
 rotate_key_fits rules (Some new_key) t o token key =
     if_both ActionFits (can_bind rules t.bearer new_key) (RotateToken o t new_key) (Refuse InvalidRotation) (token, key) tt
 
-on_grant_fits : (code : ErrorCode) (trail : List Note) (key : Text) (t : TokenNote) (act : OpeningNote → Action) → NotesFit trail → ((o : OpeningNote) → OpeningFits o → ActionFits (act o))
+on_grant_fits : (code : ErrorCode) (trail : List Note) (key : Text) (t : TokenNote) (act : OpeningNote → Action) → NotesFit trail
+    → ((o : OpeningNote) → OpeningFits o → ActionFits (act o))
     → ActionFits (on_grant code trail key t act)
-on_grant_fits code trail key t act fit each = found_fits OpeningFits code (with_owner act t.key key) (first_of (opening_in t.grant) trail) (opening_fits t.grant trail fit)
+on_grant_fits code trail key t act fit each = found_fits OpeningFits code (with_owner act t.key key) (first_of (opening_in t.grant) trail)
+    (opening_fits t.grant trail fit)
     (λ o h. with_owner_fits act t.key key o (each o h))
 
-show_token_fits : (names : List Text) (binding : Option Binding) (wanted : Option (List Right)) (t : Option TokenNote) → IfSome t TokenNoteFits → ActionFits (show_token names binding wanted t)
+show_token_fits : (names : List Text) (binding : Option Binding) (wanted : Option (List Right)) (t : Option TokenNote) → IfSome t TokenNoteFits
+    → ActionFits (show_token names binding wanted t)
 show_token_fits names binding wanted None fit = tt
 show_token_fits names binding wanted (Some t) fit =
-    if_both ActionFits (suits names binding wanted t.rights t.bearer) (ShowToken (served_part names t.rights) t) ShowInactive (all-filter Fits (serves names) t.rights fit.1, fit) tt
+    if_both ActionFits (suits names binding wanted t.rights t.bearer) (ShowToken (served_part names t.rights) t) ShowInactive
+    (all-filter Fits (serves names) t.rights fit.1, fit) tt
 
 rights_or_fits : (asked : List Right) (rights : Option (List Right)) → RightsFit asked → RightsFitOr rights → RightsFit (rights_or asked rights)
 rights_or_fits asked None fit given = fit
 rights_or_fits asked (Some rights) fit given = given
 
-decide_on_fits : (request : DecideRequest) (round : RoundNote) (asked : List Right) → DecisionFits request → RoundFits round → RightsFit asked → ActionFits (decide_on request round asked)
+decide_on_fits : (request : DecideRequest) (round : RoundNote) (asked : List Right) → DecisionFits request → RoundFits round → RightsFit asked
+    → ActionFits (decide_on request round asked)
 decide_on_fits request round asked decision round_fits fit = if_both ActionFits (may_decide request.verdict asked (rights_or asked request.rights))
-    (TakeDecision round (rights_or asked request.rights) request) (Refuse InvalidRequest) (round_fits, rights_or_fits asked request.rights fit decision.1, decision) tt
+    (TakeDecision round (rights_or asked request.rights) request) (Refuse InvalidRequest)
+    (round_fits, rights_or_fits asked request.rights fit decision.1, decision) tt
 
 -- After notes that fit, a call that fits leads to an action that fits.
-action_fits : (rules : Setup) (supply : Supply) (trail : List Note) (call : Call) → NotesFit trail → TextsFit call → ActionFits (action_of rules supply trail call)
+action_fits : (rules : Setup) (supply : Supply) (trail : List Note) (call : Call) → NotesFit trail → TextsFit call
+    → ActionFits (action_of rules supply trail call)
 action_fits rules supply trail (Begin key request not_after) fit fits =
     let o = opening trail supply.now key request not_after in
-    if_both ActionFits (is_past supply.now not_after || nat_le live_limit (live_grants trail supply.now)) (Refuse RequestDenied) (begin_by (settle rules key [] request) trail supply.now o request) tt
+    if_both ActionFits (is_past supply.now not_after || nat_le live_limit (live_grants trail supply.now)) (Refuse RequestDenied)
+    (begin_by (settle rules key [] request) trail supply.now o request) tt
     (begin_by_fits (settle rules key [] request) trail supply.now o request (fits.0, fits.1.2) fits.1.0 fits.2)
 action_fits rules supply trail (Introspect server value binding wanted) fit fits =
     let names = server_names (key_of rules server) in
@@ -191,11 +210,13 @@ answer_fits rules notes at draw call fit fits =
     outcome_fits supply (action_of rules supply (reverse notes) call) (action_fits rules supply (reverse notes) call (all-reverse NoteFits notes fit) fits)
 
 -- From entries whose notes fit, the rest of a legal history leads to notes that fit.
-notes_fit_on : (rules : Setup) (before rest : List GrantEntry) → Legal grants rules (before ++ rest) → NotesFit (notes_of before) → NotesFit (notes_of (before ++ rest))
+notes_fit_on : (rules : Setup) (before rest : List GrantEntry) → Legal grants rules (before ++ rest) → NotesFit (notes_of before)
+    → NotesFit (notes_of (before ++ rest))
 notes_fit_on rules before [] legal fit = subst (λ (h : List GrantEntry). NotesFit (notes_of h)) (sym (append-nil before)) fit
 notes_fit_on rules before (e ∷ rest) legal fit =
     let follows = legal before e rest refl in
-    let here : NotesFit e.notes = subst NotesFit (sym follows.notes) (answer_fits rules (notes_of before) (now before e.moment) e.draw e.call fit follows.fits.1).1 in
+    let here : NotesFit e.notes = subst NotesFit (sym follows.notes)
+    (answer_fits rules (notes_of before) (now before e.moment) e.draw e.call fit follows.fits.1).1 in
     let joined : notes_of (before ++ e ∷ []) ≡ notes_of before ++ (e.notes ++ []) = notes-append before (e ∷ []) in
     let more : NotesFit (notes_of (before ++ e ∷ [])) = subst NotesFit (sym joined)
     (all-append NoteFits (notes_of before) (e.notes ++ []) fit (all-append NoteFits e.notes [] here tt)) in
@@ -207,7 +228,8 @@ notes_fit_on rules before (e ∷ rest) legal fit =
 notes_fit : (rules : Setup) (h : List GnapEntry) → Legal gnap rules h → NotesFit (plain_notes (notes_of h))
 notes_fit rules h legal =
     let back = reverse-reverse h in
-    let plain = plain_is GnapFits SignedFits rules (reverse h) (λ signed fits. fits.call) (tt, tt) (subst (λ (k : List GnapEntry). Legal gnap rules k) (sym back) legal) in
+    let plain = plain_is GnapFits SignedFits rules (reverse h) (λ signed fits. fits.call) (tt, tt)
+    (subst (λ (k : List GnapEntry). Legal gnap rules k) (sym back) legal) in
     subst (λ (k : List GnapEntry). NotesFit (plain_notes (notes_of k))) back
     (subst NotesFit plain.notes (notes_fit_on rules [] (reverse (plain_past (reverse h))) plain.legal tt))
 
@@ -219,7 +241,8 @@ reply_fits false rules h e notes fits is =
     subst ReplyFits (sym is.reply) (answer_fits rules (plain_notes (notes_of h)) (now h e.moment) e.draw e.call.call notes fits).0
 
 -- Each reply in a legal history fits.
-pub replies_fit : (rules : Setup) (h before : List GnapEntry) (e : GnapEntry) (after : List GnapEntry) → Legal gnap rules h → h ≡ before ++ e ∷ after → ReplyFits e.reply
+pub replies_fit : (rules : Setup) (h before : List GnapEntry) (e : GnapEntry) (after : List GnapEntry) → Legal gnap rules h → h ≡ before ++ e ∷ after
+    → ReplyFits e.reply
 replies_fit rules h before e after legal is =
     let follows = legal before e after is in
     let front = legal-front gnap rules before (e ∷ after) (subst (λ (k : List GnapEntry). Legal gnap rules k) is legal) in
@@ -227,7 +250,8 @@ replies_fit rules h before e after legal is =
     (is_answered SignedFits rules before e (is_refused_after before e) refl follows)
 
 -- A desk's reply to a call that fits, fits.
-pub entered_fits : (rules : Setup) (number : ℕ) (h : List GnapEntry) (moment : ℕ) (draw : List ℕ) (signed : Signed) (reply : Reply) (seen : List GnapEntry → Type 0)
+pub entered_fits : (rules : Setup) (number : ℕ) (h : List GnapEntry) (moment : ℕ) (draw : List ℕ) (signed : Signed) (reply : Reply)
+    (seen : List GnapEntry → Type 0)
     → ((k : List GnapEntry) → seen k → Legal gnap rules k) → Enters gnap rules number h moment draw signed reply seen → ReplyFits reply
 entered_fits rules number h moment draw signed reply seen legal enters =
     let front = h ++ enters.others in

@@ -68,9 +68,11 @@ first_fits Q P look each [] h = tt
 first_fits Q P look each (x ∷ xs) h = or_fits P (look x) (first_of look xs) (each x h.0) (first_fits Q P look each xs h.1)
 
 -- a fact on notes, by what they note
-by_note : (Q : Note → Type 0) → ((o : OpeningNote) → Q (Opened o)) → ((t : TermsNote) → Q (Terms t)) → ((grant : ℕ) (consent : List Right) → Q (Approved grant consent))
+by_note : (Q : Note → Type 0) → ((o : OpeningNote) → Q (Opened o)) → ((t : TermsNote) → Q (Terms t))
+    → ((grant : ℕ) (consent : List Right) → Q (Approved grant consent))
     → ((t : TokenNote) → Q (Issued t)) → ((grant : ℕ) (value : Text) (earliest : ℕ) → Q (Door grant value earliest)) → ((r : RoundNote) → Q (Pended r))
-    → ((d : DecisionNote) → Q (DecidedAs d)) → ((grant : ℕ) → Q (Finalized grant)) → ((grant : ℕ) → Q (Wrong grant)) → ((serial : ℕ) (why : Why) → Q (Retired serial why))
+    → ((d : DecisionNote) → Q (DecidedAs d)) → ((grant : ℕ) → Q (Finalized grant)) → ((grant : ℕ) → Q (Wrong grant))
+    → ((serial : ℕ) (why : Why) → Q (Retired serial why))
     → (note : Note) → Q note
 by_note Q opened terms approved issued door pended decided finalized wrong retired (Opened o) = opened o
 by_note Q opened terms approved issued door pended decided finalized wrong retired (Terms t) = terms t
@@ -104,28 +106,35 @@ DecidedFits d = NoteFits (DecidedAs d)
 
 pub opening_fits : (grant : ℕ) (trail : List Note) → NotesFit trail → IfSome (first_of (opening_in grant) trail) OpeningFits
 opening_fits grant = first_fits NoteFits OpeningFits (opening_in grant) (by_note (Gives OpeningFits (opening_in grant))
-    (λ o fit. some_if_fits OpeningFits _ o fit) (λ _ _. tt) (λ _ _ _. tt) (λ _ _. tt) (λ _ _ _ _. tt) (λ _ _. tt) (λ _ _. tt) (λ _ _. tt) (λ _ _. tt) (λ _ _ _. tt))
+    (λ o fit. some_if_fits OpeningFits _ o fit) (λ _ _. tt) (λ _ _ _. tt) (λ _ _. tt) (λ _ _ _ _. tt) (λ _ _. tt) (λ _ _. tt) (λ _ _. tt) (λ _ _. tt)
+    (λ _ _ _. tt))
 
 pub terms_fit : (grant : ℕ) (trail : List Note) → NotesFit trail → IfSome (first_of (terms_in grant) trail) TermsFit
 terms_fit grant = first_fits NoteFits TermsFit (terms_in grant) (by_note (Gives TermsFit (terms_in grant))
-    (λ _ _. tt) (λ t fit. some_if_fits TermsFit _ t fit) (λ _ _ _. tt) (λ _ _. tt) (λ _ _ _ _. tt) (λ _ _. tt) (λ _ _. tt) (λ _ _. tt) (λ _ _. tt) (λ _ _ _. tt))
+    (λ _ _. tt) (λ t fit. some_if_fits TermsFit _ t fit) (λ _ _ _. tt) (λ _ _. tt) (λ _ _ _ _. tt) (λ _ _. tt) (λ _ _. tt) (λ _ _. tt) (λ _ _. tt)
+    (λ _ _ _. tt))
 
 decision_fits : (grant : ℕ) (trail : List Note) → NotesFit trail → IfSome (first_of (decision_in grant) trail) DecidedFits
 decision_fits grant = first_fits NoteFits DecidedFits (decision_in grant) (by_note (Gives DecidedFits (decision_in grant))
-    (λ _ _. tt) (λ _ _. tt) (λ _ _ _. tt) (λ _ _. tt) (λ _ _ _ _. tt) (λ _ _. tt) (λ d fit. some_if_fits DecidedFits _ d fit) (λ _ _. tt) (λ _ _. tt) (λ _ _ _. tt))
+    (λ _ _. tt) (λ _ _. tt) (λ _ _ _. tt) (λ _ _. tt) (λ _ _ _ _. tt) (λ _ _. tt) (λ d fit. some_if_fits DecidedFits _ d fit) (λ _ _. tt) (λ _ _. tt)
+    (λ _ _ _. tt))
 
 pub token_fits : (test : TokenNote → Bool) (trail : List Note) → NotesFit trail → IfSome (first_of (token_in test) trail) TokenNoteFits
 token_fits test = first_fits NoteFits TokenNoteFits (token_in test) (by_note (Gives TokenNoteFits (token_in test))
-    (λ _ _. tt) (λ _ _. tt) (λ _ _ _. tt) (λ t fit. some_if_fits TokenNoteFits _ t fit) (λ _ _ _ _. tt) (λ _ _. tt) (λ _ _. tt) (λ _ _. tt) (λ _ _. tt) (λ _ _ _. tt))
+    (λ _ _. tt) (λ _ _. tt) (λ _ _ _. tt) (λ t fit. some_if_fits TokenNoteFits _ t fit) (λ _ _ _ _. tt) (λ _ _. tt) (λ _ _. tt) (λ _ _. tt) (λ _ _. tt)
+    (λ _ _ _. tt))
 
-pub named_fits : (whole : List Note) (now : ℕ) (value : Text) (trail : List Note) → NotesFit trail → IfSome (first_of (named_in whole now value) trail) OpeningFits
+pub named_fits : (whole : List Note) (now : ℕ) (value : Text) (trail : List Note) → NotesFit trail
+    → IfSome (first_of (named_in whole now value) trail) OpeningFits
 named_fits whole now value = first_fits NoteFits OpeningFits (named_in whole now value) (by_note (Gives OpeningFits (named_in whole now value))
-    (λ o fit. some_if_fits OpeningFits _ o fit) (λ _ _. tt) (λ _ _ _. tt) (λ _ _. tt) (λ _ _ _ _. tt) (λ _ _. tt) (λ _ _. tt) (λ _ _. tt) (λ _ _. tt) (λ _ _ _. tt))
+    (λ o fit. some_if_fits OpeningFits _ o fit) (λ _ _. tt) (λ _ _ _. tt) (λ _ _. tt) (λ _ _ _ _. tt) (λ _ _. tt) (λ _ _. tt) (λ _ _. tt) (λ _ _. tt)
+    (λ _ _ _. tt))
 
 pub consent_fits : (grant : ℕ) (trail : List Note) → NotesFit trail → RightsFit (consent_of trail grant)
 consent_fits grant trail fit = or_none (first_of (consent_in grant) trail)
     (first_fits NoteFits RightsFit (consent_in grant) (by_note (Gives RightsFit (consent_in grant))
-    (λ _ _. tt) (λ _ _. tt) (λ _ consent fit. some_if_fits RightsFit _ consent fit) (λ _ _. tt) (λ _ _ _ _. tt) (λ _ _. tt) (λ _ _. tt) (λ _ _. tt) (λ _ _. tt) (λ _ _ _. tt)) trail fit)
+    (λ _ _. tt) (λ _ _. tt) (λ _ consent fit. some_if_fits RightsFit _ consent fit) (λ _ _. tt) (λ _ _ _ _. tt) (λ _ _. tt) (λ _ _. tt) (λ _ _. tt) (λ _ _. tt)
+    (λ _ _ _. tt)) trail fit)
   where
     or_none : (consent : Option (List Right)) → IfSome consent RightsFit → RightsFit (unwrap_or consent [])
     or_none None fit = tt
@@ -145,7 +154,8 @@ StateFits IsFinalized = Unit {0}
 pub state_fits : (trail : List Note) (grant now : ℕ) → NotesFit trail → StateFits (grant_state trail grant now)
 state_fits trail grant now fit = if_both StateFits _ IsFinalized (state_after (first_of (state_change_in grant) trail) now) tt
     (after (first_of (state_change_in grant) trail) (first_fits NoteFits ChangeFits (state_change_in grant) (by_note (Gives ChangeFits (state_change_in grant))
-    (λ _ _. tt) (λ _ _. tt) (λ _ _ _. some_if_fits ChangeFits _ ToApproved tt) (λ _ _. tt) (λ _ _ _ _. tt) (λ r fit. some_if_fits ChangeFits _ (ToPending r) fit) (λ _ _. tt) (λ _ _. tt) (λ _ _. tt) (λ _ _ _. tt))
+    (λ _ _. tt) (λ _ _. tt) (λ _ _ _. some_if_fits ChangeFits _ ToApproved tt) (λ _ _. tt) (λ _ _ _ _. tt)
+    (λ r fit. some_if_fits ChangeFits _ (ToPending r) fit) (λ _ _. tt) (λ _ _. tt) (λ _ _. tt) (λ _ _ _. tt))
     trail fit))
   where
     after : (change : Option StateChange) → IfSome change ChangeFits → StateFits (state_after change now)
@@ -155,7 +165,8 @@ state_fits trail grant now fit = if_both StateFits _ IsFinalized (state_after (f
 
 round_trail_fits : (trail : List Note) (grant : ℕ) → NotesFit trail → NotesFit (round_trail trail grant)
 round_trail_fits [] grant fit = tt
-round_trail_fits (note ∷ trail) grant fit = if_both NotesFit (is_round_of grant note) [] (note ∷ round_trail trail grant) tt (fit.0, round_trail_fits trail grant fit.1)
+round_trail_fits (note ∷ trail) grant fit = if_both NotesFit (is_round_of grant note) [] (note ∷ round_trail trail grant) tt
+    (fit.0, round_trail_fits trail grant fit.1)
 
 pub decision_of_fits : (trail : List Note) (grant : ℕ) → NotesFit trail → IfSome (decision_of trail grant) DecidedFits
 decision_of_fits trail grant fit = decision_fits grant (round_trail trail grant) (round_trail_fits trail grant fit)
@@ -167,7 +178,8 @@ live_round_fits whole now IsFinalized fit = tt
 
 interaction_fits : (whole : List Note) (now : ℕ) → NotesFit whole → (note : Note) → IfSome (interaction_in whole now note) RoundFits
 interaction_fits whole now fit = by_note (λ note. IfSome (interaction_in whole now note) RoundFits)
-    (λ o. live_round_fits whole now (grant_state whole o.grant now) (state_fits whole o.grant now fit)) (λ _. tt) (λ _ _. tt) (λ _. tt) (λ _ _ _. tt) (λ _. tt) (λ _. tt) (λ _. tt) (λ _. tt) (λ _ _. tt)
+    (λ o. live_round_fits whole now (grant_state whole o.grant now) (state_fits whole o.grant now fit)) (λ _. tt) (λ _ _. tt) (λ _. tt) (λ _ _ _. tt) (λ _. tt)
+    (λ _. tt) (λ _. tt) (λ _. tt) (λ _ _. tt)
 
 rounds_fit : (whole : List Note) (now : ℕ) → NotesFit whole → (trail : List Note) → AllByRecursion RoundFits (filter_map (interaction_in whole now) trail)
 rounds_fit whole now fit [] = tt
@@ -197,4 +209,5 @@ decided_ask_fits decided ask (right ∷ rights) is label fit = rw is (label, fit
 pub decided_fit : (decided : List Right) (asks : List Ask) → AllByRecursion AskFits asks → AllByRecursion AskFits (filter_map (decided_ask decided) asks)
 decided_fit decided [] h = tt
 decided_fit decided (ask ∷ asks) h = all-cons_option AskFits (decided_ask decided ask) (filter_map (decided_ask decided) asks)
-    (decided_ask_fits decided ask (decided_part decided ask.rights) refl h.0.0 (all-filter Fits (λ right. covers decided (right ∷ [])) ask.rights h.0.1)) (decided_fit decided asks h.1)
+    (decided_ask_fits decided ask (decided_part decided ask.rights) refl h.0.0 (all-filter Fits (λ right. covers decided (right ∷ [])) ask.rights h.0.1))
+    (decided_fit decided asks h.1)

@@ -46,11 +46,15 @@ tokens_as {X} f supply o same asks likewise xs one all is =
     is ∙ ap (λ (x : OpeningNote). map f (tokens_for supply x asks 0)) one ∙ ap (λ (x : List Ask). map f (tokens_for supply same x 0)) all
 
 abbrev granted : Supply → OpeningNote → List Ask → Bool → Option Text → Option Text → Reply
-granted supply o asks single subject instance = Granted (drawn_value supply (2 * length asks)) (map (token_out supply.now) (tokens_for supply o asks 0)) single subject instance
+granted supply o asks single subject instance = Granted (drawn_value supply (2 * length asks)) (map (token_out supply.now) (tokens_for supply o asks 0)) single
+    subject instance
 
-pub granted_as : (supply : Supply) (o same : OpeningNote) (asks likewise : List Ask) (single : Bool) (subject told instance also : Option Text) (reply : Reply) → o ≡ same → asks ≡ likewise
-    → subject ≡ told → instance ≡ also → reply ≡ Granted (drawn_value supply (2 * length asks)) (map (token_out supply.now) (tokens_for supply o asks 0)) single subject instance
+pub granted_as : (supply : Supply) (o same : OpeningNote) (asks likewise : List Ask) (single : Bool) (subject told instance also : Option Text) (reply : Reply)
+    → o ≡ same → asks ≡ likewise
+    → subject ≡ told → instance ≡ also
+    → reply ≡ Granted (drawn_value supply (2 * length asks)) (map (token_out supply.now) (tokens_for supply o asks 0)) single subject instance
     → reply ≡ Granted (drawn_value supply (2 * length likewise)) (map (token_out supply.now) (tokens_for supply same likewise 0)) single told also
 granted_as supply o same asks likewise single subject told instance also reply one all tells names is =
     is ∙ ap (λ (x : OpeningNote). granted supply x asks single subject instance) one ∙ ap (λ (x : List Ask). granted supply same x single subject instance) all
-    ∙ ap (λ (x : Option Text). granted supply same likewise single x instance) tells ∙ ap (λ (x : Option Text). granted supply same likewise single told x) names
+    ∙ ap (λ (x : Option Text). granted supply same likewise single x instance) tells
+    ∙ ap (λ (x : Option Text). granted supply same likewise single told x) names

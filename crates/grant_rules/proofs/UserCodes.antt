@@ -31,5 +31,6 @@ free_code-reverse (suc tries) number taken =
     rw (any-reverse (same_text (code_text (number % code_count))) taken, free_code-reverse tries (number + 1) taken) refl
 
 -- It doesn't matter in which order the taken codes stand.
-pub free_code-reordered : (number : ℕ) (codes taken : List Text) → codes ≡ reverse taken → free_code (length codes) number codes ≡ free_code (length taken) number taken
+pub free_code-reordered : (number : ℕ) (codes taken : List Text) → codes ≡ reverse taken
+    → free_code (length codes) number codes ≡ free_code (length taken) number taken
 free_code-reordered number codes taken is = rw (is, length-reverse taken) (free_code-reverse (length taken) number taken)

@@ -48,4 +48,5 @@ round_drawn supply grant end modes code = record {
 -- what the front needs to tell the client, where the round has this nonce (RFC 9635, section 4.2)
 abbrev pub finish_told : Supply → Option Text → Option Finish → Option FinishOut
 finish_told supply _ None = None
-finish_told supply round_nonce (Some finish) = Some (record { finish = finish; server_nonce = or_zeros 32 round_nonce; reference = drawn supply.first supply.words.now 0 })
+finish_told supply round_nonce (Some finish) = Some
+    (record { finish = finish; server_nonce = or_zeros 32 round_nonce; reference = drawn supply.first supply.words.now 0 })

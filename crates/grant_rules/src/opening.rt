@@ -29,7 +29,8 @@ pub fn opening(
     not_after: Option<u64>,
 ) -> Result<OpeningNote, Mem>
     requires { now ≤ last_moment }
-    ensures { IfOk result (λ opening. opening ≡ record { grant = number; key = key.now; by_object = request.now.by_object; user = request.now.user; end = end_of now not_after }) }
+    ensures { IfOk result (λ opening. opening
+        ≡ record { grant = number; key = key.now; by_object = request.now.by_object; user = request.now.user; end = end_of now not_after }) }
 {
     let end = now + GRANT_TIME;
     Ok(OpeningNote {

@@ -72,7 +72,8 @@ pub place_within : (slice : List Listed) (at code : ℕ) → IsPlaceOf code (map
 place_within slice at code place = let many = length-map slice key_of in let low = place.within in omega (arith, many, low)
 
 -- a code that doesn't stand at its place is put in there
-pub put_ascend : (slice again listed : List Listed) (at code number : ℕ) → slice ≡ listed → again ≡ listed → Ascend listed → IsPlaceOf code (map key_of slice) at
+pub put_ascend : (slice again listed : List Listed) (at code number : ℕ) → slice ≡ listed → again ≡ listed → Ascend listed
+    → IsPlaceOf code (map key_of slice) at
     → false ≡ where_some (λ (one : Listed). one.key == code) (slice_get again at) → Ascend (insert listed at (under code number))
 put_ascend slice again listed at code number same also ascend placed absent = inserted_ascend listed at (under code number) ascend inside
     (λ k d less.
@@ -88,7 +89,8 @@ put_ascend slice again listed at code number same also ascend placed absent = in
 
     other : (d : Listed) → at < length listed → (get_or listed at d).key ≡ code → ⊥
     other d less is =
-        let t : false ≡ where_some (λ (one : Listed). one.key == code) (slice_get listed at) = absent ∙ ap (λ (os : List Listed). where_some (λ (one : Listed). one.key == code) (slice_get os at)) also in
+        let t : false ≡ where_some (λ (one : Listed). one.key == code) (slice_get listed at) = absent
+        ∙ ap (λ (os : List Listed). where_some (λ (one : Listed). one.key == code) (slice_get os at)) also in
         let u : false ≡ ((get_or listed at d).key == code) = t ∙ ap (where_some (λ (one : Listed). one.key == code)) (get_at listed at d less) in
         let v : false ≡ true = u ∙ ap (λ n. n == code) is ∙ eqb-self code in cc v
 
@@ -121,7 +123,8 @@ item_of_insert xs at y z h = elim (item_append (take at xs) (y ∷ drop at xs) z
 -- ---- a code is taken out
 
 -- what stands at a place with this code and this grant
-pub at_code : (slice listed : List Listed) (at code number : ℕ) → slice ≡ listed → true ≡ where_some (λ (one : Listed). (one.key == code) && (one.number == number)) (slice_get slice at)
+pub at_code : (slice listed : List Listed) (at code number : ℕ) → slice ≡ listed
+    → true ≡ where_some (λ (one : Listed). (one.key == code) && (one.number == number)) (slice_get slice at)
     → (at < length listed) × ((d : Listed) → get_or listed at d ≡ under code number)
 at_code slice listed at code number same there = inside (cases_lt at (length listed))
   where
@@ -148,7 +151,8 @@ at_code slice listed at code number same there = inside (cases_lt at (length lis
     inside (inr le) = let k : true ≡ false = told ∙ ap (where_some test) (get_past listed at le) in cc k
 
 -- what stays where the item at a place goes
-pub taken_at : (listed : List Listed) (at code number : ℕ) → Ascend listed → at < length listed → ((d : Listed) → get_or listed at d ≡ under code number) → remove listed at ≡ filter (λ (one : Listed). not (code == one.key)) listed
+pub taken_at : (listed : List Listed) (at code number : ℕ) → Ascend listed → at < length listed → ((d : Listed) → get_or listed at d ≡ under code number)
+    → remove listed at ≡ filter (λ (one : Listed). not (code == one.key)) listed
 taken_at listed at code number ascend inside is = removed_at key_of listed at code (under code number) ascend inside (ap key_of (is (under code number)))
 
 pub taken_gone : (listed : List Listed) (code number : ℕ) → HasItem (filter (λ (one : Listed). not (code == one.key)) listed) (under code number) → ⊥
@@ -156,7 +160,8 @@ taken_gone listed code number h =
     let r = item_of_filter (λ (one : Listed). not (code == one.key)) listed (under code number) h in
     let k : false ≡ true = sym (ap not (eqb-self code)) ∙ r.1 in cc k
 
-pub taken_kept : (listed : List Listed) (at code number : ℕ) (one : Listed) → Ascend listed → at < length listed → ((d : Listed) → get_or listed at d ≡ under code number) → HasItem listed one → (one ≡ under code number → ⊥)
+pub taken_kept : (listed : List Listed) (at code number : ℕ) (one : Listed) → Ascend listed → at < length listed
+    → ((d : Listed) → get_or listed at d ≡ under code number) → HasItem listed one → (one ≡ under code number → ⊥)
     → HasItem (filter (λ (one : Listed). not (code == one.key)) listed) one
 taken_kept listed at code number one ascend inside is h other = item_filtered (λ (o : Listed). not (code == o.key)) listed one h (by (code == one.key) refl)
   where
@@ -171,11 +176,13 @@ pub taken_ascend : (listed : List Listed) (at : ℕ) → Ascend listed → at < 
 taken_ascend listed at ascend inside = all_pairs_remove (λ (a b : Listed). a.key < b.key) listed at inside ascend
 
 -- nothing stands there with this code and this grant
-pub none_taken : (slice again listed : List Listed) (at code number : ℕ) → slice ≡ listed → again ≡ listed → Ascend listed → IsPlaceOf code (map key_of slice) at
+pub none_taken : (slice again listed : List Listed) (at code number : ℕ) → slice ≡ listed → again ≡ listed → Ascend listed
+    → IsPlaceOf code (map key_of slice) at
     → false ≡ where_some (λ (one : Listed). (one.key == code) && (one.number == number)) (slice_get again at) → HasItem listed (under code number) → ⊥
 none_taken slice again listed at code number same also ascend place absent h =
     let there : slice_get slice at ≡ Some (under code number) =
-    at_place key_of slice at code (under code number) (codes_ascend slice listed same ascend) place (subst (λ (os : List Listed). HasItem os (under code number)) (sym same) h) refl in
+    at_place key_of slice at code (under code number) (codes_ascend slice listed same ascend) place
+    (subst (λ (os : List Listed). HasItem os (under code number)) (sym same) h) refl in
     let here : slice_get again at ≡ Some (under code number) = ap (λ (os : List Listed). slice_get os at) (also ∙ sym same) ∙ there in
     let t : false ≡ ((code == code) && (number == number)) = absent ∙ ap (where_some (λ (one : Listed). (one.key == code) && (one.number == number))) here in
     let u : false ≡ true = t ∙ both in cc u
@@ -189,7 +196,9 @@ pub picked_ascend : (bs : List Bool) (xs : List Listed) → Ascend xs → Ascend
 picked_ascend [] xs ascend = λ i j d lt jn. absurd (omega (arith, jn))
 picked_ascend (b ∷ bs) [] ascend = λ i j d lt jn. absurd (omega (arith, jn))
 picked_ascend (true ∷ bs) (x ∷ xs) ascend =
-    AllPairs-cons (λ (a b : Listed). a.key < b.key) x (items_where_true bs xs) (λ k d inside. first (get_or (items_where_true bs xs) k d) (picked_item bs xs (get_or (items_where_true bs xs) k d) (item_in (items_where_true bs xs) k d inside)))
+    AllPairs-cons (λ (a b : Listed). a.key < b.key) x (items_where_true bs xs)
+    (λ k d inside. first (get_or (items_where_true bs xs) k d)
+    (picked_item bs xs (get_or (items_where_true bs xs) k d) (item_in (items_where_true bs xs) k d inside)))
     (picked_ascend bs xs (λ i j d lt jn. ascend (suc i) (suc j) d (omega arith) (omega arith)))
   where
     first : (z : Listed) → HasItem xs z → x.key < z.key
@@ -203,10 +212,12 @@ picked_ascend (false ∷ bs) (x ∷ xs) ascend = picked_ascend bs xs (λ i j d l
 -- ---- codes one after another
 
 -- what stands at a place with this key
-pub at_key : (items : List Listed) (at key : ℕ) → true ≡ where_some (λ (one : Listed). one.key == key) (slice_get items at) → (at < length items) × (d : Listed) × ((get_or items at d).key ≡ key)
+pub at_key : (items : List Listed) (at key : ℕ) → true ≡ where_some (λ (one : Listed). one.key == key) (slice_get items at)
+    → (at < length items) × (d : Listed) × ((get_or items at d).key ≡ key)
 at_key items at key there = inside (cases_lt at (length items)) (slice_get items at) refl
   where
-    inside : (at < length items) ⊎ (length items ≤ at) → (o : Option Listed) → slice_get items at ≡ o → (at < length items) × (d : Listed) × ((get_or items at d).key ≡ key)
+    inside : (at < length items) ⊎ (length items ≤ at) → (o : Option Listed) → slice_get items at ≡ o
+        → (at < length items) × (d : Listed) × ((get_or items at d).key ≡ key)
     inside (inl lt) None e = let k : None ≡ Some (get_or items at (under 0 0)) = sym e ∙ get_at items at (under 0 0) lt in cc k
     inside (inl lt) (Some one) e =
         let same : Some one ≡ Some (get_or items at one) = sym e ∙ get_at items at one lt in
@@ -226,7 +237,8 @@ climbs xs d ascend i (suc n) inside =
     let step = ascend (i + n) (i + suc n) d (omega arith) inside in omega (arith, before, step)
 
 -- where a key is greater than the first one by as many as stand between, each of those between is there
-pub run_there : (items : List Listed) (key middle : ℕ) (d : Listed) → Ascend items → ((one : Listed) → HasItem items one → key ≤ one.key) → middle < length items → (get_or items middle d).key ≡ key + middle
+pub run_there : (items : List Listed) (key middle : ℕ) (d : Listed) → Ascend items → ((one : Listed) → HasItem items one → key ≤ one.key)
+    → middle < length items → (get_or items middle d).key ≡ key + middle
     → (k : ℕ) → key ≤ k → k < key + (middle + 1) → (number : ℕ) × HasItem items (under k number)
 run_there items key middle d ascend from inside is k le lt =
     let i : ℕ = k - key in
@@ -274,12 +286,15 @@ padded [] (suc i) = refl
 padded (x ∷ xs) zero = refl
 padded (x ∷ xs) (suc i) = padded xs i
 
-pub pushed_list : (b : Bool) (lists more : List (List Listed)) (list : List Listed) → list ≡ [] → more ≡ (if b then lists ++ list ∷ [] else lists) → (i : ℕ) → get_or more i [] ≡ get_or lists i []
-pushed_list true lists more list none is i = ap (λ (ls : List (List Listed)). get_or ls i []) is ∙ ap (λ (os : List Listed). get_or (lists ++ os ∷ []) i []) none ∙ padded lists i
+pub pushed_list : (b : Bool) (lists more : List (List Listed)) (list : List Listed) → list ≡ [] → more ≡ (if b then lists ++ list ∷ [] else lists) → (i : ℕ)
+    → get_or more i [] ≡ get_or lists i []
+pushed_list true lists more list none is i = ap (λ (ls : List (List Listed)). get_or ls i []) is
+    ∙ ap (λ (os : List Listed). get_or (lists ++ os ∷ []) i []) none ∙ padded lists i
 pushed_list false lists more list none is i = ap (λ (ls : List (List Listed)). get_or ls i []) is
 
 -- where one list is another one now, each is as it was, or is this one
-pub one_list : (lists : List (List Listed)) (at i : ℕ) (new : List Listed) → at < length lists → ((i ≡ at) × (get_or (set lists at new) i [] ≡ new)) ⊎ ((i ≡ at → ⊥) × (get_or (set lists at new) i [] ≡ get_or lists i []))
+pub one_list : (lists : List (List Listed)) (at i : ℕ) (new : List Listed) → at < length lists
+    → ((i ≡ at) × (get_or (set lists at new) i [] ≡ new)) ⊎ ((i ≡ at → ⊥) × (get_or (set lists at new) i [] ≡ get_or lists i []))
 one_list lists at i new inside = elim (cases_eq i at) [
   | inl is ↦ inl (is, ap (λ n. get_or (set lists at new) n []) is ∙ get_or-set_same lists at new [] inside)
   | inr other ↦ inr (other, get_or-set_other lists at i new [] other)
@@ -310,9 +325,11 @@ module _ (lists : List (List Listed)) (at listed number : ℕ) (old new : List L
   in_was : (n other : ℕ) → n / 20 ^ 7 ≡ at → HasIn lists n other → HasItem old (under n other)
   in_was n other e h = subst (λ (os : List Listed). HasItem os (under n other)) (sym (is_old ∙ ap (λ k. get_or lists k []) (sym e))) h
 
-  pub take_kept : ((one : Listed) → HasItem old one → (one ≡ under listed number → ⊥) → HasItem new one) → (n other : ℕ) → HasIn lists n other → (other ≡ number → ⊥) → HasIn (set lists at new) n other
+  pub take_kept : ((one : Listed) → HasItem old one → (one ≡ under listed number → ⊥) → HasItem new one) → (n other : ℕ) → HasIn lists n other
+      → (other ≡ number → ⊥) → HasIn (set lists at new) n other
   take_kept kept n other h never = elim (one_list lists at (n / 20 ^ 7) new inside) [
-    | inl e ↦ subst (λ (os : List Listed). HasItem os (under n other)) (sym e.1) (kept (under n other) (in_was n other e.0 h) (λ same. never (ap (λ (one : Listed). one.number) same)))
+    | inl e ↦ subst (λ (os : List Listed). HasItem os (under n other)) (sym e.1)
+        (kept (under n other) (in_was n other e.0 h) (λ same. never (ap (λ (one : Listed). one.number) same)))
     | inr e ↦ subst (λ (os : List Listed). HasItem os (under n other)) (sym e.1) h
   ]
 
@@ -334,7 +351,8 @@ module _ (lists : List (List Listed)) (at listed number : ℕ) (old new : List L
     | inr e ↦ subst (λ (os : List Listed). HasItem os (under n other)) (sym e.1) h
   ]
 
-  pub put_only : ((one : Listed) → HasItem new one → HasItem old one ⊎ (one ≡ under listed number)) → (n other : ℕ) → HasIn (set lists at new) n other → HasIn lists n other ⊎ ((other ≡ number) × (n ≡ listed))
+  pub put_only : ((one : Listed) → HasItem new one → HasItem old one ⊎ (one ≡ under listed number)) → (n other : ℕ) → HasIn (set lists at new) n other
+      → HasIn lists n other ⊎ ((other ≡ number) × (n ≡ listed))
   put_only only n other h = elim (one_list lists at (n / 20 ^ 7) new inside) [
     | inl e ↦ elim (only (under n other) (subst (λ (os : List Listed). HasItem os (under n other)) e.1 h)) [
       | inl m ↦ inl (was_in n other e.0 m)

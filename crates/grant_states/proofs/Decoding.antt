@@ -27,13 +27,17 @@ slice_ok : (text bytes : List ℕ) → length text ≡ 32 → length bytes ≡ 2
 slice_ok text bytes long many ok =
     let lone = lone_error url_safe_no_pad.decode_table url_safe_no_pad.padding.value text in
     let rest = or_else (groups_error url_safe_no_pad.decode_table text (groups_before_last (length text)))
-    (suffix_error url_safe_no_pad.decode_table url_safe_no_pad.padding.value url_safe_no_pad.config.decode_allow_trailing_bits url_safe_no_pad.config.decode_padding_mode (4 * groups_before_last (length text)) text) in
+    (suffix_error url_safe_no_pad.decode_table url_safe_no_pad.padding.value url_safe_no_pad.config.decode_allow_trailing_bits
+    url_safe_no_pad.config.decode_padding_mode (4 * groups_before_last (length text)) text) in
     let parts = outcome_ok (or_else lone rest) (decoded_bytes_of url_safe_no_pad text) bytes ok in
     let none = no_error lone rest parts.0 in
     let room : nat_lt 8 (groups_before_last (length text)) ≡ false = ap (λ n. nat_lt 8 (groups_before_last n)) long in
     let size : length (decoded_bytes_of url_safe_no_pad text) ≡ 24 = ap (length {A = ℕ}) parts.1 ∙ many in
-    let first : or_error lone (if nat_lt 8 (groups_before_last (length text)) then Err OutputSliceTooSmall else or_error rest (bytes_fit (length (decoded_bytes_of url_safe_no_pad text)) 24)) ≡ Ok 24 =
-    ap (λ (x : Option DecodeError). or_error x (if nat_lt 8 (groups_before_last (length text)) then Err OutputSliceTooSmall else or_error rest (bytes_fit (length (decoded_bytes_of url_safe_no_pad text)) 24))) none.0
+    let first : or_error lone (if nat_lt 8 (groups_before_last (length text)) then Err OutputSliceTooSmall else or_error rest
+    (bytes_fit (length (decoded_bytes_of url_safe_no_pad text)) 24)) ≡ Ok 24 =
+    ap (λ (x : Option DecodeError). or_error x
+    (if nat_lt 8 (groups_before_last (length text)) then Err OutputSliceTooSmall else or_error rest
+    (bytes_fit (length (decoded_bytes_of url_safe_no_pad text)) 24))) none.0
     ∙ ap (λ b. if b then Err OutputSliceTooSmall else or_error rest (bytes_fit (length (decoded_bytes_of url_safe_no_pad text)) 24)) room
     ∙ ap (λ (x : Option DecodeError). or_error x (bytes_fit (length (decoded_bytes_of url_safe_no_pad text)) 24)) none.1
     ∙ ap (λ n. bytes_fit n 24) size in
@@ -45,7 +49,8 @@ value_long s a b =
     ap (length {A = ℕ}) (append-nil _) ∙ length-encode_symbols url_safe_no_pad.encode_table (bytes_24 s a b)
 
 -- A drawn value decodes, and the bytes begin with its serial.
-pub value_decoded : (text : List ℕ) (s a b : ℕ) → text ≡ value_text s a b → (decode_slice_of url_safe_no_pad text 24 ≡ Ok 24) × (decoded_bytes_of url_safe_no_pad text ≡ bytes_24 s a b)
+pub value_decoded : (text : List ℕ) (s a b : ℕ) → text ≡ value_text s a b
+    → (decode_slice_of url_safe_no_pad text 24 ≡ Ok 24) × (decoded_bytes_of url_safe_no_pad text ≡ bytes_24 s a b)
 value_decoded text s a b e = slice_ok text (bytes_24 s a b) (ap (length {A = ℕ}) e ∙ value_long s a b) refl (ap (decode_of url_safe_no_pad) e ∙ decoded s a b)
 
 pub serial_first : (s a b : ℕ) (rest : List ℕ) → s < 2 ^ 64 → from_be_bytes w64 (bytes_24 s a b ++ rest) ≡ s

@@ -36,31 +36,41 @@ place_numbers places = map (λ (place : GrantPlace). place.number) places
 abbrev pub door_serials : List DoorPlace → List ℕ
 door_serials doors = map (λ (door : DoorPlace). door.serial) doors
 
-numbers_same : (places : List GrantPlace) → ((p : GrantPlace) → HasItem places p → p.number ≡ p.row.value.number) → place_numbers places ≡ map (λ (row : GrantRow). row.number) (map grant_in places)
+numbers_same : (places : List GrantPlace) → ((p : GrantPlace) → HasItem places p → p.number ≡ p.row.value.number)
+    → place_numbers places ≡ map (λ (row : GrantRow). row.number) (map grant_in places)
 numbers_same [] h = refl
 numbers_same (p ∷ ps) h = ap (λ n. n ∷ place_numbers ps) (h p (inl refl)) ∙ ap (λ (ns : List ℕ). p.row.value.number ∷ ns) (numbers_same ps (λ q m. h q (inr m)))
 
-pub numbers_are : (doors : List DoorPlace) (places : List GrantPlace) → All (IsGrantPlace doors) places → place_numbers places ≡ map (λ (row : GrantRow). row.number) (map grant_in places)
+pub numbers_are : (doors : List DoorPlace) (places : List GrantPlace) → All (IsGrantPlace doors) places
+    → place_numbers places ≡ map (λ (row : GrantRow). row.number) (map grant_in places)
 numbers_are doors places each = numbers_same places (λ p h. (item_all (IsGrantPlace doors) places p each h).number)
 
-pub ascending_places : (slice places : List GrantPlace) (doors : List DoorPlace) (bound : ℕ) → slice ≡ places → AreGrantPlaces places doors bound → IsAscending (place_numbers slice)
+pub ascending_places : (slice places : List GrantPlace) (doors : List DoorPlace) (bound : ℕ) → slice ≡ places → AreGrantPlaces places doors bound
+    → IsAscending (place_numbers slice)
 ascending_places slice places doors bound same are = subst (λ (ps : List GrantPlace). IsAscending (place_numbers ps)) (sym same)
     (subst IsAscending (sym (numbers_are doors places are.each)) (ascending_keys (λ (row : GrantRow). row.number) (map grant_in places) are.ascending))
 
-pub ascending_doors : (slice doors : List DoorPlace) (places : List GrantPlace) (bound : ℕ) → slice ≡ doors → AreGrantPlaces places doors bound → IsAscending (door_serials slice)
-ascending_doors slice doors places bound same are = subst (λ (ds : List DoorPlace). IsAscending (door_serials ds)) (sym same) (ascending_keys (λ (door : DoorPlace). door.serial) doors are.doors_ascend)
+pub ascending_doors : (slice doors : List DoorPlace) (places : List GrantPlace) (bound : ℕ) → slice ≡ doors → AreGrantPlaces places doors bound
+    → IsAscending (door_serials slice)
+ascending_doors slice doors places bound same are = subst (λ (ds : List DoorPlace). IsAscending (door_serials ds)) (sym same)
+    (ascending_keys (λ (door : DoorPlace). door.serial) doors are.doors_ascend)
 
 -- ---- a row by its number
 
-pub number_found : (slice places : List GrantPlace) (doors : List DoorPlace) (bound : ℕ) (rows : List GrantRow) (at number : ℕ) → slice ≡ places → map grant_in places ≡ rows → AreGrantPlaces places doors bound
+pub number_found : (slice places : List GrantPlace) (doors : List DoorPlace) (bound : ℕ) (rows : List GrantRow) (at number : ℕ) → slice ≡ places
+    → map grant_in places ≡ rows → AreGrantPlaces places doors bound
     → IsPlaceOf number (place_numbers slice) at
     → option_map grant_in (option_and_then (λ (place : GrantPlace). some_if (place.number == number) place) (slice_get slice at)) ≡ row_by_number number rows
 number_found slice places doors bound rows at number same view are place =
-    let keys : place_numbers slice ≡ map (λ (row : GrantRow). row.number) rows = ap place_numbers same ∙ numbers_are doors places are.each ∙ ap (map (λ (row : GrantRow). row.number)) view in
-    let pairs : AllPairs (λ (a b : GrantRow). a.number < b.number) rows = subst (λ (rs : List GrantRow). AllPairs (λ (a b : GrantRow). a.number < b.number) rs) view are.ascending in
+    let keys : place_numbers slice ≡ map (λ (row : GrantRow). row.number) rows = ap place_numbers same ∙ numbers_are doors places are.each
+    ∙ ap (map (λ (row : GrantRow). row.number)) view in
+    let pairs : AllPairs (λ (a b : GrantRow). a.number < b.number) rows = subst (λ (rs : List GrantRow). AllPairs (λ (a b : GrantRow). a.number < b.number) rs)
+    view are.ascending in
     let there : IsPlaceOf number (map (λ (row : GrantRow). row.number) rows) at = subst (λ (ks : List ℕ). IsPlaceOf number ks at) keys place in
-    ap (λ (ps : List GrantPlace). option_map grant_in (option_and_then (λ (place : GrantPlace). some_if (place.number == number) place) (slice_get ps at))) same ∙ turned (slice_get places at) refl
-    ∙ ap (option_and_then (λ (row : GrantRow). some_if (row.number == number) row)) (sym (slice_get-map grant_in places at) ∙ ap (λ (rs : List GrantRow). slice_get rs at) view)
+    ap (λ (ps : List GrantPlace). option_map grant_in (option_and_then (λ (place : GrantPlace). some_if (place.number == number) place) (slice_get ps at))) same
+    ∙ turned (slice_get places at) refl
+    ∙ ap (option_and_then (λ (row : GrantRow). some_if (row.number == number) row))
+    (sym (slice_get-map grant_in places at) ∙ ap (λ (rs : List GrantRow). slice_get rs at) view)
     ∙ placed_key (λ (row : GrantRow). row.number) rows at number (ascending_keys (λ (row : GrantRow). row.number) rows pairs) there
   where
     cases : (p : GrantPlace) (b c : Bool) → b ≡ c → option_map grant_in (some_if b p) ≡ some_if c p.row.value
@@ -70,7 +80,8 @@ number_found slice places doors bound rows at number same view are place =
     cases p false false e = refl
 
     turned : (o : Option GrantPlace) → slice_get places at ≡ o
-        → option_map grant_in (option_and_then (λ (place : GrantPlace). some_if (place.number == number) place) o) ≡ option_and_then (λ (row : GrantRow). some_if (row.number == number) row) (option_map grant_in o)
+        → option_map grant_in (option_and_then (λ (place : GrantPlace). some_if (place.number == number) place) o)
+        ≡ option_and_then (λ (row : GrantRow). some_if (row.number == number) row) (option_map grant_in o)
     turned None e = refl
     turned (Some p) e =
         let k = (item_all (IsGrantPlace doors) places p are.each (get_has places at p e)).number in
@@ -102,50 +113,61 @@ indexed_row doors p is = record {
   listed = subst (λ n. HasItem doors (door_place p.door_serial n)) is.number is.listed;
 }
 
-indexed_rows : (slice doors : List DoorPlace) (places : List GrantPlace) (bound : ℕ) (rows : List GrantRow) → slice ≡ doors → map grant_in places ≡ rows → AreGrantPlaces places doors bound → AreIndexed slice rows
+indexed_rows : (slice doors : List DoorPlace) (places : List GrantPlace) (bound : ℕ) (rows : List GrantRow) → slice ≡ doors → map grant_in places ≡ rows
+    → AreGrantPlaces places doors bound → AreIndexed slice rows
 indexed_rows slice doors places bound rows same view are z h =
     let p = item_of_map grant_in places z (subst (λ (rs : List GrantRow). HasItem rs z) (sym view) h) in
-    subst (λ (ds : List DoorPlace). IsIndexed ds z) (sym same) (subst (IsIndexed doors) p.2 (indexed_row doors p.0 (item_all (IsGrantPlace doors) places p.0 are.each p.1)))
+    subst (λ (ds : List DoorPlace). IsIndexed ds z) (sym same)
+    (subst (IsIndexed doors) p.2 (indexed_row doors p.0 (item_all (IsGrantPlace doors) places p.0 are.each p.1)))
 
 -- a row with the value has its pair in the index, at the place of the value's serial
-door_of : (doors : List DoorPlace) (rows : List GrantRow) (value : Text) (serial at : ℕ) → AreIndexed doors rows → IsAscending (door_serials doors) → Tells value (Some serial) → IsPlaceOf serial (door_serials doors) at
+door_of : (doors : List DoorPlace) (rows : List GrantRow) (value : Text) (serial at : ℕ) → AreIndexed doors rows → IsAscending (door_serials doors)
+    → Tells value (Some serial) → IsPlaceOf serial (door_serials doors) at
     → (z : GrantRow) → HasItem rows z → same_text z.door value ≡ true → slice_get doors at ≡ Some (door_place serial z.number)
 door_of doors rows value serial at indexed ascending told place z h same =
     let is : z.door ≡ value = (bytes_eq-Decides z.door value).0 same in
     let row = indexed z h in
     let k : Some serial ≡ Some row.serial = told row.serial row.value.0 row.value.1 row.small (sym is ∙ row.value.2) in
     let e : row.serial ≡ serial = sym (cc k) in
-    at_place (λ (door : DoorPlace). door.serial) doors at serial (door_place serial z.number) ascending place (subst (λ n. HasItem doors (door_place n z.number)) e row.listed) refl
+    at_place (λ (door : DoorPlace). door.serial) doors at serial (door_place serial z.number) ascending place
+    (subst (λ n. HasItem doors (door_place n z.number)) e row.listed) refl
 
-door_never : (doors : List DoorPlace) (rows : List GrantRow) (value : Text) → AreIndexed doors rows → Tells value no_number → (z : GrantRow) → HasItem rows z → same_text z.door value ≡ true → ⊥
+door_never : (doors : List DoorPlace) (rows : List GrantRow) (value : Text) → AreIndexed doors rows → Tells value no_number → (z : GrantRow) → HasItem rows z
+    → same_text z.door value ≡ true → ⊥
 door_never doors rows value indexed told z h same =
     let is : z.door ≡ value = (bytes_eq-Decides z.door value).0 same in
     let row = indexed z h in
     let k = told row.serial row.value.0 row.value.1 row.small (sym is ∙ row.value.2) in cc k
 
 none_with : (rows : List GrantRow) (value : Text) → ((z : GrantRow) → HasItem rows z → same_text z.door value ≡ true → ⊥) → None ≡ row_by_door value rows
-none_with rows value never = sym (newest_none (λ (row : GrantRow). some_if (same_text row.door value) row) rows (λ z h. nothing z h (same_text z.door value) refl))
+none_with rows value never = sym
+    (newest_none (λ (row : GrantRow). some_if (same_text row.door value) row) rows (λ z h. nothing z h (same_text z.door value) refl))
   where
     nothing : (z : GrantRow) → HasItem rows z → (b : Bool) → same_text z.door value ≡ b → some_if b z ≡ None
     nothing z h true e = absurd (never z h e)
     nothing z h false e = refl
 
-pub door_missing : (places : List GrantPlace) (doors : List DoorPlace) (bound : ℕ) (rows : List GrantRow) (value : Text) → map grant_in places ≡ rows → AreGrantPlaces places doors bound → Tells value no_number
+pub door_missing : (places : List GrantPlace) (doors : List DoorPlace) (bound : ℕ) (rows : List GrantRow) (value : Text) → map grant_in places ≡ rows
+    → AreGrantPlaces places doors bound → Tells value no_number
     → None ≡ row_by_door value rows
 door_missing places doors bound rows value view are told =
     none_with rows value (door_never doors rows value (indexed_rows doors doors places bound rows refl view are) told)
 
-pub door_unlisted : (slice doors : List DoorPlace) (places : List GrantPlace) (bound : ℕ) (rows : List GrantRow) (value : Text) (at serial : ℕ) → slice ≡ doors → map grant_in places ≡ rows → AreGrantPlaces places doors bound
+pub door_unlisted : (slice doors : List DoorPlace) (places : List GrantPlace) (bound : ℕ) (rows : List GrantRow) (value : Text) (at serial : ℕ) → slice ≡ doors
+    → map grant_in places ≡ rows → AreGrantPlaces places doors bound
     → Tells value (Some serial) → IsPlaceOf serial (door_serials slice) at
-    → None ≡ option_map (λ (door : DoorPlace). door.grant) (option_and_then (λ (door : DoorPlace). some_if (door.serial == serial) door) (slice_get slice at)) → None ≡ row_by_door value rows
+    → None ≡ option_map (λ (door : DoorPlace). door.grant) (option_and_then (λ (door : DoorPlace). some_if (door.serial == serial) door) (slice_get slice at))
+    → None ≡ row_by_door value rows
 door_unlisted slice doors places bound rows value at serial same view are told place none = none_with rows value (λ z h e.
     let there = door_of slice rows value serial at (indexed_rows slice doors places bound rows same view are)
     (ascending_doors slice doors places bound same are) told place z h e in
     let some : None ≡ Some z.number = none ∙ rw there (rw (eqb-self serial) refl) in cc some)
 
-pub door_found : (slice doors : List DoorPlace) (places : List GrantPlace) (bound : ℕ) (rows : List GrantRow) (value : Text) (at serial number : ℕ) → slice ≡ doors → map grant_in places ≡ rows → AreGrantPlaces places doors bound
+pub door_found : (slice doors : List DoorPlace) (places : List GrantPlace) (bound : ℕ) (rows : List GrantRow) (value : Text) (at serial number : ℕ)
+    → slice ≡ doors → map grant_in places ≡ rows → AreGrantPlaces places doors bound
     → Tells value (Some serial) → IsPlaceOf serial (door_serials slice) at
-    → Some number ≡ option_map (λ (door : DoorPlace). door.grant) (option_and_then (λ (door : DoorPlace). some_if (door.serial == serial) door) (slice_get slice at))
+    → Some number ≡ option_map (λ (door : DoorPlace). door.grant)
+    (option_and_then (λ (door : DoorPlace). some_if (door.serial == serial) door) (slice_get slice at))
     → option_and_then (λ (row : GrantRow). some_if (same_text row.door value) row) (row_by_number number rows) ≡ row_by_door value rows
 door_found slice doors places bound rows value at serial number same view are told place listed = by (row_by_number number rows) refl
   where
@@ -161,7 +183,8 @@ door_found slice doors places bound rows value at serial number same view are to
         let there = door_of slice rows value serial at indexed (ascending_doors slice doors places bound same are) told place z h e in
         let some : Some number ≡ Some z.number = listed ∙ rw there (rw (eqb-self serial) refl) in sym (cc some)
 
-    by : (o : Option GrantRow) → row_by_number number rows ≡ o → option_and_then (λ (row : GrantRow). some_if (same_text row.door value) row) o ≡ row_by_door value rows
+    by : (o : Option GrantRow) → row_by_number number rows ≡ o
+        → option_and_then (λ (row : GrantRow). some_if (same_text row.door value) row) o ≡ row_by_door value rows
     by None e = none_with rows value (λ z h t. found_none (λ (row : GrantRow). row.number == number) rows e z h (rw (mine z h t) (eqb-self number)))
     by (Some r) e = at_row (found_in (λ (row : GrantRow). row.number == number) rows r e) (same_text r.door value) refl
       where
@@ -181,13 +204,16 @@ door_found slice doors places bound rows value at serial number same view are to
 abbrev pub HoldGrants : List GrantPlace → List DoorPlace → ℕ → List GrantRow → Type 0
 HoldGrants places doors bound rows = (map grant_in places ≡ rows) × AreGrantPlaces places doors bound
 
-pub kept_grants : (test : GrantPlace → Bool) (row_test : GrantRow → Bool) (places : List GrantPlace) (doors : List DoorPlace) (bound : ℕ) → AreGrantPlaces places doors bound
-    → ((p : GrantPlace) → p.number ≡ p.row.value.number → test p ≡ row_test p.row.value) → HoldGrants (filter test places) doors bound (filter row_test (map grant_in places))
+pub kept_grants : (test : GrantPlace → Bool) (row_test : GrantRow → Bool) (places : List GrantPlace) (doors : List DoorPlace) (bound : ℕ)
+    → AreGrantPlaces places doors bound
+    → ((p : GrantPlace) → p.number ≡ p.row.value.number → test p ≡ row_test p.row.value)
+    → HoldGrants (filter test places) doors bound (filter row_test (map grant_in places))
 kept_grants test row_test places doors bound are same =
     let rows = map-filter grant_in test row_test places (λ p h. same p (item_all (IsGrantPlace doors) places p are.each h).number) in (
       rows,
       record {
-        ascending = subst (λ (rs : List GrantRow). AllPairs (λ (a b : GrantRow). a.number < b.number) rs) (sym rows) (AllPairs-filter (λ (a b : GrantRow). a.number < b.number) row_test (map grant_in places) are.ascending);
+        ascending = subst (λ (rs : List GrantRow). AllPairs (λ (a b : GrantRow). a.number < b.number) rs) (sym rows)
+            (AllPairs-filter (λ (a b : GrantRow). a.number < b.number) row_test (map grant_in places) are.ascending);
         each = All-filter test (IsGrantPlace doors) places are.each;
         doors_ascend = are.doors_ascend;
         doors_low = are.doors_low;
@@ -195,7 +221,8 @@ kept_grants test row_test places doors bound are same =
     )
 
 -- the numbers of the places ascend
-pub place_pairs : (places : List GrantPlace) (doors : List DoorPlace) (bound : ℕ) → AreGrantPlaces places doors bound → AllPairs (λ (a b : GrantPlace). a.number < b.number) places
+pub place_pairs : (places : List GrantPlace) (doors : List DoorPlace) (bound : ℕ) → AreGrantPlaces places doors bound
+    → AllPairs (λ (a b : GrantPlace). a.number < b.number) places
 place_pairs places doors bound are i j d lt jn =
     let many = length-map places grant_in in
     let pair = are.ascending i j d.row.value lt (omega (arith, many, jn)) in
@@ -204,28 +231,36 @@ place_pairs places doors bound are i j d lt jn =
     let x = (are.each i d (omega (arith, lt, jn))).number in
     let y = (are.each j d jn).number in omega (arith, pair, a, b, x, y)
 
-pub place_removed : (places : List GrantPlace) (doors : List DoorPlace) (bound at number : ℕ) (old : GrantPlace) → AreGrantPlaces places doors bound → at < length places → old ≡ get_or places at old → old.number ≡ number
+pub place_removed : (places : List GrantPlace) (doors : List DoorPlace) (bound at number : ℕ) (old : GrantPlace) → AreGrantPlaces places doors bound
+    → at < length places → old ≡ get_or places at old → old.number ≡ number
     → HoldGrants (remove places at) doors bound (drop_grant number (map grant_in places))
 place_removed places doors bound at number old are inside is mine =
     let gone : remove places at ≡ filter (λ (p : GrantPlace). not (number == p.number)) places =
-    removed_at (λ (p : GrantPlace). p.number) places at number old (place_pairs places doors bound are) inside (ap (λ (p : GrantPlace). p.number) (sym is) ∙ mine) in
+    removed_at (λ (p : GrantPlace). p.number) places at number old (place_pairs places doors bound are) inside
+    (ap (λ (p : GrantPlace). p.number) (sym is) ∙ mine) in
     subst (λ (ps : List GrantPlace). HoldGrants ps doors bound (drop_grant number (map grant_in places))) (sym gone)
-    (kept_grants (λ (p : GrantPlace). not (number == p.number)) (λ (row : GrantRow). not (number == row.number)) places doors bound are (λ p e. ap (λ n. not (number == n)) e))
+    (kept_grants (λ (p : GrantPlace). not (number == p.number)) (λ (row : GrantRow). not (number == row.number)) places doors bound are
+    (λ p e. ap (λ n. not (number == n)) e))
 
 -- a row with the number stands at its place
-place_of_row : (slice places : List GrantPlace) (doors : List DoorPlace) (bound : ℕ) (rows : List GrantRow) (at number : ℕ) → slice ≡ places → map grant_in places ≡ rows → AreGrantPlaces places doors bound
-    → IsPlaceOf number (place_numbers slice) at → (z : GrantRow) → HasItem rows z → z.number ≡ number → (p : GrantPlace) × (p.number ≡ number) × (slice_get places at ≡ Some p)
+place_of_row : (slice places : List GrantPlace) (doors : List DoorPlace) (bound : ℕ) (rows : List GrantRow) (at number : ℕ) → slice ≡ places
+    → map grant_in places ≡ rows → AreGrantPlaces places doors bound
+    → IsPlaceOf number (place_numbers slice) at → (z : GrantRow) → HasItem rows z → z.number ≡ number
+    → (p : GrantPlace) × (p.number ≡ number) × (slice_get places at ≡ Some p)
 place_of_row slice places doors bound rows at number same view are place z h e =
     let p = item_of_map grant_in places z (subst (λ (rs : List GrantRow). HasItem rs z) (sym view) h) in
     let mine : p.0.number ≡ number = (item_all (IsGrantPlace doors) places p.0 are.each p.1).number ∙ ap (λ (r : GrantRow). r.number) p.2 ∙ e in (
       p.0,
       mine,
       ap (λ (ps : List GrantPlace). slice_get ps at) (sym same)
-          ∙ at_place (λ (q : GrantPlace). q.number) slice at number p.0 (ascending_places slice places doors bound same are) place (subst (λ (ps : List GrantPlace). HasItem ps p.0) (sym same) p.1) mine,
+          ∙ at_place (λ (q : GrantPlace). q.number) slice at number p.0 (ascending_places slice places doors bound same are) place
+          (subst (λ (ps : List GrantPlace). HasItem ps p.0) (sym same) p.1) mine,
     )
 
-pub none_removed : (slice places : List GrantPlace) (doors : List DoorPlace) (bound : ℕ) (rows : List GrantRow) (at number : ℕ) → slice ≡ places → map grant_in places ≡ rows → AreGrantPlaces places doors bound
-    → IsPlaceOf number (place_numbers slice) at → ((old : GrantPlace) → at < length places → old ≡ get_or places at old → old.number ≡ number → ⊥) → rows ≡ drop_grant number rows
+pub none_removed : (slice places : List GrantPlace) (doors : List DoorPlace) (bound : ℕ) (rows : List GrantRow) (at number : ℕ) → slice ≡ places
+    → map grant_in places ≡ rows → AreGrantPlaces places doors bound
+    → IsPlaceOf number (place_numbers slice) at → ((old : GrantPlace) → at < length places → old ≡ get_or places at old → old.number ≡ number → ⊥)
+    → rows ≡ drop_grant number rows
 none_removed slice places doors bound rows at number same view are place other = all_left (λ (row : GrantRow). row.number) rows number (λ z h e.
     let p = place_of_row slice places doors bound rows at number same view are place z h e in inside p.0 p.1 p.2 (cases_lt at (length places)))
   where
@@ -243,61 +278,80 @@ kept_number : (number : ℕ) (f : GrantRow → GrantRow) → KeepsNumber f → (
 kept_number number f keeps r true = keeps r
 kept_number number f keeps r false = refl
 
-changed_ascend : (number : ℕ) (f : GrantRow → GrantRow) (rows : List GrantRow) → KeepsNumber f → AllPairs (λ (a b : GrantRow). a.number < b.number) rows → AllPairs (λ (a b : GrantRow). a.number < b.number) (change_grant number f rows)
+changed_ascend : (number : ℕ) (f : GrantRow → GrantRow) (rows : List GrantRow) → KeepsNumber f → AllPairs (λ (a b : GrantRow). a.number < b.number) rows
+    → AllPairs (λ (a b : GrantRow). a.number < b.number) (change_grant number f rows)
 changed_ascend number f rows keeps pairs i j d lt jn =
     let many : length (change_grant number f rows) ≡ length rows = length-map rows g in
     let a : get_or (change_grant number f rows) i d ≡ g (get_or rows i d) = get_or-map g rows i d d (omega arith) in
     let b : get_or (change_grant number f rows) j d ≡ g (get_or rows j d) = get_or-map g rows j d d (omega arith) in
     let pair = pairs i j d lt (omega arith) in
-    let p : (get_or (change_grant number f rows) i d).number ≡ (get_or rows i d).number = ap (λ (x : GrantRow). x.number) a ∙ kept_number number f keeps (get_or rows i d) (number == (get_or rows i d).number) in
-    let q : (get_or (change_grant number f rows) j d).number ≡ (get_or rows j d).number = ap (λ (x : GrantRow). x.number) b ∙ kept_number number f keeps (get_or rows j d) (number == (get_or rows j d).number) in
+    let p : (get_or (change_grant number f rows) i d).number ≡ (get_or rows i d).number = ap (λ (x : GrantRow). x.number) a
+    ∙ kept_number number f keeps (get_or rows i d) (number == (get_or rows i d).number) in
+    let q : (get_or (change_grant number f rows) j d).number ≡ (get_or rows j d).number = ap (λ (x : GrantRow). x.number) b
+    ∙ kept_number number f keeps (get_or rows j d) (number == (get_or rows j d).number) in
     omega arith
   where
     g : GrantRow → GrantRow
     g row = if number == row.number then f row else row
 
-pub place_changed : (slice places : List GrantPlace) (doors : List DoorPlace) (bound : ℕ) (rows : List GrantRow) (at number : ℕ) (f : GrantRow → GrantRow) (old new : GrantPlace)
-    → slice ≡ places → map grant_in places ≡ rows → AreGrantPlaces places doors bound → IsPlaceOf number (place_numbers slice) at → at < length places → old ≡ get_or places at old → Changes number f old new
+pub place_changed : (slice places : List GrantPlace) (doors : List DoorPlace) (bound : ℕ) (rows : List GrantRow) (at number : ℕ) (f : GrantRow → GrantRow)
+    (old new : GrantPlace)
+    → slice ≡ places → map grant_in places ≡ rows → AreGrantPlaces places doors bound → IsPlaceOf number (place_numbers slice) at → at < length places
+    → old ≡ get_or places at old → Changes number f old new
     → map grant_in (set places at new) ≡ change_grant number f rows
 place_changed slice places doors bound rows at number f old new same view are place inside is changes =
-    let mine : old.number ≡ old.row.value.number = ap (λ (p : GrantPlace). p.number) is ∙ (are.each at old inside).number ∙ ap (λ (p : GrantPlace). p.row.value.number) (sym is) in
+    let mine : old.number ≡ old.row.value.number = ap (λ (p : GrantPlace). p.number) is ∙ (are.each at old inside).number
+    ∙ ap (λ (p : GrantPlace). p.row.value.number) (sym is) in
     let there : get_or (map grant_in places) at old.row.value ≡ old.row.value = get_or-map grant_in places at old old.row.value inside ∙ ap grant_in (sym is) in
-    let new_row : new.row.value ≡ (if number == (get_or (map grant_in places) at old.row.value).number then f (get_or (map grant_in places) at old.row.value) else get_or (map grant_in places) at old.row.value) =
-    changes.row ∙ ap (λ n. if number == n then f old.row.value else old.row.value) mine ∙ ap (λ (r : GrantRow). if number == r.number then f r else r) (sym there) in
+    let new_row : new.row.value ≡ (if number == (get_or (map grant_in places) at old.row.value).number then f (get_or (map grant_in places) at old.row.value)
+    else get_or (map grant_in places) at old.row.value) =
+    changes.row ∙ ap (λ n. if number == n then f old.row.value else old.row.value) mine
+    ∙ ap (λ (r : GrantRow). if number == r.number then f r else r) (sym there) in
     let keys : place_numbers slice ≡ map (λ (row : GrantRow). row.number) (map grant_in places) = ap place_numbers same ∙ numbers_are doors places are.each in
-    let at_rows : IsPlaceOf number (map (λ (row : GrantRow). row.number) (map grant_in places)) at = subst (λ (ks : List ℕ). IsPlaceOf number ks at) keys place in
+    let at_rows : IsPlaceOf number (map (λ (row : GrantRow). row.number) (map grant_in places)) at = subst (λ (ks : List ℕ). IsPlaceOf number ks at) keys
+    place in
     map-set grant_in places at new ∙ ap (set (map grant_in places) at) new_row
-    ∙ changed_at (λ (row : GrantRow). row.number) f (map grant_in places) at number old.row.value are.ascending (ascending_keys (λ (row : GrantRow). row.number) (map grant_in places) are.ascending) at_rows
+    ∙ changed_at (λ (row : GrantRow). row.number) f (map grant_in places) at number old.row.value are.ascending
+    (ascending_keys (λ (row : GrantRow). row.number) (map grant_in places) are.ascending) at_rows
     (rw (length-map places grant_in) inside)
     ∙ ap (change_grant number f) view
 
 -- the place that was changed is one for the index afterwards, and so are the others
-pub places_changed : (slice places : List GrantPlace) (doors more : List DoorPlace) (bound low : ℕ) (at number : ℕ) (f : GrantRow → GrantRow) (old new : GrantPlace)
-    → slice ≡ places → AreGrantPlaces places doors bound → IsPlaceOf number (place_numbers slice) at → at < length places → old ≡ get_or places at old → Changes number f old new → KeepsNumber f
-    → All (IsGrantPlace more) places → IsGrantPlace more new → AllPairs (λ (a b : DoorPlace). a.serial < b.serial) more → All (λ (door : DoorPlace). door.serial < low) more
+pub places_changed : (slice places : List GrantPlace) (doors more : List DoorPlace) (bound low : ℕ) (at number : ℕ) (f : GrantRow → GrantRow)
+    (old new : GrantPlace)
+    → slice ≡ places → AreGrantPlaces places doors bound → IsPlaceOf number (place_numbers slice) at → at < length places → old ≡ get_or places at old
+    → Changes number f old new → KeepsNumber f
+    → All (IsGrantPlace more) places → IsGrantPlace more new → AllPairs (λ (a b : DoorPlace). a.serial < b.serial) more
+    → All (λ (door : DoorPlace). door.serial < low) more
     → AreGrantPlaces (set places at new) more low
 places_changed slice places doors more bound low at number f old new same are place inside is changes keeps each one ascend below = record {
-  ascending = subst (λ (rs : List GrantRow). AllPairs (λ (a b : GrantRow). a.number < b.number) rs) (sym (place_changed slice places doors bound (map grant_in places) at number f old new same refl are place inside is changes))
+  ascending = subst (λ (rs : List GrantRow). AllPairs (λ (a b : GrantRow). a.number < b.number) rs)
+      (sym (place_changed slice places doors bound (map grant_in places) at number f old new same refl are place inside is changes))
       (changed_ascend number f (map grant_in places) keeps are.ascending);
   each = All-set (IsGrantPlace more) places at new one each;
   doors_ascend = ascend;
   doors_low = below;
 }
 
-pub place_past : (slice places : List GrantPlace) (doors : List DoorPlace) (bound : ℕ) (rows : List GrantRow) (at number : ℕ) (f : GrantRow → GrantRow) → slice ≡ places → map grant_in places ≡ rows → AreGrantPlaces places doors bound
+pub place_past : (slice places : List GrantPlace) (doors : List DoorPlace) (bound : ℕ) (rows : List GrantRow) (at number : ℕ) (f : GrantRow → GrantRow)
+    → slice ≡ places → map grant_in places ≡ rows → AreGrantPlaces places doors bound
     → IsPlaceOf number (place_numbers slice) at → length places ≤ at → rows ≡ change_grant number f rows
 place_past slice places doors bound rows at number f same view are place past =
     let keys : place_numbers slice ≡ map (λ (row : GrantRow). row.number) (map grant_in places) = ap place_numbers same ∙ numbers_are doors places are.each in
-    let at_rows : IsPlaceOf number (map (λ (row : GrantRow). row.number) (map grant_in places)) at = subst (λ (ks : List ℕ). IsPlaceOf number ks at) keys place in
-    sym view ∙ changed_past (λ (row : GrantRow). row.number) f (map grant_in places) at number (ascending_keys (λ (row : GrantRow). row.number) (map grant_in places) are.ascending) at_rows
+    let at_rows : IsPlaceOf number (map (λ (row : GrantRow). row.number) (map grant_in places)) at = subst (λ (ks : List ℕ). IsPlaceOf number ks at) keys
+    place in
+    sym view ∙ changed_past (λ (row : GrantRow). row.number) f (map grant_in places) at number
+    (ascending_keys (λ (row : GrantRow). row.number) (map grant_in places) are.ascending) at_rows
     (rw (length-map places grant_in) past) ∙ ap (change_grant number f) view
 
 -- ---- a row that is appended, and a new continuation value
 
 more_doors : (doors : List DoorPlace) (door : DoorPlace) (p : GrantPlace) → IsGrantPlace doors p → IsGrantPlace (doors ++ door ∷ []) p
-more_doors doors door p is = record { number = is.number; small = is.small; door = is.door; listed = item_left doors (door ∷ []) (door_place p.door_serial p.number) is.listed }
+more_doors doors door p is = record
+    { number = is.number; small = is.small; door = is.door; listed = item_left doors (door ∷ []) (door_place p.door_serial p.number) is.listed }
 
-pub doors_pushed : (doors : List DoorPlace) (bound serial number : ℕ) → AllPairs (λ (a b : DoorPlace). a.serial < b.serial) doors → All (λ (door : DoorPlace). door.serial < bound) doors → bound ≤ serial
+pub doors_pushed : (doors : List DoorPlace) (bound serial number : ℕ) → AllPairs (λ (a b : DoorPlace). a.serial < b.serial) doors
+    → All (λ (door : DoorPlace). door.serial < bound) doors → bound ≤ serial
     → AllPairs (λ (a b : DoorPlace). a.serial < b.serial) (doors ++ door_place serial number ∷ [])
 doors_pushed doors bound serial number pairs low fresh =
     all_pairs_push (λ (a b : DoorPlace). a.serial < b.serial) doors (door_place serial number) pairs (λ k d kn. let l = low k d kn in omega (arith, l, fresh))
@@ -305,9 +359,11 @@ doors_pushed doors bound serial number pairs low fresh =
 pub doors_low_pushed : (doors : List DoorPlace) (bound serial number : ℕ) → All (λ (door : DoorPlace). door.serial < bound) doors → bound ≤ serial
     → All (λ (door : DoorPlace). door.serial < serial + 1) (doors ++ door_place serial number ∷ [])
 doors_low_pushed doors bound serial number low fresh =
-    All-push (λ (door : DoorPlace). door.serial < serial + 1) doors (door_place serial number) (λ k d kn. let l = low k d kn in omega (arith, l, fresh)) (omega arith)
+    All-push (λ (door : DoorPlace). door.serial < serial + 1) doors (door_place serial number) (λ k d kn. let l = low k d kn in omega (arith, l, fresh))
+    (omega arith)
 
-pub listed_door : (places : List GrantPlace) (doors : List DoorPlace) (bound serial number : ℕ) → AreGrantPlaces places doors bound → bound ≤ serial → AreGrantPlaces places (doors ++ door_place serial number ∷ []) (serial + 1)
+pub listed_door : (places : List GrantPlace) (doors : List DoorPlace) (bound serial number : ℕ) → AreGrantPlaces places doors bound → bound ≤ serial
+    → AreGrantPlaces places (doors ++ door_place serial number ∷ []) (serial + 1)
 listed_door places doors bound serial number are fresh = record {
   ascending = are.ascending;
   each = λ k d kn. more_doors doors (door_place serial number) (get_or places k d) (are.each k d kn);
@@ -315,7 +371,8 @@ listed_door places doors bound serial number are fresh = record {
   doors_low = doors_low_pushed doors bound serial number are.doors_low fresh;
 }
 
-pub place_pushed : (places : List GrantPlace) (doors : List DoorPlace) (bound : ℕ) (new : GrantPlace) → AreGrantPlaces places doors bound → bound ≤ new.door_serial → new.number ≡ new.row.value.number → new.door_serial < 2 ^ 64
+pub place_pushed : (places : List GrantPlace) (doors : List DoorPlace) (bound : ℕ) (new : GrantPlace) → AreGrantPlaces places doors bound
+    → bound ≤ new.door_serial → new.number ≡ new.row.value.number → new.door_serial < 2 ^ 64
     → BeginsWith new.door_serial new.row.value.door → All (λ (other : GrantRow). other.number < new.row.value.number) (map grant_in places)
     → HoldGrants (places ++ new ∷ []) (doors ++ door_place new.door_serial new.number ∷ []) (new.door_serial + 1) (map grant_in places ++ new.row.value ∷ [])
 place_pushed places doors bound new are fresh keyed small begins above =
@@ -323,7 +380,8 @@ place_pushed places doors bound new are fresh keyed small begins above =
     let listed = listed_door places doors bound new.door_serial new.number are fresh in (
       rows,
       record {
-        ascending = subst (λ (rs : List GrantRow). AllPairs (λ (a b : GrantRow). a.number < b.number) rs) (sym rows) (all_pairs_push (λ (a b : GrantRow). a.number < b.number) (map grant_in places) new.row.value are.ascending above);
+        ascending = subst (λ (rs : List GrantRow). AllPairs (λ (a b : GrantRow). a.number < b.number) rs) (sym rows)
+            (all_pairs_push (λ (a b : GrantRow). a.number < b.number) (map grant_in places) new.row.value are.ascending above);
         each = All-push (IsGrantPlace (doors ++ door_place new.door_serial new.number ∷ [])) places new listed.each (record {
           number = keyed;
           small = small;
@@ -339,7 +397,8 @@ place_pushed places doors bound new are fresh keyed small begins above =
 
 is_current : (places : List GrantPlace) (p : GrantPlace) → HasItem places p → is_current_door places (door_place p.door_serial p.number) ≡ true
 is_current [] p h = absurd h
-is_current (q ∷ qs) p (inl e) = ap (λ (x : GrantPlace). is_door_of (door_place p.door_serial p.number) x || is_current_door qs (door_place p.door_serial p.number)) (sym e) ∙ both
+is_current (q ∷ qs) p (inl e) = ap
+    (λ (x : GrantPlace). is_door_of (door_place p.door_serial p.number) x || is_current_door qs (door_place p.door_serial p.number)) (sym e) ∙ both
   where
     both : (is_door_of (door_place p.door_serial p.number) p || is_current_door qs (door_place p.door_serial p.number)) ≡ true
     both = rw (eqb-self p.number, eqb-self p.door_serial) refl
@@ -349,19 +408,22 @@ is_current (q ∷ qs) p (inr h) = at (is_door_of (door_place p.door_serial p.num
     at true e = refl
     at false e = e
 
-pub current_kept : (slice places : List GrantPlace) (doors : List DoorPlace) (bound : ℕ) → slice ≡ places → AreGrantPlaces places doors bound → AreGrantPlaces places (filter (is_current_door slice) doors) bound
-current_kept slice places doors bound same are = subst (λ (ps : List GrantPlace). AreGrantPlaces places (filter (is_current_door ps) doors) bound) (sym same) (record {
-  ascending = are.ascending;
-  each = λ k d kn.
-      let is = are.each k d kn in record {
-        number = is.number;
-        small = is.small;
-        door = is.door;
-        listed = item_filtered (is_current_door places) doors (door_place (get_or places k d).door_serial (get_or places k d).number) is.listed (is_current places (get_or places k d) (item_in places k d kn));
-      };
-  doors_ascend = AllPairs-filter (λ (a b : DoorPlace). a.serial < b.serial) (is_current_door places) doors are.doors_ascend;
-  doors_low = All-filter (is_current_door places) (λ (door : DoorPlace). door.serial < bound) doors are.doors_low;
-})
+pub current_kept : (slice places : List GrantPlace) (doors : List DoorPlace) (bound : ℕ) → slice ≡ places → AreGrantPlaces places doors bound
+    → AreGrantPlaces places (filter (is_current_door slice) doors) bound
+current_kept slice places doors bound same are = subst (λ (ps : List GrantPlace). AreGrantPlaces places (filter (is_current_door ps) doors) bound) (sym same)
+    (record {
+      ascending = are.ascending;
+      each = λ k d kn.
+          let is = are.each k d kn in record {
+            number = is.number;
+            small = is.small;
+            door = is.door;
+            listed = item_filtered (is_current_door places) doors (door_place (get_or places k d).door_serial (get_or places k d).number) is.listed
+                (is_current places (get_or places k d) (item_in places k d kn));
+          };
+      doors_ascend = AllPairs-filter (λ (a b : DoorPlace). a.serial < b.serial) (is_current_door places) doors are.doors_ascend;
+      doors_low = All-filter (is_current_door places) (λ (door : DoorPlace). door.serial < bound) doors are.doors_low;
+    })
 
 -- what stands at the place of the number decides
 pub current_at : (places : List GrantPlace) (at : ℕ) (door : DoorPlace) → IsAscending (place_numbers places) → IsPlaceOf door.grant (place_numbers places) at
@@ -402,19 +464,22 @@ door_kept (Approve consent) row = refl
 door_kept (Decide decision) row = refl
 door_kept Wrong row = refl
 
-number_after : (number : ℕ) (f : GrantRow → GrantRow) (doors : List DoorPlace) (old new : GrantPlace) → KeepsNumber f → IsGrantPlace doors old → Changes number f old new → new.number ≡ new.row.value.number
+number_after : (number : ℕ) (f : GrantRow → GrantRow) (doors : List DoorPlace) (old new : GrantPlace) → KeepsNumber f → IsGrantPlace doors old
+    → Changes number f old new → new.number ≡ new.row.value.number
 number_after number f doors old new keeps is changes =
     changes.number_kept ∙ is.number ∙ sym (ap (λ (r : GrantRow). r.number) changes.row ∙ kept_number number f keeps old.row.value (number == old.number))
 
 -- the place that was changed has the continuation value that it had
-pub changed_one : (doors : List DoorPlace) (number : ℕ) (f : GrantRow → GrantRow) (old new : GrantPlace) → KeepsNumber f → KeepsDoor f → IsGrantPlace doors old → ChangesAll number old.door_serial f old new → IsGrantPlace doors new
+pub changed_one : (doors : List DoorPlace) (number : ℕ) (f : GrantRow → GrantRow) (old new : GrantPlace) → KeepsNumber f → KeepsDoor f → IsGrantPlace doors old
+    → ChangesAll number old.door_serial f old new → IsGrantPlace doors new
 changed_one doors number f old new keeps door_stays is all =
     let serial : new.door_serial ≡ old.door_serial = all.door_serial ∙ either (number == old.number) in
     let door : new.row.value.door ≡ old.row.value.door = ap (λ (r : GrantRow). r.door) all.changes.row ∙ left (number == old.number) in record {
       number = number_after number f doors old new keeps is all.changes;
       small = rw serial is.small;
       door = (is.door.0, is.door.1, door ∙ is.door.2 ∙ ap (λ n. value_text n is.door.0 is.door.1) (sym serial));
-      listed = subst (λ n. HasItem doors (door_place n new.number)) (sym serial) (subst (λ n. HasItem doors (door_place old.door_serial n)) (sym all.changes.number_kept) is.listed);
+      listed = subst (λ n. HasItem doors (door_place n new.number)) (sym serial)
+          (subst (λ n. HasItem doors (door_place old.door_serial n)) (sym all.changes.number_kept) is.listed);
     }
   where
     either : (b : Bool) → (if b then old.door_serial else old.door_serial) ≡ old.door_serial
@@ -429,7 +494,8 @@ pub door_keeps : (value : Text) (earliest : ℕ) → KeepsNumber (with_door valu
 door_keeps value earliest row = refl
 
 -- the place of the grant has the new continuation value, and another one that which it had
-pub renewed_one : (doors : List DoorPlace) (number serial earliest : ℕ) (value : Text) (old new : GrantPlace) → IsGrantPlace doors old → ChangesAll number serial (with_door value earliest) old new → serial < 2 ^ 64 → BeginsWith serial value
+pub renewed_one : (doors : List DoorPlace) (number serial earliest : ℕ) (value : Text) (old new : GrantPlace) → IsGrantPlace doors old
+    → ChangesAll number serial (with_door value earliest) old new → serial < 2 ^ 64 → BeginsWith serial value
     → IsGrantPlace (doors ++ door_place serial number ∷ []) new
 renewed_one doors number serial earliest value old new is all small begins = by (number == old.number) refl
   where
@@ -445,7 +511,8 @@ renewed_one doors number serial earliest value old new is all small begins = by 
           small = rw at small;
           door = (begins.0, begins.1, door ∙ begins.2 ∙ ap (λ n. value_text n begins.0 begins.1) (sym at));
           listed = subst (λ n. HasItem (doors ++ door_place serial number ∷ []) (door_place n new.number)) (sym at)
-              (subst (λ n. HasItem (doors ++ door_place serial number ∷ []) (door_place serial n)) mine (item_right doors (door_place serial number ∷ []) (door_place serial number) (inl refl)));
+              (subst (λ n. HasItem (doors ++ door_place serial number ∷ []) (door_place serial n)) mine
+              (item_right doors (door_place serial number ∷ []) (door_place serial number) (inl refl)));
         }
     by false e =
         let at : new.door_serial ≡ old.door_serial = all.door_serial ∙ rw e refl in
@@ -454,5 +521,6 @@ renewed_one doors number serial earliest value old new is all small begins = by 
           small = rw at is.small;
           door = (is.door.0, is.door.1, door ∙ is.door.2 ∙ ap (λ n. value_text n is.door.0 is.door.1) (sym at));
           listed = subst (λ n. HasItem (doors ++ door_place serial number ∷ []) (door_place n new.number)) (sym at)
-              (subst (λ n. HasItem (doors ++ door_place serial number ∷ []) (door_place old.door_serial n)) (sym all.changes.number_kept) (item_left doors (door_place serial number ∷ []) (door_place old.door_serial old.number) is.listed));
+              (subst (λ n. HasItem (doors ++ door_place serial number ∷ []) (door_place old.door_serial n)) (sym all.changes.number_kept)
+              (item_left doors (door_place serial number ∷ []) (door_place old.door_serial old.number) is.listed));
         }

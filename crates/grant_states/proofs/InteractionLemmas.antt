@@ -16,16 +16,19 @@ option_map-or f None b = refl
 option_map-or f (Some x) b = refl
 
 -- what is found is as much of what each look-up finds
-found_parts : {A B C : Type 0} (f : B → C) (look : A → Option B) (part : A → Option C) (xs : List A) → ((x : A) → option_map f (look x) ≡ part x) → option_map f (first_of look xs) ≡ first_of part xs
+found_parts : {A B C : Type 0} (f : B → C) (look : A → Option B) (part : A → Option C) (xs : List A) → ((x : A) → option_map f (look x) ≡ part x)
+    → option_map f (first_of look xs) ≡ first_of part xs
 found_parts f look part [] same = refl
 found_parts {A} {B} {C} f look part (x ∷ xs) same =
-    option_map-or f (look x) (first_of look xs) ∙ ap (λ (o : Option C). option_or o (option_map f (first_of look xs))) (same x) ∙ ap (option_or (part x)) (found_parts f look part xs same)
+    option_map-or f (look x) (first_of look xs) ∙ ap (λ (o : Option C). option_or o (option_map f (first_of look xs))) (same x)
+    ∙ ap (option_or (part x)) (found_parts f look part xs same)
 
 named_round : (name : InteractionName) (number : ℕ) (round : Round) → goes_by name (round_of number round) ≡ is_called name round
 named_round (Handle handle) number round = refl
 named_round (Code code) number round = refl
 
-row_open : (name : InteractionName) (now : ℕ) (row : GrantRow) → option_map (λ (i : Interaction). i.row) (interaction_where (goes_by name) now row) ≡ some_if (is_open_by name now row.round) row
+row_open : (name : InteractionName) (now : ℕ) (row : GrantRow)
+    → option_map (λ (i : Interaction). i.row) (interaction_where (goes_by name) now row) ≡ some_if (is_open_by name now row.round) row
 row_open name now row = by row.round
   where
     by : (r : Option Round)
@@ -35,10 +38,13 @@ row_open name now row = by row.round
     by (Some round) = at (not (is_some round.decision)) (nat_lt now round.until)
       where
         at : (a b : Bool)
-            → option_map (λ (i : Interaction). i.row) (option_and_then (λ (r : RoundNote). some_if (goes_by name r) (record { row = row; round = r })) (some_if (a && b) (round_of row.number round))) ≡ some_if (a && b && is_called name round) row
+            → option_map (λ (i : Interaction). i.row)
+            (option_and_then (λ (r : RoundNote). some_if (goes_by name r) (record { row = row; round = r })) (some_if (a && b) (round_of row.number round)))
+            ≡ some_if (a && b && is_called name round) row
         at true true = ends (goes_by name (round_of row.number round)) (is_called name round) (named_round name row.number round)
           where
-            ends : (c d : Bool) → c ≡ d → option_map (λ (i : Interaction). i.row) (some_if c (record { row = row; round = round_of row.number round })) ≡ some_if d row
+            ends : (c d : Bool) → c ≡ d → option_map (λ (i : Interaction). i.row) (some_if c (record { row = row; round = round_of row.number round }))
+                ≡ some_if d row
             ends true true e = refl
             ends true false e = cc e
             ends false true e = cc e
@@ -48,6 +54,8 @@ row_open name now row = by row.round
 
 -- the last row of an interaction that goes by the name is the last row that is open by it
 pub open_rows : (name : InteractionName) (now : ℕ) (rows : List GrantRow)
-    → option_map (λ (i : Interaction). i.row) (newest (interaction_where (goes_by name) now) rows) ≡ newest (λ (row : GrantRow). some_if (is_open_by name now row.round) row) rows
+    → option_map (λ (i : Interaction). i.row) (newest (interaction_where (goes_by name) now) rows)
+    ≡ newest (λ (row : GrantRow). some_if (is_open_by name now row.round) row) rows
 open_rows name now rows =
-    found_parts (λ (i : Interaction). i.row) (interaction_where (goes_by name) now) (λ (row : GrantRow). some_if (is_open_by name now row.round) row) (reverse rows) (row_open name now)
+    found_parts (λ (i : Interaction). i.row) (interaction_where (goes_by name) now) (λ (row : GrantRow). some_if (is_open_by name now row.round) row)
+    (reverse rows) (row_open name now)

@@ -32,7 +32,8 @@ item-reverse {A} (x ∷ xs) z h = elim (item_append (reverse xs) (x ∷ []) z (s
 pub item-reversed : {A : Type 0} (xs : List A) (z : A) → HasItem xs z → HasItem (reverse xs) z
 item-reversed [] z h = h
 item-reversed {A} (x ∷ xs) z (inl e) = subst (λ (ys : List A). HasItem ys z) (sym (reverse-cons x xs)) (item_right (reverse xs) (x ∷ []) z (inl e))
-item-reversed {A} (x ∷ xs) z (inr h) = subst (λ (ys : List A). HasItem ys z) (sym (reverse-cons x xs)) (item_left (reverse xs) (x ∷ []) z (item-reversed xs z h))
+item-reversed {A} (x ∷ xs) z (inr h) = subst (λ (ys : List A). HasItem ys z) (sym (reverse-cons x xs))
+    (item_left (reverse xs) (x ∷ []) z (item-reversed xs z h))
 
 -- the place of an element
 pub item_at : {A : Type 0} (xs : List A) (z : A) → HasItem xs z → (i : ℕ) × (i < length xs) × ((d : A) → get_or xs i d ≡ z)
@@ -63,7 +64,8 @@ pub item_of_filter : {A : Type 0} (test : A → Bool) (xs : List A) (z : A) → 
 item_of_filter test [] z h = absurd h
 item_of_filter {A} test (x ∷ xs) z h = at (test x) refl h (item_of_filter test xs z)
   where
-    at : (b : Bool) → test x ≡ b → HasItem (cond b (x ∷ filter test xs) (filter test xs)) z → (HasItem (filter test xs) z → HasItem xs z × (test z ≡ true)) → HasItem (x ∷ xs) z × (test z ≡ true)
+    at : (b : Bool) → test x ≡ b → HasItem (cond b (x ∷ filter test xs) (filter test xs)) z → (HasItem (filter test xs) z → HasItem xs z × (test z ≡ true))
+        → HasItem (x ∷ xs) z × (test z ≡ true)
     at true e (inl same) rest = (inl same, ap test same ∙ e)
     at true e (inr m) rest = let r = rest m in (inr r.0, r.1)
     at false e m rest = let r = rest m in (inr r.0, r.1)
@@ -94,7 +96,8 @@ get_past (x ∷ xs) (suc i) h = get_past xs i (omega arith)
 
 -- ---- look-ups
 
-first_only : {A B : Type 0} (look : A → Option B) (xs : List A) (x : A) (y : B) → HasItem xs x → look x ≡ Some y → ((z : A) (w : B) → HasItem xs z → look z ≡ Some w → w ≡ y) → first_of look xs ≡ Some y
+first_only : {A B : Type 0} (look : A → Option B) (xs : List A) (x : A) (y : B) → HasItem xs x → look x ≡ Some y
+    → ((z : A) (w : B) → HasItem xs z → look z ≡ Some w → w ≡ y) → first_of look xs ≡ Some y
 first_only look [] x y h e one = absurd h
 first_only {A} {B} look (n ∷ xs) x y (inl same) e one = ap (λ (o : Option B). option_or o (first_of look xs)) (ap look (sym same) ∙ e)
 first_only {A} {B} look (n ∷ xs) x y (inr h) e one = at (look n) refl (first_only look xs x y h e (λ z w k. one z w (inr k)))
@@ -107,7 +110,8 @@ first_none : {A B : Type 0} (look : A → Option B) (xs : List A) → ((z : A) �
 first_none look [] h = refl
 first_none {A} {B} look (x ∷ xs) h = ap (λ (o : Option B). option_or o (first_of look xs)) (h x (inl refl)) ∙ first_none look xs (λ z k. h z (inr k))
 
-pub newest_only : {A B : Type 0} (look : A → Option B) (xs : List A) (x : A) (y : B) → HasItem xs x → look x ≡ Some y → ((z : A) (w : B) → HasItem xs z → look z ≡ Some w → w ≡ y) → newest look xs ≡ Some y
+pub newest_only : {A B : Type 0} (look : A → Option B) (xs : List A) (x : A) (y : B) → HasItem xs x → look x ≡ Some y
+    → ((z : A) (w : B) → HasItem xs z → look z ≡ Some w → w ≡ y) → newest look xs ≡ Some y
 newest_only look xs x y h e one = first_only look (reverse xs) x y (item-reversed xs x h) e (λ z w k. one z w (item-reverse xs z k))
 
 pub newest_none : {A B : Type 0} (look : A → Option B) (xs : List A) → ((z : A) → HasItem xs z → look z ≡ None) → newest look xs ≡ None
@@ -187,7 +191,8 @@ item_mapped f (y ∷ ys) x (inl e) = inl (ap f e)
 item_mapped f (y ∷ ys) x (inr h) = inr (item_mapped f ys x h)
 
 -- a fact of all that is read off the elements
-pub all_mapped : {A B : Type 0} (P : B → Type 0) (f : A → B) (xs : List A) (ys : List B) (i : ℕ) (x : A) → map f xs ≡ ys → All P ys → i < length xs → x ≡ get_or xs i x → P (f x)
+pub all_mapped : {A B : Type 0} (P : B → Type 0) (f : A → B) (xs : List A) (ys : List B) (i : ℕ) (x : A) → map f xs ≡ ys → All P ys → i < length xs
+    → x ≡ get_or xs i x → P (f x)
 all_mapped {A} {B} P f xs ys i x view all inside is =
     item_all P ys (f x) all (subst (λ (zs : List B). HasItem zs (f x)) view (item_mapped f xs x (subst (HasItem xs) (sym is) (item_in xs i x inside))))
 

@@ -8,3 +8,4 @@ pub mod GrantLemmas
 pub mod InteractionLemmas
 pub mod NamedRounds
 pub mod OpenRounds
+pub mod Got

@@ -44,18 +44,21 @@ IsEndOf key listed at = IsPartitionPoint (λ (one : Listed). leb (key_of one) ke
 abbrev pub IsStartOf : ℕ → List Listed → ℕ → Type 0
 IsStartOf key listed at = IsPartitionPoint (λ (one : Listed). ltb (key_of one) key ≡ true) (λ (one : Listed). ltb (key_of one) key ≡ false) listed at
 
-pub inserted_in_order : (listed : List Listed) (at : ℕ) (one : Listed) → IsNonDecreasingBy key_of listed → at ≤ length listed → IsEndOf (key_of one) listed at → IsNonDecreasingBy key_of (insert listed at one)
+pub inserted_in_order : (listed : List Listed) (at : ℕ) (one : Listed) → IsNonDecreasingBy key_of listed → at ≤ length listed → IsEndOf (key_of one) listed at
+    → IsNonDecreasingBy key_of (insert listed at one)
 inserted_in_order listed at one order inside point = IsNonDecreasingBy-insert key_of listed at one order inside
     (λ k d lt. let e = point.0 k d (omega arith) lt in grind (arith, nat_tests, e))
     (λ k d le lt. let e = point.1 k d le lt in grind (arith, nat_tests, e))
 
-pub of_from : (listed : List Listed) (low key : ℕ) (one : Listed) → IsStartOf key listed low → HasItem listed one → one.key ≡ key → HasItem (drop low listed) one
+pub of_from : (listed : List Listed) (low key : ℕ) (one : Listed) → IsStartOf key listed low → HasItem listed one → one.key ≡ key
+    → HasItem (drop low listed) one
 of_from listed low key one point h mine = item_past low listed one h (λ i lt inside is.
     let e = point.0 i one (omega arith) lt in
     let same : key_of (get_or listed i one) ≡ key = ap key_of is ∙ mine in
     absurd (grind (arith, nat_tests, e, same)))
 
-pub of_within : (listed : List Listed) (high key : ℕ) (one : Listed) → IsEndOf key listed high → HasItem listed one → one.key ≡ key → HasItem (take high listed) one
+pub of_within : (listed : List Listed) (high key : ℕ) (one : Listed) → IsEndOf key listed high → HasItem listed one → one.key ≡ key
+    → HasItem (take high listed) one
 of_within listed high key one point h mine = item_before high listed one h (λ i le inside is.
     let e = point.1 i one le inside in
     let same : key_of (get_or listed i one) ≡ key = ap key_of is ∙ mine in
@@ -63,7 +66,8 @@ of_within listed high key one point h mine = item_before high listed one h (λ i
 
 -- what stands at a place is read with any default
 one_at : (listed : List Listed) (at : ℕ) (d e : Listed) → at < length listed → get_or listed at d ≡ get_or listed at e
-one_at listed at d e inside = let k : Some (get_or listed at d) ≡ Some (get_or listed at e) = sym (get_at listed at d inside) ∙ get_at listed at e inside in cc k
+one_at listed at d e inside = let k : Some (get_or listed at d) ≡ Some (get_or listed at e) = sym (get_at listed at d inside)
+    ∙ get_at listed at e inside in cc k
 
 -- A number isn't listed where none of its key has it, as far as the first greater key.
 pub missing_under : (listed : List Listed) (low at key number : ℕ) (d : Listed) → IsNonDecreasingBy key_of listed → IsStartOf key listed low → low ≤ at
@@ -137,17 +141,21 @@ start_stays listed low key start inside = (
   λ k d zero less. subst (λ (one : Listed). ltb (key_of one) key ≡ true) (sym (get_or-remove_below listed low d k less inside)) (start.0 k d zero less),
   λ k d from within.
       let many = length-remove listed low inside in
-      subst (λ (one : Listed). ltb (key_of one) key ≡ false) (sym (get_or-remove_above listed low d k from inside)) (start.1 (k + 1) d (omega (arith, from)) (omega (arith, many, within))),
+      subst (λ (one : Listed). ltb (key_of one) key ≡ false) (sym (get_or-remove_above listed low d k from inside))
+      (start.1 (k + 1) d (omega (arith, from)) (omega (arith, many, within))),
 )
 
-pub other_kept : (listed : List Listed) (at key : ℕ) (d one : Listed) → at < length listed → (get_or listed at d).key ≡ key → (one.key ≡ key → ⊥) → HasItem listed one → HasItem (remove listed at) one
+pub other_kept : (listed : List Listed) (at key : ℕ) (d one : Listed) → at < length listed → (get_or listed at d).key ≡ key → (one.key ≡ key → ⊥)
+    → HasItem listed one → HasItem (remove listed at) one
 other_kept listed at key d one inside mine other h =
     item_not_taken listed at one h (λ e. other (ap key_of (sym e ∙ one_at listed at one d inside) ∙ mine))
 
-pub none_under : (listed : List Listed) (low key : ℕ) (d : Listed) → IsNonDecreasingBy key_of listed → IsStartOf key listed low → (low < length listed → (get_or listed low d).key ≡ key → ⊥)
+pub none_under : (listed : List Listed) (low key : ℕ) (d : Listed) → IsNonDecreasingBy key_of listed → IsStartOf key listed low
+    → (low < length listed → (get_or listed low d).key ≡ key → ⊥)
     → (one : Listed) → HasItem listed one → one.key ≡ key → ⊥
 none_under listed low key d order start other one h mine =
-    missing_under listed low low key one.number d order start (omega arith) (λ i e from less is. omega (arith, from, less)) other (subst (λ n. HasItem listed (under n one.number)) mine h)
+    missing_under listed low low key one.number d order start (omega arith) (λ i e from less is. omega (arith, from, less)) other
+    (subst (λ n. HasItem listed (under n one.number)) mine h)
 
 -- ---- what is left of a list in order
 
@@ -162,5 +170,6 @@ pub picked_order : {A : Type 0} (n : A → ℕ) (bs : List Bool) (xs : List A) �
 picked_order n [] xs order = IsNonDecreasingBy-short n [] (omega arith)
 picked_order n (b ∷ bs) [] order = IsNonDecreasingBy-short n [] (omega arith)
 picked_order n (true ∷ bs) (x ∷ xs) order =
-    cons_order n x (items_where_true bs xs) (λ z h. head_low n x xs z order (picked_item bs xs z h)) (picked_order n bs xs (IsNonDecreasingBy-drop n 1 (x ∷ xs) order))
+    cons_order n x (items_where_true bs xs) (λ z h. head_low n x xs z order (picked_item bs xs z h))
+    (picked_order n bs xs (IsNonDecreasingBy-drop n 1 (x ∷ xs) order))
 picked_order n (false ∷ bs) (x ∷ xs) order = picked_order n bs xs (IsNonDecreasingBy-drop n 1 (x ∷ xs) order)

@@ -37,29 +37,37 @@ use Rattle.grant_states.proofs.InteractionLemmas.{open_rows}
 abbrev pub Extends : List Listed → List Listed → Type 0
 Extends names more = (one : Listed) → HasItem names one → HasItem more one
 
-more_listed : (names more : List Listed) (number : ℕ) (o : Option Round) → Extends names more → IfSome o (IsHandleListed names number) → IfSome o (IsHandleListed more number)
+more_listed : (names more : List Listed) (number : ℕ) (o : Option Round) → Extends names more → IfSome o (IsHandleListed names number)
+    → IfSome o (IsHandleListed more number)
 more_listed names more number None extends is = tt
 more_listed names more number (Some round) extends is = extends (under (handle_key round.handle) number) is
 
 pub still_listed : (names more : List Listed) (places : List GrantPlace) → Extends names more → AreHandlesListed names places → AreHandlesListed more places
-still_listed names more places extends all = λ k d kn. more_listed names more (get_or places k d).number (get_or places k d).row.value.round extends (all k d kn)
+still_listed names more places extends all = λ k d kn. more_listed names more (get_or places k d).number (get_or places k d).row.value.round extends
+    (all k d kn)
 
 abbrev pub IsNamed : List Listed → GrantPlace → Type 0
 IsNamed names place = IfSome place.row.value.round (IsHandleListed names place.number)
 
-pub named_pushed : (names : List Listed) (places : List GrantPlace) (new : GrantPlace) → AreHandlesListed names places → IsNamed names new → AreHandlesListed names (places ++ new ∷ [])
+pub named_pushed : (names : List Listed) (places : List GrantPlace) (new : GrantPlace) → AreHandlesListed names places → IsNamed names new
+    → AreHandlesListed names (places ++ new ∷ [])
 named_pushed names places new all one = All-push (IsNamed names) places new all one
 
-pub named_kept : (names : List Listed) (test : GrantPlace → Bool) (places : List GrantPlace) → AreHandlesListed names places → AreHandlesListed names (filter test places)
+pub named_kept : (names : List Listed) (test : GrantPlace → Bool) (places : List GrantPlace) → AreHandlesListed names places
+    → AreHandlesListed names (filter test places)
 named_kept names test places all = All-filter test (IsNamed names) places all
 
-pub named_set : (names : List Listed) (places : List GrantPlace) (at : ℕ) (new : GrantPlace) → AreHandlesListed names places → IsNamed names new → AreHandlesListed names (set places at new)
+pub named_set : (names : List Listed) (places : List GrantPlace) (at : ℕ) (new : GrantPlace) → AreHandlesListed names places → IsNamed names new
+    → AreHandlesListed names (set places at new)
 named_set names places at new all one = All-set (IsNamed names) places at new one all
 
-pub named_left : (names : List Listed) (places : List GrantPlace) (doors : List DoorPlace) (bound at number : ℕ) (old : GrantPlace) → AreGrantPlaces places doors bound → at < length places → old ≡ get_or places at old → old.number ≡ number
+pub named_left : (names : List Listed) (places : List GrantPlace) (doors : List DoorPlace) (bound at number : ℕ) (old : GrantPlace)
+    → AreGrantPlaces places doors bound → at < length places → old ≡ get_or places at old → old.number ≡ number
     → AreHandlesListed names places → AreHandlesListed names (remove places at)
 named_left names places doors bound at number old are inside is mine all =
-    subst (AreHandlesListed names) (sym (removed_at (λ (p : GrantPlace). p.number) places at number old (place_pairs places doors bound are) inside (ap (λ (p : GrantPlace). p.number) (sym is) ∙ mine)))
+    subst (AreHandlesListed names) (sym
+    (removed_at (λ (p : GrantPlace). p.number) places at number old (place_pairs places doors bound are) inside
+    (ap (λ (p : GrantPlace). p.number) (sym is) ∙ mine)))
     (named_kept names (λ (p : GrantPlace). not (number == p.number)) places all)
 
 pub round_keeps_number : (round : Round) → KeepsNumber (in_round round)
@@ -79,67 +87,84 @@ named_after names number f old new changes was after =
     by true e = after (eqb-true number old.number e)
     by false e = was
 
-pub round_after : (names : List Listed) (number : ℕ) (change : Change) (row : GrantRow) → IfSome row.round (IsHandleListed names number) → IfSome (changed_by change row).round (IsHandleListed names number)
+pub round_after : (names : List Listed) (number : ℕ) (change : Change) (row : GrantRow) → IfSome row.round (IsHandleListed names number)
+    → IfSome (changed_by change row).round (IsHandleListed names number)
 round_after names number (Terms asks single subject) row is = is
 round_after names number (Approve consent) row is = tt
 round_after names number (Decide decision) row is = by row.round is
   where
-    by : (o : Option Round) → IfSome o (IsHandleListed names number) → IfSome (option_map (λ (round : Round). record round { decision = Some decision }) o) (IsHandleListed names number)
+    by : (o : Option Round) → IfSome o (IsHandleListed names number)
+        → IfSome (option_map (λ (round : Round). record round { decision = Some decision }) o) (IsHandleListed names number)
     by None i = tt
     by (Some round) i = i
 round_after names number Wrong row is = by row.round is
   where
-    by : (o : Option Round) → IfSome o (IsHandleListed names number) → IfSome (option_map (λ (round : Round). record round { wrongs = round.wrongs + 1 }) o) (IsHandleListed names number)
+    by : (o : Option Round) → IfSome o (IsHandleListed names number)
+        → IfSome (option_map (λ (round : Round). record round { wrongs = round.wrongs + 1 }) o) (IsHandleListed names number)
     by None i = tt
     by (Some round) i = i
 
 -- ---- a place by its number
 
-pub numbered_place : (places : List GrantPlace) (p : GrantPlace) → AllPairs (λ (a b : GrantPlace). a.number < b.number) places → HasItem places p → place_numbered p.number places ≡ Some p
+pub numbered_place : (places : List GrantPlace) (p : GrantPlace) → AllPairs (λ (a b : GrantPlace). a.number < b.number) places → HasItem places p
+    → place_numbered p.number places ≡ Some p
 numbered_place places p pairs h = newest_only (λ (q : GrantPlace). some_if (q.number == p.number) q) places p p h (rw (eqb-self p.number) refl)
-    (λ z w k f. let both = some_if_some (z.number == p.number) z w f in sym both.1 ∙ one_key (λ (q : GrantPlace). q.number) places z p pairs k h (eqb-true z.number p.number both.0))
+    (λ z w k f. let both = some_if_some (z.number == p.number) z w f in sym both.1
+    ∙ one_key (λ (q : GrantPlace). q.number) places z p pairs k h (eqb-true z.number p.number both.0))
 
 -- what stands at the place of a number
-pub numbered_at : (places : List GrantPlace) (at number : ℕ) → IsAscending (map (λ (place : GrantPlace). place.number) places) → IsPlaceOf number (map (λ (place : GrantPlace). place.number) places) at
-    → option_map grant_in (option_and_then (λ (place : GrantPlace). some_if (place.number == number) place) (slice_get places at)) ≡ option_map grant_in (place_numbered number places)
-numbered_at places at number ascending place = ap (λ (o : Option GrantPlace). option_map grant_in o) (placed_key (λ (place : GrantPlace). place.number) places at number ascending place)
+pub numbered_at : (places : List GrantPlace) (at number : ℕ) → IsAscending (map (λ (place : GrantPlace). place.number) places)
+    → IsPlaceOf number (map (λ (place : GrantPlace). place.number) places) at
+    → option_map grant_in (option_and_then (λ (place : GrantPlace). some_if (place.number == number) place) (slice_get places at))
+    ≡ option_map grant_in (place_numbered number places)
+numbered_at places at number ascending place = ap (λ (o : Option GrantPlace). option_map grant_in o)
+    (placed_key (λ (place : GrantPlace). place.number) places at number ascending place)
 
-pub open_in : (name : InteractionName) (now : ℕ) (o : Option GrantPlace) → option_and_then (λ (row : GrantRow). some_if (is_open_by name now row.round) row) (option_map grant_in o)
+pub open_in : (name : InteractionName) (now : ℕ) (o : Option GrantPlace)
+    → option_and_then (λ (row : GrantRow). some_if (is_open_by name now row.round) row) (option_map grant_in o)
     ≡ option_and_then (λ (place : GrantPlace). some_if (is_open_by name now place.row.value.round) place.row.value) o
 open_in name now None = refl
 open_in name now (Some p) = refl
 
-pub round_in : (o : Option GrantPlace) → option_and_then (λ (row : GrantRow). row.round) (option_map grant_in o) ≡ option_and_then (λ (place : GrantPlace). place.row.value.round) o
+pub round_in : (o : Option GrantPlace)
+    → option_and_then (λ (row : GrantRow). row.round) (option_map grant_in o) ≡ option_and_then (λ (place : GrantPlace). place.row.value.round) o
 round_in None = refl
 round_in (Some p) = refl
 
 -- ---- names that are left out
 
-handle_current : (places : List GrantPlace) (p : GrantPlace) (round : Round) → AllPairs (λ (a b : GrantPlace). a.number < b.number) places → HasItem places p → p.row.value.round ≡ Some round
+handle_current : (places : List GrantPlace) (p : GrantPlace) (round : Round) → AllPairs (λ (a b : GrantPlace). a.number < b.number) places → HasItem places p
+    → p.row.value.round ≡ Some round
     → is_handle_listed places (under (handle_key round.handle) p.number) ≡ true
 handle_current places p round pairs h e =
-    ap (λ (o : Option GrantPlace). where_some (λ (r : Round). handle_key r.handle == handle_key round.handle) (option_and_then (λ (q : GrantPlace). q.row.value.round) o)) (numbered_place places p pairs h)
+    ap (λ (o : Option GrantPlace). where_some (λ (r : Round). handle_key r.handle == handle_key round.handle)
+    (option_and_then (λ (q : GrantPlace). q.row.value.round) o)) (numbered_place places p pairs h)
     ∙ ap (where_some (λ (r : Round). handle_key r.handle == handle_key round.handle)) e ∙ eqb-self (handle_key round.handle)
 
-pub still_named : (slice places : List GrantPlace) (doors : List DoorPlace) (bound : ℕ) (names left : List Listed) → slice ≡ places → AreGrantPlaces places doors bound → AreHandlesListed names places
+pub still_named : (slice places : List GrantPlace) (doors : List DoorPlace) (bound : ℕ) (names left : List Listed) → slice ≡ places
+    → AreGrantPlaces places doors bound → AreHandlesListed names places
     → left ≡ filter (is_handle_listed slice) names → AreHandlesListed left places
-still_named slice places doors bound names left same are all handles = λ k d kn. one (get_or places k d) (item_in places k d kn) (get_or places k d).row.value.round refl (all k d kn)
+still_named slice places doors bound names left same are all handles = λ k d kn. one (get_or places k d) (item_in places k d kn)
+    (get_or places k d).row.value.round refl (all k d kn)
   where
     pairs : AllPairs (λ (a b : GrantPlace). a.number < b.number) places
     pairs = place_pairs places doors bound are
 
-    one : (p : GrantPlace) → HasItem places p → (o : Option Round) → p.row.value.round ≡ o → IfSome o (IsHandleListed names p.number) → IfSome o (IsHandleListed left p.number)
+    one : (p : GrantPlace) → HasItem places p → (o : Option Round) → p.row.value.round ≡ o → IfSome o (IsHandleListed names p.number)
+        → IfSome o (IsHandleListed left p.number)
     one p h None e is = tt
     one p h (Some round) e is = subst (λ (ls : List Listed). HasItem ls (under (handle_key round.handle) p.number)) (sym handles)
         (item_filtered (is_handle_listed slice) names (under (handle_key round.handle) p.number) is
-        (subst (λ (ps : List GrantPlace). is_handle_listed ps (under (handle_key round.handle) p.number) ≡ true) (sym same) (handle_current places p round pairs h e)))
+        (subst (λ (ps : List GrantPlace). is_handle_listed ps (under (handle_key round.handle) p.number) ≡ true) (sym same)
+        (handle_current places p round pairs h e)))
 
 -- ---- the latest of those that are listed
 
 pub latest_none : (look : ℕ → Option GrantRow) → IsLatest look [] None
 latest_none look = record { is = tt; last = λ one row h e. absurd h }
 
-pub latest_more : (look : ℕ → Option GrantRow) (listed : List Listed) (one : Listed) (found : Option GrantRow) → IsLatest look listed found → IsLatest look (listed ++ one ∷ []) (later_of found (look one.number))
+pub latest_more : (look : ℕ → Option GrantRow) (listed : List Listed) (one : Listed) (found : Option GrantRow) → IsLatest look listed found
+    → IsLatest look (listed ++ one ∷ []) (later_of found (look one.number))
 latest_more look listed one found latest = by found (look one.number) refl latest
   where
     split : (other : Listed) → HasItem (listed ++ one ∷ []) other → HasItem listed other ⊎ (other ≡ one)
@@ -199,16 +224,19 @@ latest_more look listed one found latest = by found (look one.number) refl lates
           ];
         }
 
-pub latest_step : (look : ℕ → Option GrantRow) (listed : List Listed) (k : ℕ) (d : Listed) (found next result : Option GrantRow) → k < length listed → IsLatest look (take k listed) found
+pub latest_step : (look : ℕ → Option GrantRow) (listed : List Listed) (k : ℕ) (d : Listed) (found next result : Option GrantRow) → k < length listed
+    → IsLatest look (take k listed) found
     → next ≡ look (get_or listed k d).number → result ≡ later_of found next → IsLatest look (take (k + 1) listed) result
 latest_step look listed k d found next result inside latest is later =
     subst (λ (ls : List Listed). IsLatest look ls result) (sym (take_more listed k d inside))
-    (subst (λ (r : Option GrantRow). IsLatest look (take k listed ++ get_or listed k d ∷ []) r) (sym (later ∙ ap (later_of found) is)) (latest_more look (take k listed) (get_or listed k d) found latest))
+    (subst (λ (r : Option GrantRow). IsLatest look (take k listed ++ get_or listed k d ∷ []) r) (sym (later ∙ ap (later_of found) is))
+    (latest_more look (take k listed) (get_or listed k d) found latest))
 
 -- ---- it is the last row of that name
 
 newest_cons : {A B : Type 0} (look : A → Option B) (x : A) (xs : List A) → newest look (x ∷ xs) ≡ option_or (newest look xs) (look x)
-newest_cons {A} {B} look x xs = ap (first_of look) (reverse-cons x xs) ∙ first_of-append look (reverse xs) (x ∷ []) ∙ ap (option_or (newest look xs)) (end (look x))
+newest_cons {A} {B} look x xs = ap (first_of look) (reverse-cons x xs) ∙ first_of-append look (reverse xs) (x ∷ [])
+    ∙ ap (option_or (newest look xs)) (end (look x))
   where
     end : (o : Option B) → option_or o None ≡ o
     end None = refl
@@ -217,7 +245,8 @@ newest_cons {A} {B} look x xs = ap (first_of look) (reverse-cons x xs) ∙ first
 pub newest_push : {A B : Type 0} (look : A → Option B) (xs : List A) (x : A) → newest look (xs ++ x ∷ []) ≡ option_or (look x) (newest look xs)
 newest_push look xs x = ap (first_of look) (reverse-append xs (x ∷ []))
 
-pub newest_step : (look : GrantRow → Option GrantRow) (places : List GrantPlace) (k : ℕ) (place : GrantPlace) (row : GrantRow) (found result : Option GrantRow) → k < length places → place ≡ get_or places k place → row ≡ place.row.value
+pub newest_step : (look : GrantRow → Option GrantRow) (places : List GrantPlace) (k : ℕ) (place : GrantPlace) (row : GrantRow) (found result : Option GrantRow)
+    → k < length places → place ≡ get_or places k place → row ≡ place.row.value
     → found ≡ newest look (map grant_in (take k places)) → result ≡ option_or (look row) found → result ≡ newest look (map grant_in (take (k + 1) places))
 newest_step look places k place row found result inside is read was step =
     let there : row ≡ grant_in (get_or places k place) = read ∙ ap grant_in is in
@@ -227,7 +256,8 @@ newest_step look places k place row found result inside is read was step =
     ∙ ap (λ (ps : List GrantPlace). newest look (map grant_in ps)) (sym (take_more places k place inside))
 
 -- what is found has the greatest number of all that pass
-newest_last : (test : GrantRow → Bool) (rows : List GrantRow) (y : GrantRow) → AllPairs (λ (a b : GrantRow). a.number < b.number) rows → newest (λ (row : GrantRow). some_if (test row) row) rows ≡ Some y
+newest_last : (test : GrantRow → Bool) (rows : List GrantRow) (y : GrantRow) → AllPairs (λ (a b : GrantRow). a.number < b.number) rows
+    → newest (λ (row : GrantRow). some_if (test row) row) rows ≡ Some y
     → (z : GrantRow) → HasItem rows z → test z ≡ true → z.number ≤ y.number
 newest_last test [] y pairs e z h t = absurd h
 newest_last test (x ∷ xs) y pairs e z h t = by (λ later n k. newest_last test xs y later n z k t) (newest look xs) refl
@@ -248,7 +278,8 @@ newest_last test (x ∷ xs) y pairs e z h t = by (λ later n k. newest_last test
         let low : x.number < (get_or xs p.0 w).number = pairs 0 (suc p.0) w (omega arith) (omega (arith, inside)) in
         let same : (get_or xs p.0 w).number ≡ w.number = ap (λ (r : GrantRow). r.number) (p.2 w) in omega (arith, low, same)
 
-    by : (AllPairs (λ (a b : GrantRow). a.number < b.number) xs → newest look xs ≡ Some y → HasItem xs z → z.number ≤ y.number) → (o : Option GrantRow) → newest look xs ≡ o → z.number ≤ y.number
+    by : (AllPairs (λ (a b : GrantRow). a.number < b.number) xs → newest look xs ≡ Some y → HasItem xs z → z.number ≤ y.number) → (o : Option GrantRow)
+        → newest look xs ≡ o → z.number ≤ y.number
     by again None n = elim h [
       | inl same ↦ (let k = some_if_some (test x) x y (ap (λ (q : Option GrantRow). option_or q (look x)) (sym n) ∙ parts) in
           let m : z.number ≡ y.number = ap (λ (r : GrantRow). r.number) (same ∙ k.1) in omega (arith, m))
@@ -263,7 +294,8 @@ newest_last test (x ∷ xs) y pairs e z h t = by (λ later n k. newest_last test
           | inr k2 ↦ again rest n_y k2
         ]
 
-newest_greatest : (test : GrantRow → Bool) (rows : List GrantRow) (y : GrantRow) → AllPairs (λ (a b : GrantRow). a.number < b.number) rows → HasItem rows y → test y ≡ true
+newest_greatest : (test : GrantRow → Bool) (rows : List GrantRow) (y : GrantRow) → AllPairs (λ (a b : GrantRow). a.number < b.number) rows → HasItem rows y
+    → test y ≡ true
     → ((z : GrantRow) → HasItem rows z → test z ≡ true → z.number ≤ y.number) → newest (λ (row : GrantRow). some_if (test row) row) rows ≡ Some y
 newest_greatest test rows y pairs has passes greatest = by (newest (λ (row : GrantRow). some_if (test row) row) rows) refl
   where
@@ -280,7 +312,8 @@ abbrev pub HasNumber : List Listed → ℕ → Type 0
 HasNumber listed number = (one : Listed) × HasItem listed one × (one.number ≡ number)
 
 -- the parts of what it means that the user may still decide
-open_called : (name : InteractionName) (now : ℕ) (o : Option Round) → is_open_by name now o ≡ true → (round : Round) × (o ≡ Some round) × (is_called name round ≡ true)
+open_called : (name : InteractionName) (now : ℕ) (o : Option Round) → is_open_by name now o ≡ true
+    → (round : Round) × (o ≡ Some round) × (is_called name round ≡ true)
 open_called name now None e = cc e
 open_called name now (Some round) e = (round, refl, last (not (is_some round.decision)) (nat_lt now round.until) (is_called name round) e)
   where
@@ -290,16 +323,20 @@ open_called name now (Some round) e = (round, refl, last (not (is_some round.dec
     last false b c e = cc e
 
 -- a grant whose round goes by the handle is among those that are listed under the handle
-pub handle_finds : (names listed : List Listed) (places : List GrantPlace) (name : InteractionName) (handle : Text) (key now : ℕ) → AreHandlesListed names places → ((round : Round) → is_called name round ≡ true → round.handle ≡ handle)
+pub handle_finds : (names listed : List Listed) (places : List GrantPlace) (name : InteractionName) (handle : Text) (key now : ℕ)
+    → AreHandlesListed names places → ((round : Round) → is_called name round ≡ true → round.handle ≡ handle)
     → key ≡ handle_key handle → ((one : Listed) → HasItem names one → one.key ≡ key → HasItem listed one)
     → (p : GrantPlace) → HasItem places p → is_open_by name now p.row.value.round ≡ true → HasNumber listed p.number
 handle_finds names listed places name handle key now all called is finds p h e =
     let r = open_called name now p.row.value.round e in
-    let named : IsHandleListed names p.number r.0 = subst (λ (o : Option Round). IfSome o (IsHandleListed names p.number)) r.1 (item_all (IsNamed names) places p all h) in
+    let named : IsHandleListed names p.number r.0 = subst (λ (o : Option Round). IfSome o (IsHandleListed names p.number)) r.1
+    (item_all (IsNamed names) places p all h) in
     (under (handle_key r.0.handle) p.number, finds (under (handle_key r.0.handle) p.number) named (ap handle_key (called r.0 r.2) ∙ sym is), refl)
 
-pub interaction_latest : (slice places : List GrantPlace) (doors : List DoorPlace) (bound : ℕ) (rows : List GrantRow) (listed : List Listed) (name : InteractionName) (now : ℕ) (found : Option GrantRow)
-    → slice ≡ places → map grant_in places ≡ rows → AreGrantPlaces places doors bound → ((p : GrantPlace) → HasItem places p → is_open_by name now p.row.value.round ≡ true → HasNumber listed p.number)
+pub interaction_latest : (slice places : List GrantPlace) (doors : List DoorPlace) (bound : ℕ) (rows : List GrantRow) (listed : List Listed)
+    (name : InteractionName) (now : ℕ) (found : Option GrantRow)
+    → slice ≡ places → map grant_in places ≡ rows → AreGrantPlaces places doors bound
+    → ((p : GrantPlace) → HasItem places p → is_open_by name now p.row.value.round ≡ true → HasNumber listed p.number)
     → IsLatest (open_numbered slice now name) listed found
     → found ≡ option_map (λ (i : Interaction). i.row) (newest (interaction_where (goes_by name) now) rows)
 interaction_latest slice places doors bound rows listed name now found same view are finds latest = by found latest_here ∙ sym (open_rows name now rows)
@@ -334,7 +371,8 @@ interaction_latest slice places doors bound rows listed name now found same view
     row_found number f e = at (place_numbered number places) refl e
       where
         at : (o : Option GrantPlace) → place_numbered number places ≡ o
-            → option_and_then (λ (place : GrantPlace). some_if (is_open_by name now place.row.value.round) place.row.value) o ≡ Some f → HasItem rows f × (test f ≡ true)
+            → option_and_then (λ (place : GrantPlace). some_if (is_open_by name now place.row.value.round) place.row.value) o ≡ Some f
+            → HasItem rows f × (test f ≡ true)
         at None n k = cc k
         at (Some p) n k =
             let both = some_if_some (is_open_by name now p.row.value.round) p.row.value f k in

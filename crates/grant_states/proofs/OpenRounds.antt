@@ -45,7 +45,8 @@ if_more P Q None f i = tt
 if_more P Q (Some x) f i = f x i
 
 -- The places stay as they are but for one grant, whose open code is this one now.
-pub moved : (moment : ℕ) (codes more : OpenCodes) (places after : List GrantPlace) (number : ℕ) (now_code : Option Text) → AreCodesListed moment codes places → AreMoved codes more number now_code
+pub moved : (moment : ℕ) (codes more : OpenCodes) (places after : List GrantPlace) (number : ℕ) (now_code : Option Text) → AreCodesListed moment codes places
+    → AreMoved codes more number now_code
     → ((p : GrantPlace) → HasItem after p → (p.number ≡ number → ⊥) → HasItem places p)
     → ((p : GrantPlace) → HasItem places p → (p.number ≡ number → ⊥) → HasItem after p)
     → ((p : GrantPlace) → HasItem after p → p.number ≡ number → code_at moment p ≡ now_code)
@@ -65,12 +66,15 @@ moved moment codes more places after number now_code are moves back forth one th
         let o = are.open_under code other (moves.only code other h not_it) in
         (o.0, forth o.0 o.1 (λ e. not_it (sym o.2 ∙ e)), o.2, o.3)
 
-    list_one : (codes.complete ≡ true) × IfSome now_code (IsCodeListed more number) → (p : GrantPlace) → HasItem after p → (p.number ≡ number) ⊎ (p.number ≡ number → ⊥)
+    list_one : (codes.complete ≡ true) × IfSome now_code (IsCodeListed more number) → (p : GrantPlace) → HasItem after p
+        → (p.number ≡ number) ⊎ (p.number ≡ number → ⊥)
         → IfSome (code_at moment p) (IsCodeListed more p.number)
     list_one listed p h (inl is) =
-        subst (λ n. IfSome (code_at moment p) (IsCodeListed more n)) (sym is) (subst (λ (o : Option Text). IfSome o (IsCodeListed more number)) (sym (one p h is)) listed.1)
+        subst (λ n. IfSome (code_at moment p) (IsCodeListed more n)) (sym is)
+        (subst (λ (o : Option Text). IfSome o (IsCodeListed more number)) (sym (one p h is)) listed.1)
     list_one listed p h (inr not_it) =
-        if_more (IsCodeListed codes p.number) (IsCodeListed more p.number) (code_at moment p) (λ text l. (l.0, l.1, moves.kept l.0 p.number l.2 not_it)) (are.listed listed.0 p (back p h not_it))
+        if_more (IsCodeListed codes p.number) (IsCodeListed more p.number) (code_at moment p) (λ text l. (l.0, l.1, moves.kept l.0 p.number l.2 not_it))
+        (are.listed listed.0 p (back p h not_it))
 
 -- ---- one place is changed
 
@@ -93,31 +97,39 @@ item_beside (x ∷ xs) zero y z (inr h) = inr (inr h)
 item_beside (x ∷ xs) (suc i) y z (inl e) = inr (inl e)
 item_beside (x ∷ xs) (suc i) y z (inr h) = elim (item_beside xs i y z h) [ inl e ↦ inl e | inr m ↦ inr (inr m) ]
 
-same_number : (places : List GrantPlace) (at : ℕ) (old p : GrantPlace) → at < length places → old ≡ get_or places at old → p ≡ get_or places at p → p.number ≡ old.number
+same_number : (places : List GrantPlace) (at : ℕ) (old p : GrantPlace) → at < length places → old ≡ get_or places at old → p ≡ get_or places at p
+    → p.number ≡ old.number
 same_number places at old p inside is there = ap (λ (q : GrantPlace). q.number) (there ∙ get_or_default places at p old inside ∙ sym is)
 
-pub moved_at : (moment : ℕ) (codes more : OpenCodes) (places : List GrantPlace) (at : ℕ) (old new : GrantPlace) → AreCodesListed moment codes places → at < length places → old ≡ get_or places at old
-    → new.number ≡ old.number → NumbersAscend (set places at new) → AreMoved codes more new.number (code_at moment new) → AreCodesListed moment more (set places at new)
-moved_at moment codes more places at old new are inside is keeps pairs moves = moved moment codes more places (set places at new) new.number (code_at moment new) are moves
+pub moved_at : (moment : ℕ) (codes more : OpenCodes) (places : List GrantPlace) (at : ℕ) (old new : GrantPlace) → AreCodesListed moment codes places
+    → at < length places → old ≡ get_or places at old
+    → new.number ≡ old.number → NumbersAscend (set places at new) → AreMoved codes more new.number (code_at moment new)
+    → AreCodesListed moment more (set places at new)
+moved_at moment codes more places at old new are inside is keeps pairs moves = moved moment codes more places (set places at new) new.number
+    (code_at moment new) are moves
     (λ p h other. elim (item_of_set places at new p h) [ inl e ↦ absurd (other (ap (λ (q : GrantPlace). q.number) e)) | inr m ↦ m ])
     (λ p h other. elim (item_beside places at new p h) [ inl e ↦ absurd (other (same_number places at old p inside is e ∙ sym keeps)) | inr m ↦ m ])
     (λ p h e. ap (code_at moment) (one_key (λ (q : GrantPlace). q.number) (set places at new) p new pairs h (item_set places at new inside) e))
     (λ code c. (new, item_set places at new inside, refl))
 
 -- The code of the place that is changed is all that is listed of its grant.
-pub own_code : (moment : ℕ) (codes : OpenCodes) (places : List GrantPlace) (at : ℕ) (old : GrantPlace) → AreCodesListed moment codes places → NumbersAscend places → at < length places → old ≡ get_or places at old
+pub own_code : (moment : ℕ) (codes : OpenCodes) (places : List GrantPlace) (at : ℕ) (old : GrantPlace) → AreCodesListed moment codes places
+    → NumbersAscend places → at < length places → old ≡ get_or places at old
     → (code : ℕ) → HasCode codes code old.number → IsCodeIn code (code_at moment old)
 own_code moment codes places at old are pairs inside is code h =
     let o = are.open_under code old.number h in
-    let same : o.0 ≡ old = one_key (λ (q : GrantPlace). q.number) places o.0 old pairs o.1 (subst (HasItem places) (sym is) (item_in places at old inside)) o.2 in
+    let same : o.0 ≡ old = one_key (λ (q : GrantPlace). q.number) places o.0 old pairs o.1 (subst (HasItem places) (sym is) (item_in places at old inside))
+    o.2 in
     subst (λ (q : GrantPlace). IsCodeIn code (code_at moment q)) same o.3
 
-pub own_listed : (moment : ℕ) (codes : OpenCodes) (places : List GrantPlace) (at : ℕ) (old : GrantPlace) → AreCodesListed moment codes places → at < length places → old ≡ get_or places at old
+pub own_listed : (moment : ℕ) (codes : OpenCodes) (places : List GrantPlace) (at : ℕ) (old : GrantPlace) → AreCodesListed moment codes places
+    → at < length places → old ≡ get_or places at old
     → codes.complete ≡ true → IfSome (code_at moment old) (IsCodeListed codes old.number)
 own_listed moment codes places at old are inside is all = are.listed all old (subst (HasItem places) (sym is) (item_in places at old inside))
 
 -- Where the code of the place that is changed stays, the index stays.
-pub stays_at : (moment : ℕ) (codes : OpenCodes) (places : List GrantPlace) (at : ℕ) (old new : GrantPlace) → AreCodesListed moment codes places → NumbersAscend places → at < length places → old ≡ get_or places at old
+pub stays_at : (moment : ℕ) (codes : OpenCodes) (places : List GrantPlace) (at : ℕ) (old new : GrantPlace) → AreCodesListed moment codes places
+    → NumbersAscend places → at < length places → old ≡ get_or places at old
     → new.number ≡ old.number → NumbersAscend (set places at new) → code_at moment new ≡ code_at moment old → AreCodesListed moment codes (set places at new)
 stays_at moment codes places at old new are pairs inside is keeps after same = moved_at moment codes codes places at old new are inside is keeps after (record {
   kept = λ n other h never. h;
@@ -132,10 +144,12 @@ stays_at moment codes places at old new are pairs inside is keeps after same = m
 
 -- ---- a place is put in or taken out
 
-pub moved_in : (moment : ℕ) (codes more : OpenCodes) (places : List GrantPlace) (new : GrantPlace) → AreCodesListed moment codes places → ((p : GrantPlace) → HasItem places p → p.number < new.number)
+pub moved_in : (moment : ℕ) (codes more : OpenCodes) (places : List GrantPlace) (new : GrantPlace) → AreCodesListed moment codes places
+    → ((p : GrantPlace) → HasItem places p → p.number < new.number)
     → AreMoved codes more new.number (code_at moment new) → AreCodesListed moment more (places ++ new ∷ [])
 moved_in moment codes more places new are low moves = moved moment codes more places (places ++ new ∷ []) new.number (code_at moment new) are moves
-    (λ p h other. elim (item_append places (new ∷ []) p h) [ inl m ↦ m | inr b ↦ elim b [ inl e ↦ absurd (other (ap (λ (q : GrantPlace). q.number) e)) | inr n ↦ absurd n ] ])
+    (λ p h other. elim (item_append places (new ∷ []) p h)
+    [ inl m ↦ m | inr b ↦ elim b [ inl e ↦ absurd (other (ap (λ (q : GrantPlace). q.number) e)) | inr n ↦ absurd n ] ])
     (λ p h other. item_left places (new ∷ []) p h)
     (λ p h e. elim (item_append places (new ∷ []) p h) [
       | inl m ↦ (let l = low p m in absurd (omega (arith, l, e)))
@@ -143,17 +157,20 @@ moved_in moment codes more places new are low moves = moved moment codes more pl
     ])
     (λ code c. (new, item_right places (new ∷ []) new (inl refl), refl))
 
-pub none_yet : (moment : ℕ) (codes : OpenCodes) (places : List GrantPlace) (number : ℕ) → AreCodesListed moment codes places → ((p : GrantPlace) → HasItem places p → p.number < number)
+pub none_yet : (moment : ℕ) (codes : OpenCodes) (places : List GrantPlace) (number : ℕ) → AreCodesListed moment codes places
+    → ((p : GrantPlace) → HasItem places p → p.number < number)
     → (code : ℕ) → HasCode codes code number → ⊥
 none_yet moment codes places number are low code h =
     let o = are.open_under code number h in
     let l = low o.0 o.1 in
     let e : o.0.number ≡ number = o.2 in absurd (omega (arith, l, e))
 
-pub moved_out : (moment : ℕ) (codes more : OpenCodes) (places : List GrantPlace) (at number : ℕ) (old : GrantPlace) → AreCodesListed moment codes places → NumbersAscend places → at < length places
+pub moved_out : (moment : ℕ) (codes more : OpenCodes) (places : List GrantPlace) (at number : ℕ) (old : GrantPlace) → AreCodesListed moment codes places
+    → NumbersAscend places → at < length places
     → old ≡ get_or places at old → old.number ≡ number → AreMoved codes more number None → AreCodesListed moment more (remove places at)
 moved_out moment codes more places at number old are pairs inside is mine moves =
-    subst (AreCodesListed moment more) (sym (removed_at (λ (p : GrantPlace). p.number) places at number old pairs inside (ap (λ (p : GrantPlace). p.number) (sym is) ∙ mine)))
+    subst (AreCodesListed moment more)
+    (sym (removed_at (λ (p : GrantPlace). p.number) places at number old pairs inside (ap (λ (p : GrantPlace). p.number) (sym is) ∙ mine)))
     (moved moment codes more places (filter stays places) number None are moves
     (λ p h other. (item_of_filter stays places p h).0)
     (λ p h other. item_filtered stays places p h (passes p other (number == p.number) refl))
@@ -172,7 +189,9 @@ moved_out moment codes more places at number old are pairs inside is mine moves 
 
 -- ---- a sweep
 
-pub code_in : (moment : ℕ) (o : Option GrantPlace) → where_some (λ (row : GrantRow). is_some (open_code moment row.round)) (option_map grant_in o) ≡ where_some (λ (place : GrantPlace). is_some (code_at moment place)) o
+pub code_in : (moment : ℕ) (o : Option GrantPlace)
+    → where_some (λ (row : GrantRow). is_some (open_code moment row.round)) (option_map grant_in o)
+    ≡ where_some (λ (place : GrantPlace). is_some (code_at moment place)) o
 code_in moment None = refl
 code_in moment (Some p) = refl
 
@@ -180,13 +199,15 @@ later_code : (early late : ℕ) (o : Option Round) (code : Text) → early ≤ l
 later_code early late None code le e = cc e
 later_code early late (Some round) code le e = by (not (is_some round.decision)) (nat_lt late round.until) refl (nat_lt early round.until) refl e
   where
-    by : (a b : Bool) → nat_lt late round.until ≡ b → (c : Bool) → nat_lt early round.until ≡ c → (if a && b then round.code else None) ≡ Some code → (if a && c then round.code else None) ≡ Some code
+    by : (a b : Bool) → nat_lt late round.until ≡ b → (c : Bool) → nat_lt early round.until ≡ c → (if a && b then round.code else None) ≡ Some code
+        → (if a && c then round.code else None) ≡ Some code
     by true true t true u k = k
     by true true t false u k = absurd (grind (arith, nat_tests, t, u, le))
     by true false t c u k = cc k
     by false b t c u k = cc k
 
-pub swept_codes : (early late : ℕ) (codes more : OpenCodes) (places slice : List GrantPlace) (test : GrantPlace → Bool) → AreCodesListed early codes places → NumbersAscend places → NumbersAscend (filter test places)
+pub swept_codes : (early late : ℕ) (codes more : OpenCodes) (places slice : List GrantPlace) (test : GrantPlace → Bool) → AreCodesListed early codes places
+    → NumbersAscend places → NumbersAscend (filter test places)
     → early ≤ late → slice ≡ filter test places → more.complete ≡ codes.complete
     → ((i : ℕ) → get_or more.lists.items i [] ≡ filter (λ (one : Listed). is_round_open late slice one.number) (get_or codes.lists.items i []))
     → AreCodesListed late more (filter test places)
@@ -204,7 +225,8 @@ swept_codes early late codes more places slice test are pairs left_pairs le same
         (subst (λ (os : List Listed). HasItem os (under code number)) (lists (code / 20 ^ 7)) h) in
         (r.0, ap (λ (ps : List GrantPlace). is_round_open late ps number) (sym same) ∙ r.1)
 
-    open_code_of : (p : GrantPlace) (code : ℕ) (o : Option Text) → code_at late p ≡ o → is_some o ≡ true → IsCodeIn code (code_at early p) → IsCodeIn code (code_at late p)
+    open_code_of : (p : GrantPlace) (code : ℕ) (o : Option Text) → code_at late p ≡ o → is_some o ≡ true → IsCodeIn code (code_at early p)
+        → IsCodeIn code (code_at late p)
     open_code_of p code None e t c = cc t
     open_code_of p code (Some text) e t c =
         let k = later_code early late p.row.value.round text le e in
@@ -216,15 +238,18 @@ swept_codes early late codes more places slice test are pairs left_pairs le same
         was : IsOpenUnder early places code number
         was = are.open_under code number h.0
 
-        found : (o : Option GrantPlace) → place_numbered number left ≡ o → where_some (λ (place : GrantPlace). is_some (code_at late place)) o ≡ true → IsOpenUnder late left code number
+        found : (o : Option GrantPlace) → place_numbered number left ≡ o → where_some (λ (place : GrantPlace). is_some (code_at late place)) o ≡ true
+            → IsOpenUnder late left code number
         found None e t = cc t
         found (Some q) e t =
             let f = found_in (λ (place : GrantPlace). place.number == number) left q e in
             let mine : q.number ≡ number = eqb-true q.number number f.1 in
-            let is : was.0 ≡ q = one_key (λ (place : GrantPlace). place.number) places was.0 q pairs was.1 (item_of_filter test places q f.0).0 (was.2 ∙ sym mine) in
+            let is : was.0 ≡ q = one_key (λ (place : GrantPlace). place.number) places was.0 q pairs was.1 (item_of_filter test places q f.0).0
+            (was.2 ∙ sym mine) in
             (q, f.0, mine, open_code_of q code (code_at late q) refl t (subst (λ (place : GrantPlace). IsCodeIn code (code_at early place)) is was.3))
 
-    list_one : (p : GrantPlace) → HasItem left p → IfSome (code_at early p) (IsCodeListed codes p.number) → (o : Option Text) → code_at late p ≡ o → IfSome o (IsCodeListed more p.number)
+    list_one : (p : GrantPlace) → HasItem left p → IfSome (code_at early p) (IsCodeListed codes p.number) → (o : Option Text) → code_at late p ≡ o
+        → IfSome o (IsCodeListed more p.number)
     list_one p h was None e = tt
     list_one p h was (Some text) e =
         let k = later_code early late p.row.value.round text le e in
@@ -233,7 +258,8 @@ swept_codes early late codes more places slice test are pairs left_pairs le same
           l.1,
           subst (λ (os : List Listed). HasItem os (under l.0 p.number)) (sym (lists (l.0 / 20 ^ 7)))
               (item_filtered (λ (one : Listed). is_round_open late slice one.number) (get_or codes.lists.items (l.0 / 20 ^ 7) []) (under l.0 p.number) l.2
-              (ap (λ (ps : List GrantPlace). is_round_open late ps p.number) same ∙ ap (where_some (λ (place : GrantPlace). is_some (code_at late place))) (numbered_place left p left_pairs h) ∙ ap is_some e)),
+              (ap (λ (ps : List GrantPlace). is_round_open late ps p.number) same
+              ∙ ap (where_some (λ (place : GrantPlace). is_some (code_at late place))) (numbered_place left p left_pairs h) ∙ ap is_some e)),
         )
 
 -- ---- what is listed is found
@@ -241,21 +267,25 @@ swept_codes early late codes more places slice test are pairs left_pairs le same
 number_text : (text : Text) (code : ℕ) → number_of text ≡ Some code → text ≡ code_text code
 number_text text code e =
     let k = some_if_some (nat_lt (number_in text) code_count && same_text (code_text (number_in text)) text) (number_in text) code e in
-    sym ((bytes_eq-Decides (code_text (number_in text)) text).0 (second (nat_lt (number_in text) code_count) (same_text (code_text (number_in text)) text) k.0)) ∙ ap code_text k.1
+    sym ((bytes_eq-Decides (code_text (number_in text)) text).0 (second (nat_lt (number_in text) code_count) (same_text (code_text (number_in text)) text) k.0))
+    ∙ ap code_text k.1
   where
     second : (a b : Bool) → (a && b) ≡ true → b ≡ true
     second true b e = e
     second false b e = cc e
 
 -- An interaction of this code in which the user may still decide is that of the grant that is listed under the code.
-pub code_found : (moment now : ℕ) (codes : OpenCodes) (places : List GrantPlace) (name : InteractionName) (text : Text) (found : Option ℕ) → AreCodesListed moment codes places → codes.complete ≡ true → moment ≤ now
-    → ((round : Round) → is_called name round ≡ true → is_text text round.code ≡ true) → ((n number : ℕ) → number_of text ≡ Some n → HasCode codes n number → found ≡ Some number)
+pub code_found : (moment now : ℕ) (codes : OpenCodes) (places : List GrantPlace) (name : InteractionName) (text : Text) (found : Option ℕ)
+    → AreCodesListed moment codes places → codes.complete ≡ true → moment ≤ now
+    → ((round : Round) → is_called name round ≡ true → is_text text round.code ≡ true)
+    → ((n number : ℕ) → number_of text ≡ Some n → HasCode codes n number → found ≡ Some number)
     → (p : GrantPlace) → HasItem places p → is_open_by name now p.row.value.round ≡ true → found ≡ Some p.number
 code_found moment now codes places name text found are all le called finds p h e = by p.row.value.round (are.listed all p h) e
   where
     by : (o : Option Round) → IfSome (open_code moment o) (IsCodeListed codes p.number) → is_open_by name now o ≡ true → found ≡ Some p.number
     by None listed k = cc k
-    by (Some round) listed k = goes_on (not (is_some round.decision)) (nat_lt now round.until) refl (is_called name round) refl (nat_lt moment round.until) refl listed k
+    by (Some round) listed k = goes_on (not (is_some round.decision)) (nat_lt now round.until) refl (is_called name round) refl (nat_lt moment round.until) refl
+        listed k
       where
         coded : (o : Option Text) → is_text text o ≡ true → IfSome o (IsCodeListed codes p.number) → found ≡ Some p.number
         coded None t l = cc t
@@ -263,7 +293,8 @@ code_found moment now codes places name text found are all le called finds p h e
             let same : drawn ≡ text = (bytes_eq-Decides drawn text).0 t in
             finds l.0 p.number (ap number_of (sym same) ∙ l.1) l.2
 
-        goes_on : (a b : Bool) → nat_lt now round.until ≡ b → (c : Bool) → is_called name round ≡ c → (d : Bool) → nat_lt moment round.until ≡ d → IfSome (if a && d then round.code else None) (IsCodeListed codes p.number) → (a && b && c) ≡ true
+        goes_on : (a b : Bool) → nat_lt now round.until ≡ b → (c : Bool) → is_called name round ≡ c → (d : Bool) → nat_lt moment round.until ≡ d
+            → IfSome (if a && d then round.code else None) (IsCodeListed codes p.number) → (a && b && c) ≡ true
             → found ≡ Some p.number
         goes_on true true t true u true v l k = coded round.code (called round u) l
         goes_on true true t true u false v l k = absurd (grind (arith, nat_tests, t, v, le))
@@ -283,10 +314,12 @@ open_parts now (Some round) text e = by (not (is_some round.decision) && nat_lt 
     by true t k = (round, refl, t, k)
     by false t k = cc k
 
-code_open : (now : ℕ) (row : GrantRow) (round : Round) (text target : Text) → row.round ≡ Some round → (not (is_some round.decision) && nat_lt now round.until) ≡ true → round.code ≡ Some text → same_text text target ≡ true
+code_open : (now : ℕ) (row : GrantRow) (round : Round) (text target : Text) → row.round ≡ Some round
+    → (not (is_some round.decision) && nat_lt now round.until) ≡ true → round.code ≡ Some text → same_text text target ≡ true
     → interaction_where (λ (r : RoundNote). is_text target r.code) now row ≡ Some (record { row = row; round = round_of row.number round })
 code_open now row round text target is lasts coded same =
-    ap whole is ∙ ap (λ b. option_and_then named (some_if b (round_of row.number round))) lasts ∙ ap (λ c. some_if (is_text target c) found) coded ∙ ap (λ b. some_if b found) same
+    ap whole is ∙ ap (λ b. option_and_then named (some_if b (round_of row.number round))) lasts ∙ ap (λ c. some_if (is_text target c) found) coded
+    ∙ ap (λ b. some_if b found) same
   where
     found : Interaction
     found = record { row = row; round = round_of row.number round }
@@ -297,7 +330,8 @@ code_open now row round text target is lasts coded same =
     whole : Option Round → Option Interaction
     whole o = option_and_then named (option_and_then (λ (r : Round). some_if (is_open_round now r) (round_of row.number r)) o)
 
-pub code_taken : (moment now : ℕ) (codes : OpenCodes) (places : List GrantPlace) (rows : List GrantRow) (code number : ℕ) → AreCodesListed moment codes places → now ≤ moment → map grant_in places ≡ rows → HasCode codes code number
+pub code_taken : (moment now : ℕ) (codes : OpenCodes) (places : List GrantPlace) (rows : List GrantRow) (code number : ℕ) → AreCodesListed moment codes places
+    → now ≤ moment → map grant_in places ≡ rows → HasCode codes code number
     → is_some (interaction_by_code now (code_text code) rows) ≡ true
 code_taken moment now codes places rows code number are le view h = by (code_at moment o.0) refl o.3
   where
@@ -312,7 +346,8 @@ code_taken moment now codes places rows code number are le view h = by (code_at 
     by (Some text) e i =
         let r = open_parts now o.0.row.value.round text (later_code now moment o.0.row.value.round text le e) in
         let same : same_text text (code_text code) ≡ true = (bytes_eq-Decides text (code_text code)).1 (number_text text code i) in
-        newest_some (interaction_where (λ (n : RoundNote). is_text (code_text code) n.code) now) rows o.0.row.value _ has (code_open now o.0.row.value r.0 text (code_text code) r.1 r.2 r.3 same)
+        newest_some (interaction_where (λ (n : RoundNote). is_text (code_text code) n.code) now) rows o.0.row.value _ has
+        (code_open now o.0.row.value r.0 text (code_text code) r.1 r.2 r.3 same)
 
 -- ---- what a call reads at the place that it changes
 
@@ -320,16 +355,21 @@ code_taken moment now codes places rows code number are le view h = by (code_at 
 read_after : (places : List GrantPlace) (at : ℕ) (new again : GrantPlace) → at < length places → again ≡ get_or (set places at new) at again → again ≡ new
 read_after places at new again inside is = is ∙ get_or-set_same places at new again inside
 
-pub read_own : (moment : ℕ) (codes : OpenCodes) (places : List GrantPlace) (at : ℕ) (was old new again : GrantPlace) (before : Option Text) → AreCodesListed moment codes places → NumbersAscend places → at < length places
-    → was ≡ get_or places at was → old ≡ get_or places at old → new.number ≡ old.number → again ≡ get_or (set places at new) at again → before ≡ code_at moment was
+pub read_own : (moment : ℕ) (codes : OpenCodes) (places : List GrantPlace) (at : ℕ) (was old new again : GrantPlace) (before : Option Text)
+    → AreCodesListed moment codes places → NumbersAscend places → at < length places
+    → was ≡ get_or places at was → old ≡ get_or places at old → new.number ≡ old.number → again ≡ get_or (set places at new) at again
+    → before ≡ code_at moment was
     → (code : ℕ) → HasCode codes code again.number → IsCodeIn code before
 read_own moment codes places at was old new again before are pairs inside read is keeps after coded code h =
     let same : was ≡ old = same_place places at was old inside read is in
     let number : again.number ≡ old.number = ap (λ (p : GrantPlace). p.number) (read_after places at new again inside after) ∙ keeps in
-    subst (IsCodeIn code) (sym (coded ∙ ap (code_at moment) same)) (own_code moment codes places at old are pairs inside is code (subst (λ n. HasCode codes code n) number h))
+    subst (IsCodeIn code) (sym (coded ∙ ap (code_at moment) same))
+    (own_code moment codes places at old are pairs inside is code (subst (λ n. HasCode codes code n) number h))
 
-pub read_listed : (moment : ℕ) (codes : OpenCodes) (places : List GrantPlace) (at : ℕ) (was old new again : GrantPlace) (before : Option Text) → AreCodesListed moment codes places → at < length places
-    → was ≡ get_or places at was → old ≡ get_or places at old → new.number ≡ old.number → again ≡ get_or (set places at new) at again → before ≡ code_at moment was
+pub read_listed : (moment : ℕ) (codes : OpenCodes) (places : List GrantPlace) (at : ℕ) (was old new again : GrantPlace) (before : Option Text)
+    → AreCodesListed moment codes places → at < length places
+    → was ≡ get_or places at was → old ≡ get_or places at old → new.number ≡ old.number → again ≡ get_or (set places at new) at again
+    → before ≡ code_at moment was
     → codes.complete ≡ true → IfSome before (IsCodeListed codes again.number)
 read_listed moment codes places at was old new again before are inside read is keeps after coded all =
     let same : was ≡ old = same_place places at was old inside read is in
@@ -337,15 +377,18 @@ read_listed moment codes places at was old new again before are inside read is k
     subst (λ (o : Option Text). IfSome o (IsCodeListed codes again.number)) (sym (coded ∙ ap (code_at moment) same))
     (subst (λ n. IfSome (code_at moment old) (IsCodeListed codes n)) (sym number) (own_listed moment codes places at old are inside is all))
 
-pub read_moved : (moment : ℕ) (codes more : OpenCodes) (places : List GrantPlace) (at : ℕ) (old new again last : GrantPlace) (after : Option Text) → AreCodesListed moment codes places → at < length places
-    → old ≡ get_or places at old → new.number ≡ old.number → NumbersAscend (set places at new) → again ≡ get_or (set places at new) at again → last ≡ get_or (set places at new) at last
+pub read_moved : (moment : ℕ) (codes more : OpenCodes) (places : List GrantPlace) (at : ℕ) (old new again last : GrantPlace) (after : Option Text)
+    → AreCodesListed moment codes places → at < length places
+    → old ≡ get_or places at old → new.number ≡ old.number → NumbersAscend (set places at new) → again ≡ get_or (set places at new) at again
+    → last ≡ get_or (set places at new) at last
     → after ≡ code_at moment again → AreMoved codes more last.number after → AreCodesListed moment more (set places at new)
 read_moved moment codes more places at old new again last after are inside is keeps pairs read number coded moves =
     moved_at moment codes more places at old new are inside is keeps pairs
     (subst (λ n. AreMoved codes more n (code_at moment new)) (ap (λ (p : GrantPlace). p.number) (read_after places at new last inside number))
     (subst (AreMoved codes more last.number) (coded ∙ ap (code_at moment) (read_after places at new again inside read)) moves))
 
-pub numbers_low : (places : List GrantPlace) (doors : List DoorPlace) (bound number : ℕ) (rows : List GrantRow) → map grant_in places ≡ rows → AreGrantPlaces places doors bound
+pub numbers_low : (places : List GrantPlace) (doors : List DoorPlace) (bound number : ℕ) (rows : List GrantRow) → map grant_in places ≡ rows
+    → AreGrantPlaces places doors bound
     → All (λ (other : GrantRow). other.number < number) rows → (p : GrantPlace) → HasItem places p → p.number < number
 numbers_low places doors bound number rows view are low p h =
     let has = subst (λ (rs : List GrantRow). HasItem rs p.row.value) view (item_mapped grant_in places p h) in
@@ -353,7 +396,8 @@ numbers_low places doors bound number rows view are low p h =
     let e = (item_all (IsGrantPlace doors) places p are.each h).number in omega (arith, l, e)
 
 -- a change that leaves the round leaves its code
-pub code_left : (moment number : ℕ) (f : GrantRow → GrantRow) (old new : GrantPlace) → Changes number f old new → ((row : GrantRow) → (f row).round ≡ row.round) → code_at moment new ≡ code_at moment old
+pub code_left : (moment number : ℕ) (f : GrantRow → GrantRow) (old new : GrantPlace) → Changes number f old new → ((row : GrantRow) → (f row).round ≡ row.round)
+    → code_at moment new ≡ code_at moment old
 code_left moment number f old new changes stays = ap (open_code moment) (ap (λ (r : GrantRow). r.round) changes.row ∙ by (number == old.number))
   where
     by : (b : Bool) → (if b then f old.row.value else old.row.value).round ≡ old.row.value.round
@@ -361,10 +405,12 @@ code_left moment number f old new changes stays = ap (open_code moment) (ap (λ 
     by false = refl
 
 -- lists with the same codes
-pub relisted : (moment : ℕ) (codes more : OpenCodes) (places : List GrantPlace) → AreCodesListed moment codes places → ((i : ℕ) → get_or more.lists.items i [] ≡ get_or codes.lists.items i []) → more.complete ≡ codes.complete
+pub relisted : (moment : ℕ) (codes more : OpenCodes) (places : List GrantPlace) → AreCodesListed moment codes places
+    → ((i : ℕ) → get_or more.lists.items i [] ≡ get_or codes.lists.items i []) → more.complete ≡ codes.complete
     → AreCodesListed moment more places
 relisted moment codes more places are lists complete = record {
   open_under = λ code number h. are.open_under code number (subst (λ (os : List Listed). HasItem os (under code number)) (lists (code / 20 ^ 7)) h);
   listed = λ all p h. if_more (IsCodeListed codes p.number) (IsCodeListed more p.number) (code_at moment p)
-      (λ text l. (l.0, l.1, subst (λ (os : List Listed). HasItem os (under l.0 p.number)) (sym (lists (l.0 / 20 ^ 7))) l.2)) (are.listed (sym complete ∙ all) p h);
+      (λ text l. (l.0, l.1, subst (λ (os : List Listed). HasItem os (under l.0 p.number)) (sym (lists (l.0 / 20 ^ 7))) l.2))
+      (are.listed (sym complete ∙ all) p h);
 }

@@ -26,7 +26,8 @@ ascending_keys {A} key xs pairs i j lt inside =
     let many = length-map xs key in
     let jn : j < length xs = omega (arith, many, inside) in some xs i j lt jn (pairs i j)
   where
-    some : (ys : List A) (i j : ℕ) → i < j → j < length ys → ((d : A) → i < j → j < length ys → key (get_or ys i d) < key (get_or ys j d)) → slice_index (map key ys) i < slice_index (map key ys) j
+    some : (ys : List A) (i j : ℕ) → i < j → j < length ys → ((d : A) → i < j → j < length ys → key (get_or ys i d) < key (get_or ys j d))
+        → slice_index (map key ys) i < slice_index (map key ys) j
     some [] i j lt jn p = absurd (omega arith)
     some (y ∷ ys) i j lt jn p =
         let a = key_at key (y ∷ ys) i y (omega arith) in
@@ -34,7 +35,8 @@ ascending_keys {A} key xs pairs i j lt inside =
         let q = p y lt jn in omega (arith, a, b, q)
 
 -- an item stands where its key is
-pub at_place : {A : Type 0} (key : A → ℕ) (xs : List A) (i k : ℕ) (z : A) → IsAscending (map key xs) → IsPlaceOf k (map key xs) i → HasItem xs z → key z ≡ k → slice_get xs i ≡ Some z
+pub at_place : {A : Type 0} (key : A → ℕ) (xs : List A) (i k : ℕ) (z : A) → IsAscending (map key xs) → IsPlaceOf k (map key xs) i → HasItem xs z → key z ≡ k
+    → slice_get xs i ≡ Some z
 at_place {A} key xs i k z ascending place h same =
     let p = item_at xs z h in
     let j : ℕ = p.0 in
@@ -51,17 +53,20 @@ at_place {A} key xs i k z ascending place h same =
     before : (i j : ℕ) → slice_index (map key xs) j ≡ k → (j < i → slice_index (map key xs) j < k) → i ≤ j
     before i j here b = elim (cases_lt j i) [ inl lt ↦ (let x = b lt in absurd (omega arith)) | inr le ↦ le ]
 
-    past : (i j : ℕ) → slice_index (map key xs) j ≡ k → k ≤ slice_index (map key xs) i → (i < j → slice_index (map key xs) i < slice_index (map key xs) j) → j ≤ i
+    past : (i j : ℕ) → slice_index (map key xs) j ≡ k → k ≤ slice_index (map key xs) i → (i < j → slice_index (map key xs) i < slice_index (map key xs) j)
+        → j ≤ i
     past i j here first b = elim (cases_lt i j) [ inl lt ↦ (let x = b lt in absurd (omega arith)) | inr le ↦ le ]
 
 -- items with one key are one item
-pub one_key : {A : Type 0} (key : A → ℕ) (xs : List A) (y z : A) → AllPairs (λ (a b : A). key a < key b) xs → HasItem xs y → HasItem xs z → key y ≡ key z → y ≡ z
+pub one_key : {A : Type 0} (key : A → ℕ) (xs : List A) (y z : A) → AllPairs (λ (a b : A). key a < key b) xs → HasItem xs y → HasItem xs z → key y ≡ key z
+    → y ≡ z
 one_key {A} key xs y z pairs hy hz same =
     let p = item_at xs y hy in
     let q = item_at xs z hz in
     let a : key (get_or xs p.0 y) ≡ key y = ap key (p.2 y) in
     let b : key (get_or xs q.0 y) ≡ key z = ap key (q.2 y) in
-    let eq : p.0 ≡ q.0 = places p.0 q.0 (key (get_or xs p.0 y)) (key (get_or xs q.0 y)) (a ∙ same ∙ sym b) (λ lt. pairs p.0 q.0 y lt q.1) (λ lt. pairs q.0 p.0 y lt p.1) in
+    let eq : p.0 ≡ q.0 = places p.0 q.0 (key (get_or xs p.0 y)) (key (get_or xs q.0 y)) (a ∙ same ∙ sym b) (λ lt. pairs p.0 q.0 y lt q.1)
+    (λ lt. pairs q.0 p.0 y lt p.1) in
     sym (p.2 y) ∙ ap (λ n. get_or xs n y) eq ∙ q.2 y
   where
     places : (i j a b : ℕ) → a ≡ b → (i < j → a < b) → (j < i → b < a) → i ≡ j

@@ -130,7 +130,8 @@ later_of (Some before) (Some next) = if nat_lt before.number next.number then So
 -- of the grants that are found by what is listed, the one with the greatest number
 pub record IsLatest (look : ℕ → Option GrantRow) (listed : List Listed) (found : Option GrantRow) : Type 0 where
   pub is : IfSome found (λ (row : GrantRow). (one : Listed) × HasItem listed one × (look one.number ≡ Some row))
-  pub last : (one : Listed) (row : GrantRow) → HasItem listed one → look one.number ≡ Some row → (latest : GrantRow) × (found ≡ Some latest) × (row.number ≤ latest.number)
+  pub last : (one : Listed) (row : GrantRow) → HasItem listed one → look one.number ≡ Some row
+      → (latest : GrantRow) × (found ≡ Some latest) × (row.number ≤ latest.number)
 
 -- ---- one place
 

@@ -89,12 +89,14 @@ impl Model for GrantTable {
       doors_below = s.doors_below;
     } };
 
-    ghost invariant = { λ s. AreGrantPlaces s.places.items s.doors.items s.doors_below × AreHandlesListed s.handles.listed s.places.items × AreCodesListed s.swept s.codes s.places.items };
+    ghost invariant = { λ s. AreGrantPlaces s.places.items s.doors.items s.doors_below × AreHandlesListed s.handles.listed s.places.items
+        × AreCodesListed s.swept s.codes s.places.items };
 }
 
 // The row at a place, where it has this number.
 fn numbered(places: &[GrantPlace], at: usize, number: u64) -> Option<&GrantRow>
-    ensures { option_map (λ row. row.now) result ≡ option_map grant_in (option_and_then (λ place. some_if (place.number == number) place) (slice_get places.now at)) }
+    ensures { option_map (λ row. row.now) result
+        ≡ option_map grant_in (option_and_then (λ place. some_if (place.number == number) place) (slice_get places.now at)) }
 {
     match places.get(at) {
         Some(place) => {
@@ -110,7 +112,8 @@ fn numbered(places: &[GrantPlace], at: usize, number: u64) -> Option<&GrantRow>
 
 // The grant of the door at a place, where it has this serial.
 fn door_grant(doors: &[DoorPlace], at: usize, serial: u64) -> Option<u64>
-    ensures { result ≡ option_map (λ (door : DoorPlace). door.grant) (option_and_then (λ (door : DoorPlace). some_if (door.serial == serial) door) (slice_get doors.now at)) }
+    ensures { result ≡ option_map (λ (door : DoorPlace). door.grant)
+        (option_and_then (λ (door : DoorPlace). some_if (door.serial == serial) door) (slice_get doors.now at)) }
 {
     match doors.get(at) {
         Some(door) => {
@@ -126,14 +129,16 @@ fn door_grant(doors: &[DoorPlace], at: usize, serial: u64) -> Option<u64>
 
 // The row, where it has this continuation value.
 fn with_door<'a>(row: Option<&'a GrantRow>, value: &[u8]) -> Option<&'a GrantRow>
-    ensures { option_map (λ row. row.now) result ≡ option_and_then (λ (row : GrantRow). some_if (same_text row.door value.now) row) (option_map (λ row. row.now) row.entry) }
+    ensures { option_map (λ row. row.now) result
+        ≡ option_and_then (λ (row : GrantRow). some_if (same_text row.door value.now) row) (option_map (λ row. row.now) row.entry) }
 {
     row.filter(|row| row.door.as_slice() == value)
 }
 
 // The row, where it has an interaction of this name in which the user may still decide.
 fn open_by<'a>(row: Option<&'a GrantRow>, now: u64, name: InteractionName) -> Option<&'a GrantRow>
-    ensures { option_map (λ row. row.now) result ≡ option_and_then (λ (row : GrantRow). some_if (is_open_by name.entry now row.round) row) (option_map (λ row. row.now) row.entry) }
+    ensures { option_map (λ row. row.now) result
+        ≡ option_and_then (λ (row : GrantRow). some_if (is_open_by name.entry now row.round) row) (option_map (λ row. row.now) row.entry) }
 {
     match row {
         Some(row) => {
@@ -262,7 +267,8 @@ fn open_or<'a>(
     now: u64,
     name: InteractionName,
 ) -> Option<&'a GrantRow>
-    ensures { option_map (λ row. row.now) result ≡ option_or (some_if (is_open_by name.entry now row.entry.now.round) row.entry.now) (option_map (λ row. row.now) found.entry) }
+    ensures { option_map (λ row. row.now) result
+        ≡ option_or (some_if (is_open_by name.entry now row.entry.now.round) row.entry.now) (option_map (λ row. row.now) found.entry) }
 {
     if is_open(&row.round, now, name) {
         Some(row)
@@ -504,7 +510,8 @@ impl GrantTable {
 
     /// The grant with the interaction of this name in which the user may still decide.
     pub fn by_interaction(&self, now: u64, name: InteractionName) -> Option<&GrantRow>
-        ensures { option_map (λ row. row.now) result ≡ option_map (λ (i : Interaction). i.row) (newest (interaction_where (goes_by name.entry) now) self.now.rows) }
+        ensures { option_map (λ row. row.now) result
+            ≡ option_map (λ (i : Interaction). i.row) (newest (interaction_where (goes_by name.entry) now) self.now.rows) }
     {
         match name {
             InteractionName::Handle(handle) => self.by_handle(now, handle),
@@ -514,7 +521,8 @@ impl GrantTable {
 
     // The grant with the interaction of this handle in which the user may still decide.
     fn by_handle(&self, now: u64, handle: &[u8]) -> Option<&GrantRow>
-        ensures { option_map (λ row. row.now) result ≡ option_map (λ (i : Interaction). i.row) (newest (interaction_where (λ (round : RoundNote). same_text round.handle handle.now) now) self.now.rows) }
+        ensures { option_map (λ row. row.now) result
+            ≡ option_map (λ (i : Interaction). i.row) (newest (interaction_where (λ (round : RoundNote). same_text round.handle handle.now) now) self.now.rows) }
     {
         let listed = self.handles.of(handle_key(handle));
         last_open(
@@ -528,7 +536,8 @@ impl GrantTable {
     // The grant with the interaction of this user code in which the user may still decide. Where the index has all codes that may be asked for, a search in it
     // tells the grant.
     fn by_code(&self, now: u64, code: &[u8; 8]) -> Option<&GrantRow>
-        ensures { option_map (λ row. row.now) result ≡ option_map (λ (i : Interaction). i.row) (newest (interaction_where (λ (round : RoundNote). is_text code.now round.code) now) self.now.rows) }
+        ensures { option_map (λ row. row.now) result
+            ≡ option_map (λ (i : Interaction). i.row) (newest (interaction_where (λ (round : RoundNote). is_text code.now round.code) now) self.now.rows) }
     {
         let places = self.places.as_slice();
         let name = InteractionName::Code(code);
@@ -541,7 +550,8 @@ impl GrantTable {
         }
     }
 
-    /// All user codes from that of this number up to that of the result are those of interactions in which the user may still decide. It is the first whose code
+    /// All user codes from that of this number up to that of the result are those of interactions in which the user may still decide. It is the first whose
+    /// code
     /// is not, or with which another letter begins, where the rows were swept at this moment.
     pub fn past_taken(&self, now: u64, number: u64) -> u64
         requires { number < 20 ^ 8 }

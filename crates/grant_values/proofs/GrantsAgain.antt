@@ -59,19 +59,22 @@ key_form : (name : List ℕ) (d : Data) (key : _) → key_name_of name d ≡ Ok 
 unfolding key_name_of
 key_form name d key is = key_form_in name d (as_str d) key is
 
-printed_key : (name : List ℕ) (by_object : Bool) (id : List ℕ) → is_id id ≡ true → key_name_of name (client_data by_object id) ≡ Ok (record { id = id; by_object = by_object })
+printed_key : (name : List ℕ) (by_object : Bool) (id : List ℕ) → is_id id ≡ true
+    → key_name_of name (client_data by_object id) ≡ Ok (record { id = id; by_object = by_object })
 unfolding key_name_of id_of text_of
 printed_key name true id form = rw form refl
 printed_key name false id form = rw form refl
 
-client_again : (modify : Bool) (d e : Data) (client : _) → client_of modify d ≡ Ok client → get (codes "client") e ≡ option_map (client_data client.by_object) client.id → client_of modify e ≡ Ok client
+client_again : (modify : Bool) (d e : Data) (client : _) → client_of modify d ≡ Ok client
+    → get (codes "client") e ≡ option_map (client_data client.by_object) client.id → client_of modify e ≡ Ok client
 unfolding client_of
 client_again true d e client is there = is
 client_again false d e client is there =
     let key = bind_ok (required (codes "client") d >>= key_name_of (codes "client")) _ client is in
     let member = bind_ok (required (codes "client") d) (key_name_of (codes "client")) key.0 key.1 in
     let same = same_ok _ client key.2 in
-    let printed : get (codes "client") e ≡ Some (client_data key.0.by_object key.0.id) = there ∙ along (sym same) (λ c. option_map (client_data c.by_object) c.id) in
+    let printed : get (codes "client") e ≡ Some (client_data key.0.by_object key.0.id) = there
+    ∙ along (sym same) (λ c. option_map (client_data c.by_object) c.id) in
     rw (printed, printed_key (codes "client") key.0.by_object key.0.id (key_form (codes "client") member.0 key.0 member.2)) (ap Ok same)
 
 -- ---- user
@@ -90,7 +93,8 @@ user_again d e user is there =
     let reading = λ (u : Data). user_in u (as_str u) in
     ap (optional reading) there ∙ optional_again reading string (λ u name read. named_in u (as_str u) name read) (get (codes "user") d) user is
 
-named_again : (modify : Bool) (d e : Data) (user : Option (List ℕ)) → named_user_of modify d ≡ Ok user → get (codes "user") e ≡ option_map string user → named_user_of modify e ≡ Ok user
+named_again : (modify : Bool) (d e : Data) (user : Option (List ℕ)) → named_user_of modify d ≡ Ok user → get (codes "user") e ≡ option_map string user
+    → named_user_of modify e ≡ Ok user
 named_again true d e user is there = is
 named_again false d e user is there = user_again d e user is there
 
@@ -101,14 +105,17 @@ asked asks single subject client by_object user modes =
     record { asks = asks; single = single; subject = subject; client = client; by_object = by_object; user = user; modes = modes }
 
 some_again : (ts us : _) (subject : Bool) → some_asked ts subject ≡ Ok us
-    → some_asked (record { asks = ts.asks; single = ts.single; repeats_flag = false }) subject ≡ Ok (record { asks = ts.asks; single = ts.single; repeats_flag = false })
+    → some_asked (record { asks = ts.asks; single = ts.single; repeats_flag = false }) subject
+    ≡ Ok (record { asks = ts.asks; single = ts.single; repeats_flag = false })
 some_again ts us subject is = let some = refused_not (length ts.asks == 0 && not subject) _ ts us is in rw some.0 refl
 
 size_again : (ts us : _) → checked_size ts ≡ Ok us
-    → checked_size (record { asks = ts.asks; single = ts.single; repeats_flag = false }) ≡ Ok (record { asks = ts.asks; single = ts.single; repeats_flag = false })
+    → checked_size (record { asks = ts.asks; single = ts.single; repeats_flag = false })
+    ≡ Ok (record { asks = ts.asks; single = ts.single; repeats_flag = false })
 size_again ts us is = let small = refused_not (asks_too_much ts.asks) _ ts us is in rw small.0 refl
 
-body_parts : (modify : Bool) (e : Data) (asks : List Ask) (single subject : Bool) (client : Option (List ℕ)) (by_object : Bool) (user : Option (List ℕ)) (modes : Option Modes)
+body_parts : (modify : Bool) (e : Data) (asks : List Ask) (single subject : Bool) (client : Option (List ℕ)) (by_object : Bool) (user : Option (List ℕ))
+    (modes : Option Modes)
     → token_requests_of e ≡ Ok (record { asks = asks; single = single; repeats_flag = false }) → subject_request_of e ≡ Ok subject
     → some_asked (record { asks = asks; single = single; repeats_flag = false }) subject ≡ Ok (record { asks = asks; single = single; repeats_flag = false })
     → client_of modify e ≡ Ok (record { id = client; by_object = by_object }) → named_user_of modify e ≡ Ok user → interact_of e ≡ Ok modes
@@ -153,7 +160,8 @@ request_again modify existing d request is fits =
     subst (λ (x : GrantRequest). (grant_body_of modify (request_data existing x) >>= checked_flags) ≡ Ok x) same
     (along (body_again modify existing d body.0 body.1 fit) (λ r. r >>= checked_flags))
 
-existing_again : (existing : Option (List ℕ)) (request : GrantRequest) → get (codes "existing_access_token") (request_data existing request) ≡ option_map string existing
+existing_again : (existing : Option (List ℕ)) (request : GrantRequest)
+    → get (codes "existing_access_token") (request_data existing request) ≡ option_map string existing
 unfolding request_data
 existing_again existing request = found (codes "existing_access_token") (request_fields existing request) ∙ or_none _
 

@@ -48,7 +48,8 @@ long_again : (e : Data) (long : Bool) → get (codes "hash_method") e ≡ hash_m
 unfolding long_of
 long_again e long there = ap hash_in there ∙ hash_in_again long
 
-finish_parts : (e : Data) (f : Finish) → checked_object (codes "finish") e ≡ Ok e → push_of e ≡ Ok f.push → finish_uri_of e ≡ Ok f.uri → nonce_of e ≡ Ok f.nonce → long_of e ≡ Ok f.long
+finish_parts : (e : Data) (f : Finish) → checked_object (codes "finish") e ≡ Ok e → push_of e ≡ Ok f.push → finish_uri_of e ≡ Ok f.uri → nonce_of e ≡ Ok f.nonce
+    → long_of e ≡ Ok f.long
     → asked_finish_of e ≡ Ok f
 unfolding asked_finish_of
 finish_parts e f whole push uri nonce long = rw (whole, push, uri, nonce, long) refl
@@ -76,9 +77,11 @@ finish_again d f is =
     let same = same_ok made f long.2 in
     printed_finish whole.0 f (uri.1 ∙ ap (λ (x : Finish). Ok x.uri) same) (nonce.1 ∙ ap (λ (x : Finish). Ok x.nonce) same)
 
-optional_finish_again : (d e : Data) (finish : Option Finish) → optional_finish_of d ≡ Ok finish → get (codes "finish") e ≡ option_map finish_data finish → optional_finish_of e ≡ Ok finish
+optional_finish_again : (d e : Data) (finish : Option Finish) → optional_finish_of d ≡ Ok finish → get (codes "finish") e ≡ option_map finish_data finish
+    → optional_finish_of e ≡ Ok finish
 unfolding optional_finish_of
-optional_finish_again d e finish is there = ap (optional asked_finish_of) there ∙ optional_again asked_finish_of finish_data finish_again (get (codes "finish") d) finish is
+optional_finish_again d e finish is there = ap (optional asked_finish_of) there
+    ∙ optional_again asked_finish_of finish_data finish_again (get (codes "finish") d) finish is
 
 -- ---- start
 
@@ -88,8 +91,10 @@ lists wanted modes = list_any (λ text. bytes_eq text wanted) (starts_of modes)
 abbrev offering : Bool → Bool → Bool → Option Finish → Modes
 offering redirect user_code user_code_uri finish = record { redirect = redirect; user_code = user_code; user_code_uri = user_code_uri; finish = finish }
 
-lists_offered : (redirect user_code user_code_uri : Bool) (finish : Option Finish) → (lists (codes "redirect") (offering redirect user_code user_code_uri finish) ≡ redirect)
-    × (lists (codes "user_code") (offering redirect user_code user_code_uri finish) ≡ user_code) × (lists (codes "user_code_uri") (offering redirect user_code user_code_uri finish) ≡ user_code_uri)
+lists_offered : (redirect user_code user_code_uri : Bool) (finish : Option Finish)
+    → (lists (codes "redirect") (offering redirect user_code user_code_uri finish) ≡ redirect)
+    × (lists (codes "user_code") (offering redirect user_code user_code_uri finish) ≡ user_code)
+    × (lists (codes "user_code_uri") (offering redirect user_code user_code_uri finish) ≡ user_code_uri)
 lists_offered true true true finish = (refl, refl, refl)
 lists_offered true true false finish = (refl, refl, refl)
 lists_offered true false true finish = (refl, refl, refl)
@@ -99,7 +104,8 @@ lists_offered false true false finish = (refl, refl, refl)
 lists_offered false false true finish = (refl, refl, refl)
 lists_offered false false false finish = (refl, refl, refl)
 
-start_again : (wanted : List ℕ) (modes : Modes) (offered : Bool) → lists wanted modes ≡ offered → has_string (codes "start") wanted (items (map string (starts_of modes))) ≡ Ok offered
+start_again : (wanted : List ℕ) (modes : Modes) (offered : Bool) → lists wanted modes ≡ offered
+    → has_string (codes "start") wanted (items (map string (starts_of modes))) ≡ Ok offered
 start_again wanted modes offered is = rw (texts_again (codes "start") (starts_of modes)) (ap Ok is)
 
 -- ---- modes
@@ -110,7 +116,8 @@ modes_parts : (e : Data) (m : Modes) (starts : Items) → checked_object (codes 
 unfolding offered_modes_of
 modes_parts e m starts whole items redirect user_code user_code_uri finish = rw (whole, items, redirect, user_code, user_code_uri, finish) refl
 
-starts_there : (e : Data) (m : Modes) → get (codes "start") e ≡ Some (texts_data (starts_of m)) → required_items (codes "start") e ≡ Ok (items (map string (starts_of m)))
+starts_there : (e : Data) (m : Modes) → get (codes "start") e ≡ Some (texts_data (starts_of m))
+    → required_items (codes "start") e ≡ Ok (items (map string (starts_of m)))
 starts_there e m there = rw there refl
 
 printed_modes : (d : Data) (m : Modes) → optional_finish_of d ≡ Ok m.finish → offered_modes_of (modes_data m) ≡ Ok m
@@ -120,7 +127,8 @@ printed_modes d m finish =
     let e = object_of fs in
     let offered = lists_offered m.redirect m.user_code m.user_code_uri m.finish in
     modes_parts e m (items (map string (starts_of m))) refl (starts_there e m (found (codes "start") fs))
-    (start_again (codes "redirect") m m.redirect offered.0) (start_again (codes "user_code") m m.user_code offered.1) (start_again (codes "user_code_uri") m m.user_code_uri offered.2)
+    (start_again (codes "redirect") m m.redirect offered.0) (start_again (codes "user_code") m m.user_code offered.1)
+    (start_again (codes "user_code_uri") m m.user_code_uri offered.2)
     (optional_finish_again d e m.finish finish (found (codes "finish") fs ∙ or_none _))
 
 modes_again : (d : Data) (m : Modes) → offered_modes_of d ≡ Ok m → offered_modes_of (modes_data m) ≡ Ok m
@@ -136,6 +144,8 @@ modes_again d m is =
     let same = same_ok made m finish.2 in
     printed_modes whole.0 m (finish.1 ∙ ap (λ (x : Modes). Ok x.finish) same)
 
-pub interact_again : (d e : Data) (modes : Option Modes) → interact_of d ≡ Ok modes → get (codes "interact") e ≡ option_map modes_data modes → interact_of e ≡ Ok modes
+pub interact_again : (d e : Data) (modes : Option Modes) → interact_of d ≡ Ok modes → get (codes "interact") e ≡ option_map modes_data modes
+    → interact_of e ≡ Ok modes
 unfolding interact_of
-interact_again d e modes is there = ap (optional offered_modes_of) there ∙ optional_again offered_modes_of modes_data modes_again (get (codes "interact") d) modes is
+interact_again d e modes is there = ap (optional offered_modes_of) there
+    ∙ optional_again offered_modes_of modes_data modes_again (get (codes "interact") d) modes is

@@ -33,7 +33,8 @@ refused_not true e x y is = absurd cc
 refused_not false e x y is = (refl, cc)
 
 -- two tests that refuse
-pub twice_not : {E A : Type 0} (b c : Bool) (e f : E) (x y : A) → (if b then Err e else (if c then Err f else Ok x)) ≡ Ok y → (b ≡ false) × (c ≡ false) × (x ≡ y)
+pub twice_not : {E A : Type 0} (b c : Bool) (e f : E) (x y : A) → (if b then Err e else (if c then Err f else Ok x)) ≡ Ok y
+    → (b ≡ false) × (c ≡ false) × (x ≡ y)
 twice_not true c e f x y is = absurd cc
 twice_not false true e f x y is = absurd cc
 twice_not false false e f x y is = (refl, refl, cc)
@@ -77,7 +78,8 @@ unfolding required_text text_of
 required_text_again name e s there = rw there refl
 
 -- what is printed of a member that is there is read as it was
-pub optional_again : {A : Type 0} (reading : Data → Result A ObjectFault) (printed : A → Data) → ((d : Data) (x : A) → reading d ≡ Ok x → reading (printed x) ≡ Ok x)
+pub optional_again : {A : Type 0} (reading : Data → Result A ObjectFault) (printed : A → Data)
+    → ((d : Data) (x : A) → reading d ≡ Ok x → reading (printed x) ≡ Ok x)
     → (o : Option Data) (x : Option A) → optional reading o ≡ Ok x → optional reading (option_map printed x) ≡ Ok x
 optional_again reading printed again None x is = let same = same_ok None x is in subst (λ y. optional reading (option_map printed y) ≡ Ok y) same refl
 optional_again reading printed again (Some d) x is =

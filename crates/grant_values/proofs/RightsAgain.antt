@@ -177,8 +177,10 @@ identifier_again (Some s) = refl
 abbrev type_in : Option Data → Result (List ℕ) RightsFault
 type_in o = or_fault faults.Wrong o >>= any_text >>= sized
 
-object_parts : (r : RightObject) (d : Data) (ms : Members) → type_of d ≡ Ok r.kind → dimension_of (codes "actions") d ≡ Ok r.actions → dimension_of (codes "locations") d ≡ Ok r.locations
-    → dimension_of (codes "datatypes") d ≡ Ok r.datatypes → dimension_of (codes "privileges") d ≡ Ok r.privileges → identifier_of d ≡ Ok r.identifier → further_of ms ≡ r.further → few_atoms r ≡ Ok r
+object_parts : (r : RightObject) (d : Data) (ms : Members) → type_of d ≡ Ok r.kind → dimension_of (codes "actions") d ≡ Ok r.actions
+    → dimension_of (codes "locations") d ≡ Ok r.locations
+    → dimension_of (codes "datatypes") d ≡ Ok r.datatypes → dimension_of (codes "privileges") d ≡ Ok r.privileges → identifier_of d ≡ Ok r.identifier
+    → further_of ms ≡ r.further → few_atoms r ≡ Ok r
     → right_object_of d ms ≡ Ok r
 unfolding right_object_of
 object_parts r d ms e0 e1 e2 e3 e4 e5 e6 e7 = rw (e0, e1, e2, e3, e4, e5, e6) e7
@@ -190,7 +192,8 @@ object_again r fits read =
     let ms = members_read (json.read r.further) in
     let only : HasOthersOnly ms = rw f.read_as f.others_only in
     let look = λ (k : List ℕ) (own : is_own k ≡ true). get_member-members_onto k ms (right_fields r) (get_member-others k ms own only) in
-    let rest : others (right_members r) ≡ f.members = others_onto ms (right_fields r) (refl, (refl, (refl, (refl, (refl, (refl, tt)))))) ∙ others_same ms only ∙ ap members_read f.read_as in
+    let rest : others (right_members r) ≡ f.members = others_onto ms (right_fields r) (refl, (refl, (refl, (refl, (refl, (refl, tt)))))) ∙ others_same ms only
+    ∙ ap members_read f.read_as in
     object_parts r (object (right_members r)) (right_members r)
     (ap type_in (look (codes "type") refl) ∙ read.kind)
     (ap dimension_in (look (codes "actions") refl ∙ or_none _) ∙ dimension_again r.actions read.actions)

@@ -35,7 +35,8 @@ counted_again name rs ss is =
     let parts = twice_not (length rs == 0) (nat_lt 16 (length rs)) (faults.Wrong name) (faults.TooMany name) rs ss is in
     (parts.2, subst (λ x. counted_rights name x ≡ Ok x) parts.2 (rw (parts.0, parts.1) refl))
 
-access_again : (d e : Data) (rs : List Right) → access_of d ≡ Ok rs → AllByRecursion Fits rs → get (codes "access") e ≡ Some (rights_data rs) → access_of e ≡ Ok rs
+access_again : (d e : Data) (rs : List Right) → access_of d ≡ Ok rs → AllByRecursion Fits rs → get (codes "access") e ≡ Some (rights_data rs)
+    → access_of e ≡ Ok rs
 unfolding access_of rights_under
 access_again d e rs is fits there =
     let read = bind_ok (rights_under (codes "access") d) (counted_rights (codes "access")) rs is in
@@ -49,12 +50,14 @@ access_again d e rs is fits there =
 abbrev is_new : List Ask → List ℕ → Bool
 is_new before label = not (list_any (has_label label) before)
 
-label_none : (needed : Bool) (before : List Ask) (own : Option (List ℕ)) → label_in needed before None ≡ Ok own → label_in needed before (option_map string own) ≡ Ok own
+label_none : (needed : Bool) (before : List Ask) (own : Option (List ℕ)) → label_in needed before None ≡ Ok own
+    → label_in needed before (option_map string own) ≡ Ok own
 label_none true before own is = absurd cc
 label_none false before None is = refl
 label_none false before (Some s) is = absurd cc
 
-label_some : (needed : Bool) (before : List Ask) (d : Data) (own : Option (List ℕ)) → label_in needed before (Some d) ≡ Ok own → label_in needed before (option_map string own) ≡ Ok own
+label_some : (needed : Bool) (before : List Ask) (d : Data) (own : Option (List ℕ)) → label_in needed before (Some d) ≡ Ok own
+    → label_in needed before (option_map string own) ≡ Ok own
 label_some needed before d own is =
     let last = bind_ok (text_of (codes "label") d >>= sized 64 (codes "label") >>= checked (is_new before) (codes "label")) _ own is in
     let tested = bind_ok (text_of (codes "label") d >>= sized 64 (codes "label")) (checked (is_new before) (codes "label")) last.0 last.1 in
@@ -64,11 +67,13 @@ label_some needed before d own is =
     subst (λ (o : Option (List ℕ)). label_in needed before (option_map string o) ≡ Ok o) (same_ok (Some last.0) own last.2)
     (rw (text_again (codes "label") last.0, size, fresh.1) refl)
 
-label_in_again : (needed : Bool) (before : List Ask) (o : Option Data) (own : Option (List ℕ)) → label_in needed before o ≡ Ok own → label_in needed before (option_map string own) ≡ Ok own
+label_in_again : (needed : Bool) (before : List Ask) (o : Option Data) (own : Option (List ℕ)) → label_in needed before o ≡ Ok own
+    → label_in needed before (option_map string own) ≡ Ok own
 label_in_again needed before None own is = label_none needed before own is
 label_in_again needed before (Some d) own is = label_some needed before d own is
 
-label_again : (needed : Bool) (before : List Ask) (d e : Data) (own : Option (List ℕ)) → label_of needed before d ≡ Ok own → get (codes "label") e ≡ option_map string own → label_of needed before e ≡ Ok own
+label_again : (needed : Bool) (before : List Ask) (d e : Data) (own : Option (List ℕ)) → label_of needed before d ≡ Ok own
+    → get (codes "label") e ≡ option_map string own → label_of needed before e ≡ Ok own
 unfolding label_of
 label_again needed before d e own is there = ap (label_in needed before) there ∙ label_in_again needed before (get (codes "label") d) own is
 
@@ -93,7 +98,8 @@ request_parts : (needed : Bool) (before : List Ask) (ask : Ask) (d : Data) → a
     → flags_of d ≡ Ok (record { bearer = ask.bearer; repeated = false }) → object_request needed before d ≡ Ok (record { ask = ask; repeats_flag = false })
 request_parts needed before ask d access label flags = rw (access, label, flags) refl
 
-printed_request : (needed : Bool) (before : List Ask) (d : Data) (ask : Ask) → access_of d ≡ Ok ask.rights → label_of needed before d ≡ Ok ask.label → AskFits ask
+printed_request : (needed : Bool) (before : List Ask) (d : Data) (ask : Ask) → access_of d ≡ Ok ask.rights → label_of needed before d ≡ Ok ask.label
+    → AskFits ask
     → token_request_of needed before (token_request_data ask) ≡ Ok (record { ask = ask; repeats_flag = false })
 unfolding token_request_of token_request_data
 printed_request needed before d ask access label fits =
@@ -122,7 +128,8 @@ record Follows (before all : List Ask) (single : Bool) : Type 0 where
   asks : List Ask
   all_are : all ≡ before ++ asks
   listed : single ≡ false
-  again : AllByRecursion AskFits asks → token_requests_from before false (items (map token_request_data asks)) ≡ token_requests_from (before ++ asks) false no_items
+  again : AllByRecursion AskFits asks
+      → token_requests_from before false (items (map token_request_data asks)) ≡ token_requests_from (before ++ asks) false no_items
 
 follows : (before : List Ask) (repeats : Bool) (ds : Items) (ts : _) → token_requests_from before repeats ds ≡ Ok ts → Follows before ts.asks ts.single
 follows before repeats no_items ts is =
@@ -140,7 +147,8 @@ follows before repeats (item d ds) ts is =
       asks = first.0.ask ∷ rest.asks;
       all_are = rest.all_are ∙ joined;
       listed = rest.listed;
-      again = λ fits. rw (request_again true before d first.0 first.1 fits.0) (rest.again fits.1 ∙ ap (λ (xs : List Ask). token_requests_from xs false no_items) joined);
+      again = λ fits. rw (request_again true before d first.0 first.1 fits.0)
+          (rest.again fits.1 ∙ ap (λ (xs : List Ask). token_requests_from xs false no_items) joined);
     }
 
 -- ---- `access_token`
@@ -172,17 +180,20 @@ requests_in_again d (Some ds) ts is fits =
     let listed : ts.single ≡ false = along (sym counts.2) (λ x. x.single) ∙ rest.listed in
     let some : (length ts.asks == 0) ≡ false = carried asks (λ xs. (length xs == 0) ≡ false) counts.0 in
     let few : nat_lt 8 (length ts.asks) ≡ false = carried asks (λ xs. nat_lt 8 (length xs) ≡ false) counts.1 in
-    let again = λ (xs : List Ask). AllByRecursion AskFits xs → token_requests_from [] false (items (map token_request_data xs)) ≡ token_requests_from xs false no_items in
+    let again = λ (xs : List Ask). AllByRecursion AskFits xs
+    → token_requests_from [] false (items (map token_request_data xs)) ≡ token_requests_from xs false no_items in
     let read = carried own again rest.again fits in
     rw listed (counted_array ts.asks some few read)
 
 requests_under_again : (o : Option Data) (ts : _) → requests_under o ≡ Ok ts → AllByRecursion AskFits ts.asks
     → requests_under (token_requests_data ts.single ts.asks) ≡ Ok (record { asks = ts.asks; single = ts.single; repeats_flag = false })
 requests_under_again None ts is fits =
-    carried (same_ok _ ts is) (λ x. requests_under (token_requests_data x.single x.asks) ≡ Ok (record { asks = x.asks; single = x.single; repeats_flag = false })) refl
+    carried (same_ok _ ts is) (λ x. requests_under (token_requests_data x.single x.asks)
+    ≡ Ok (record { asks = x.asks; single = x.single; repeats_flag = false })) refl
 requests_under_again (Some d) ts is fits = requests_in_again d (as_array d) ts is fits
 
-pub requests_again : (d e : Data) (ts : _) → token_requests_of d ≡ Ok ts → AllByRecursion AskFits ts.asks → get (codes "access_token") e ≡ token_requests_data ts.single ts.asks
+pub requests_again : (d e : Data) (ts : _) → token_requests_of d ≡ Ok ts → AllByRecursion AskFits ts.asks
+    → get (codes "access_token") e ≡ token_requests_data ts.single ts.asks
     → token_requests_of e ≡ Ok (record { asks = ts.asks; single = ts.single; repeats_flag = false })
 unfolding token_requests_of
 requests_again d e ts is fits there = ap requests_under there ∙ requests_under_again (get (codes "access_token") d) ts is fits

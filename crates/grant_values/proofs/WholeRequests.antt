@@ -27,7 +27,8 @@ asked_flags_whole false = tt
 
 token_request_whole : (ask : Ask) → AskFits ask → has_float (token_request_data ask) ≡ false
 unfolding token_request_data
-token_request_whole ask fits = onto_whole no_members (token_request_fields ask) refl (rights_whole ask.rights fits.1, (asked_flags_whole ask.bearer, (text_whole ask.label, tt)))
+token_request_whole ask fits = onto_whole no_members (token_request_fields ask) refl
+    (rights_whole ask.rights fits.1, (asked_flags_whole ask.bearer, (text_whole ask.label, tt)))
 
 each_whole : (asks : List Ask) → AllByRecursion AskFits asks → items_have_float (items (map token_request_data asks)) ≡ false
 each_whole [] fits = refl
@@ -83,7 +84,9 @@ pub text_is : (existing : Option (List ℕ)) (request : GrantRequest) (d : Data)
     → (has_float d ≡ false → text ≡ compact_text d) → text ≡ request_text existing request
 text_is existing request d text fits shown printed = printed (ap has_float shown ∙ request_whole existing request fits) ∙ ap compact_text shown
 
-pub text_read : (existing : Option (List ℕ)) (request : GrantRequest) (d : Data) (text : List ℕ) → RequestFits request → d ≡ request_data existing request → IsUtf8 text
+pub text_read : (existing : Option (List ℕ)) (request : GrantRequest) (d : Data) (text : List ℕ) → RequestFits request → d ≡ request_data existing request
+    → IsUtf8 text
     → (depth d ≤ max_depth → read text ≡ Some d) → depth (request_data existing request) ≤ max_depth → body_of text ≡ Ok (request_data existing request)
 text_read existing request d text fits shown utf8 back shallow =
-    body_is text (request_data existing request) (utf8, back (rw shown shallow) ∙ ap Some shown) ∙ rw (is_object existing request, request_whole existing request fits) refl
+    body_is text (request_data existing request) (utf8, back (rw shown shallow) ∙ ap Some shown)
+    ∙ rw (is_object existing request, request_whole existing request fits) refl

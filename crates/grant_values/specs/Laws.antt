@@ -16,4 +16,5 @@ pub record IsRead (modify : Bool) (request : GrantRequest) : Type 0 where
 -- What is read of the printed request is the request, whatever existing token it presents; and that token stands in it.
 abbrev pub ReadsBack : Type 0
 ReadsBack = (modify : Bool) (existing : Option (List ℕ)) (request : GrantRequest) → IsRead modify request
-    → (request_of modify (request_data existing request) ≡ Ok request) × (get (codes "existing_access_token") (request_data existing request) ≡ option_map string existing)
+    → (request_of modify (request_data existing request) ≡ Ok request)
+    × (get (codes "existing_access_token") (request_data existing request) ≡ option_map string existing)

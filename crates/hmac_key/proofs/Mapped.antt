@@ -16,7 +16,8 @@ module _ {F : Type 0} (g : Mut F (ℕ × Unit {0}) ℕ) (h : ℕ → ℕ) (f : F
       rw at (each (i + 1) n (subst (λ (p : F). MapsFrom g p xs ys (i + 1) n) (call x y after called).1 rest) k (omega arith))
 
   pub mapped : (n : ℕ) → length xs ≡ n → IsMapOf g f xs ys n → ys ≡ map h xs
-  mapped n long of = ext_get_or 0 ys (map h xs) (of.long ∙ sym long ∙ sym (length-map xs h)) (λ k lt. at k (omega (arith, of.long)) ∙ sym (get_or-map h xs k 0 0 (omega (arith, of.long, long))))
+  mapped n long of = ext_get_or 0 ys (map h xs) (of.long ∙ sym long ∙ sym (length-map xs h))
+      (λ k lt. at k (omega (arith, of.long)) ∙ sym (get_or-map h xs k 0 0 (omega (arith, of.long, long))))
     where
       at : (k : ℕ) → k < n → get_or ys k 0 ≡ h (get_or xs k 0)
       at k lt = subst (λ (i : ℕ). get_or ys i 0 ≡ h (get_or xs i 0)) (zero-add k) (each 0 n of.each k lt)

@@ -57,8 +57,11 @@ pub head_in_window : (b : List ℕ) (h : RequestHead) (rest : List ℕ) → Begi
     → ReadsRequest (window b) h (take (16384 - length (print_request h)) rest)
 unfolding window
 head_in_window b h rest x =
-    let whole : take 16384 (print_request h) ≡ print_request h = take_all 16384 (print_request h) x.short in
-    (x.reads.0, ap (take 16384) x.reads.1 ∙ take_front 16384 (print_request h) rest ∙ ap (λ (t : List ℕ). t ++ take (16384 - length (print_request h)) rest) whole)
+    let whole : take 16384 (print_request h) ≡ print_request h = take_all 16384 (print_request h) x.short in (
+      x.reads.0,
+      ap (take 16384) x.reads.1 ∙ take_front 16384 (print_request h) rest
+          ∙ ap (λ (t : List ℕ). t ++ take (16384 - length (print_request h)) rest) whole,
+    )
 
 pub never_now : (w : List ℕ) → NeverHasRequest w → HasNoRequest w
 never_now w never = λ h rest r. never [] h rest (subst (λ (t : List ℕ). ReadsRequest t h rest) (sym (append-nil w)) r)

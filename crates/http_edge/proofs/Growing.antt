@@ -56,7 +56,8 @@ none_came held new told x =
 
 -- ---- answers
 
-progress_fault : (b : List ℕ) (ended : Bool) (after : Told) (fault : EdgeFault) → (ended ≡ true → IsAtEnd after) → IsProgressFault b ended fault → HasFault b after fault
+progress_fault : (b : List ℕ) (ended : Bool) (after : Told) (fault : EdgeFault) → (ended ≡ true → IsAtEnd after) → IsProgressFault b ended fault
+    → HasFault b after fault
 progress_fault b ended after faults.BadHead end s = s
 progress_fault b ended after faults.TooLarge end s = s
 progress_fault b ended after faults.Coded end s = s
@@ -70,7 +71,12 @@ module _ (old b : List ℕ) (before after : Told) (grows : Grows old b before af
   few_in_all = subst (λ (t : List ℕ). length t ≤ message_limit) grows.behind few
 
   pub next_whole : (rest : List ℕ) (m : Message) → IsMessage b m rest → IsNextMessage old rest before after (Ok (Some m))
-  next_whole rest m is = record { came = grows.came; takes = grows.takes; few = few_in_all; answers = subst (λ (t : List ℕ). IsMessage t m rest) grows.behind is }
+  next_whole rest m is = record {
+    came = grows.came;
+    takes = grows.takes;
+    few = few_in_all;
+    answers = subst (λ (t : List ℕ). IsMessage t m rest) grows.behind is;
+  }
 
   pub next_none : (rest : List ℕ) → b ≡ [] → rest ≡ [] → IsAtEnd after → IsNextMessage old rest before after (Ok None)
   next_none rest none left end = record { came = grows.came; takes = grows.takes; few = few_in_all; answers = (sym grows.behind ∙ none, left, end) }
@@ -109,7 +115,8 @@ open_first held first now before (inr waits) _ = waits
 -- ---- the lines of a head
 
 -- the place behind all of the bytes, from the place behind those that were seen
-pub place_more : (held came all : List ℕ) (seen : ℕ) (place : LinePlace) → all ≡ held ++ came → seen ≡ length held → place ≡ fold next_line_place BlankLines held
+pub place_more : (held came all : List ℕ) (seen : ℕ) (place : LinePlace) → all ≡ held ++ came → seen ≡ length held
+    → place ≡ fold next_line_place BlankLines held
     → fold next_line_place place (take (length all - seen) (drop seen all)) ≡ fold next_line_place BlankLines all
 place_more held came all seen place whole count e =
     let rest : take (length all - seen) (drop seen all) ≡ came = take_rest all seen ∙ ap (drop seen) whole ∙ drop_at held came seen (sym count) in

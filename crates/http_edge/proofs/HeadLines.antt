@@ -58,7 +58,8 @@ blank_lines (crlf ∷ ends) = blank_lines ends
 blank_lines (lf ∷ ends) = blank_lines ends
 
 -- a line begins, the first one or a later one
-word_first : (place : LinePlace) (t : List ℕ) → ((c : ℕ) → (c == 10) ≡ false → (c == 13) ≡ false → next_line_place place c ≡ InLine) → IsToken t → fold next_line_place place t ≡ InLine
+word_first : (place : LinePlace) (t : List ℕ) → ((c : ℕ) → (c == 10) ≡ false → (c == 13) ≡ false → next_line_place place c ≡ InLine) → IsToken t
+    → fold next_line_place place t ≡ InLine
 word_first place [] step token = absurd (omega (arith, token.0))
 word_first place (c ∷ t) step token =
     let first = token_first c (All-head (λ (x : ℕ). IsTrue (is_token_byte x)) c t token.1) in
@@ -69,7 +70,8 @@ from_blank : (c : ℕ) → (c == 10) ≡ false → (c == 13) ≡ false → next_
 from_blank c first second = ap (λ (k : Bool). cond k BlankLines (cond (c == 13) BlankLines InLine)) first ∙ ap (λ (k : Bool). cond k BlankLines InLine) second
 
 from_start : (c : ℕ) → (c == 10) ≡ false → (c == 13) ≡ false → next_line_place LineStart c ≡ InLine
-from_start c first second = ap (λ (k : Bool). cond k BehindHead (cond (c == 13) StartBehindCr InLine)) first ∙ ap (λ (k : Bool). cond k StartBehindCr InLine) second
+from_start c first second = ap (λ (k : Bool). cond k BehindHead (cond (c == 13) StartBehindCr InLine)) first
+    ∙ ap (λ (k : Bool). cond k StartBehindCr InLine) second
 
 line_ends : (e : LineEnd) → fold next_line_place InLine (print_end e) ≡ LineStart
 line_ends crlf = refl
@@ -88,7 +90,8 @@ field_line f valid =
     let name : fold next_line_place LineStart f.name ≡ InLine = word_first LineStart f.name from_start valid.name in
     let raw : fold next_line_place InLine (58 ∷ f.raw) ≡ InLine = stays_in_line f.raw (all_inside is_value_byte inside_from_value f.raw valid.raw) in
     fold-append next_line_place LineStart (f.name ++ 58 ∷ f.raw) (print_end f.end)
-    ∙ ap (λ (k : LinePlace). fold next_line_place k (print_end f.end)) (fold-append next_line_place LineStart f.name (58 ∷ f.raw) ∙ ap (λ (k : LinePlace). fold next_line_place k (58 ∷ f.raw)) name ∙ raw)
+    ∙ ap (λ (k : LinePlace). fold next_line_place k (print_end f.end))
+    (fold-append next_line_place LineStart f.name (58 ∷ f.raw) ∙ ap (λ (k : LinePlace). fold next_line_place k (58 ∷ f.raw)) name ∙ raw)
     ∙ line_ends f.end
 
 field_lines : (fs : List Field) → All IsField fs → fold next_line_place LineStart (flat_map print_field fs) ≡ LineStart
@@ -108,7 +111,8 @@ version_line : (minor : ℕ) → minor ≤ 1 → fold next_line_place InLine (32
 version_line minor small = let other : (48 + minor == 10) ≡ false = grind (arith, nat_tests) in one_step (48 + minor) other
 
 -- the place behind a part, from the place before it
-along : (place : LinePlace) (a b : List ℕ) (mid end : LinePlace) → fold next_line_place place a ≡ mid → fold next_line_place mid b ≡ end → fold next_line_place place (a ++ b) ≡ end
+along : (place : LinePlace) (a b : List ℕ) (mid end : LinePlace) → fold next_line_place place a ≡ mid → fold next_line_place mid b ≡ end
+    → fold next_line_place place (a ++ b) ≡ end
 along place a b mid end first second = fold-append next_line_place place a b ∙ ap (λ (k : LinePlace). fold next_line_place k b) first ∙ second
 
 head_lines : (h : RequestHead) → IsRequestHead h → fold next_line_place BlankLines (print_request h) ≡ BehindHead

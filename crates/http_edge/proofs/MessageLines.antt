@@ -50,7 +50,8 @@ line_of f valid = record {
 
 lines_of : (fs : List Field) → All IsField fs → All IsFieldLine (map field_of (map name_and_value fs))
 lines_of fs all = All-map IsFieldLine field_of (map name_and_value fs)
-    (All-map (λ (header : Header). IsFieldLine (field_of header)) name_and_value fs (All-weaker IsField (λ (f : Field). IsFieldLine (field_of (name_and_value f))) line_of fs all))
+    (All-map (λ (header : Header). IsFieldLine (field_of header)) name_and_value fs
+    (All-weaker IsField (λ (f : Field). IsFieldLine (field_of (name_and_value f))) line_of fs all))
 
 pub message_lines : (b : List ℕ) (m : Message) (rest : List ℕ) → IsMessage b m rest → HasOneLineParts m
 message_lines b m rest x =

@@ -74,7 +74,8 @@ refused_no_message b _ (too_long u full) m rest x = undecided_begins b x.head (m
 refused_no_message b _ (by_head fault h r y v) m rest x =
     refused_is_no_body fault (length m.body) (one_framing b h x.head r (m.body ++ rest) (Refused fault) (Body (length m.body)) y x.begins v x.framed).0
 
-shorter : (b : List ℕ) (m : Message) (rest : List ℕ) (h : RequestHead) (r : List ℕ) (n : ℕ) → BeginsWith b h r → framing_of (headers_of h) ≡ Body n → length r < n
+shorter : (b : List ℕ) (m : Message) (rest : List ℕ) (h : RequestHead) (r : List ℕ) (n : ℕ) → BeginsWith b h r → framing_of (headers_of h) ≡ Body n
+    → length r < n
     → ¬ (IsMessage b m rest)
 unfolding length_in
 shorter b m rest h r n y v short x =
@@ -140,7 +141,8 @@ refusal_law b more fault x = (refusal_more b more fault x, λ other. one_refusal
 pub outcomes_law : OutcomesDiffer
 outcomes_law = record { refused = refused_no_message; waiting = open_no_message; neither = open_not_refused }
 
-messages_next : (b : List ℕ) (ms : List Message) (rest : List ℕ) (m : Message) (after : List ℕ) → Messages b ms rest → IsMessage rest m after → Messages b (ms ++ m ∷ []) after
+messages_next : (b : List ℕ) (ms : List Message) (rest : List ℕ) (m : Message) (after : List ℕ) → Messages b ms rest → IsMessage rest m after
+    → Messages b (ms ++ m ∷ []) after
 messages_next b [] rest m after x y = (after, subst (λ (t : List ℕ). IsMessage t m after) (sym x) y, refl)
 messages_next b (n ∷ ms) rest m after x y = (x.0, x.1, messages_next x.0 ms rest m after x.2 y)
 

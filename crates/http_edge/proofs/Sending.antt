@@ -30,22 +30,32 @@ pub under_way_more : (text kept piece kept_now : List ℕ) (a m b : Told) → Is
 under_way_more text kept piece kept_now a m b x y = record {
   sent = x.sent ++ y.sent;
   writes = writes_then x.sent y.sent a m b x.writes y.writes;
-  parts = ap (λ (t : List ℕ). t ++ piece) x.parts ∙ append_assoc x.sent kept piece ∙ ap (λ (t : List ℕ). x.sent ++ t) y.parts ∙ sym (append_assoc x.sent y.sent kept_now);
+  parts = ap (λ (t : List ℕ). t ++ piece) x.parts ∙ append_assoc x.sent kept piece ∙ ap (λ (t : List ℕ). x.sent ++ t) y.parts
+      ∙ sym (append_assoc x.sent y.sent kept_now);
 }
 
 -- of what was kept, and what comes behind it, a beginning was written
 pub under_way_fails : (text kept more : List ℕ) (a m b : Told) → IsUnderWay text kept a m → Began (kept ++ more) m b → Began (text ++ more) a b
 under_way_fails text kept more a m b x y = (
   x.sent ++ y.0,
-  (y.1.0, ap (λ (t : List ℕ). t ++ more) x.parts ∙ append_assoc x.sent kept more ∙ ap (λ (t : List ℕ). x.sent ++ t) y.1.1 ∙ sym (append_assoc x.sent y.0 y.1.0)),
+  (
+    y.1.0,
+    ap (λ (t : List ℕ). t ++ more) x.parts ∙ append_assoc x.sent kept more ∙ ap (λ (t : List ℕ). x.sent ++ t) y.1.1
+        ∙ sym (append_assoc x.sent y.0 y.1.0),
+  ),
   writes_then x.sent y.0 a m b x.writes y.2,
 )
 
 -- all that is kept was written in the end, or a beginning of it
-pub under_way_ends : {E : Type 0} (text kept : List ℕ) (a m b : Told) (r : Result (Unit {0}) E) → IsUnderWay text kept a m → HasSent kept m b r → HasSent text a b r
+pub under_way_ends : {E : Type 0} (text kept : List ℕ) (a m b : Told) (r : Result (Unit {0}) E) → IsUnderWay text kept a m → HasSent kept m b r
+    → HasSent text a b r
 under_way_ends text kept a m b (Ok u) x sent = subst (λ (t : List ℕ). Writes t a b) (sym x.parts) (writes_then x.sent kept a m b x.writes sent)
-under_way_ends text kept a m b (Err e) x sent =
-    (x.sent ++ sent.0, (sent.1.0, x.parts ∙ ap (λ (t : List ℕ). x.sent ++ t) sent.1.1 ∙ sym (append_assoc x.sent sent.0 sent.1.0)), writes_then x.sent sent.0 a m b x.writes sent.2)
+under_way_ends text kept a m b (Err e) x sent = (
+  x.sent ++ sent.0,
+  (sent.1.0, x.parts ∙ ap (λ (t : List ℕ). x.sent ++ t) sent.1.1 ∙ sym (append_assoc x.sent sent.0 sent.1.0)),
+  writes_then x.sent sent.0 a
+      m b x.writes sent.2,
+)
 
 -- the pieces before a place, the piece there, and those behind it
 pub pieces_split : (i : ℕ) (ps : List (Bor (List ℕ))) (d : Bor (List ℕ)) → i < length ps

@@ -123,7 +123,8 @@ method_place : (m : List ℕ) → AllPass is_token_byte m → fold next_place Me
 method_place [] all = refl
 method_place (c ∷ m) all =
     let here : is_token_byte c ≡ true = All-head (λ (x : ℕ). IsTrue (is_token_byte x)) c m all in
-    ap (λ (k : Bool). fold next_place (cond k Method (cond (c == 32) Target Elsewhere)) m) here ∙ method_place m (All-tail (λ (x : ℕ). IsTrue (is_token_byte x)) c m all)
+    ap (λ (k : Bool). fold next_place (cond k Method (cond (c == 32) Target Elsewhere)) m) here
+    ∙ method_place m (All-tail (λ (x : ℕ). IsTrue (is_token_byte x)) c m all)
 
 first_place : (c : ℕ) → is_token_byte c ≡ true → next_place BlankLines c ≡ Method
 first_place c token =
@@ -142,7 +143,8 @@ token_place (c ∷ m) token =
 pub in_target_true : (w : List ℕ) → InTarget w → fold next_place BlankLines w ≡ Target
 in_target_true w t =
     let front : fold next_place BlankLines (print_blank t.blank ++ t.method) ≡ Method =
-    fold-append next_place BlankLines (print_blank t.blank) t.method ∙ ap (λ (k : RequestPlace). fold next_place k t.method) (blank_place t.blank) ∙ token_place t.method t.token in
+    fold-append next_place BlankLines (print_blank t.blank) t.method ∙ ap (λ (k : RequestPlace). fold next_place k t.method) (blank_place t.blank)
+    ∙ token_place t.method t.token in
     ap (fold next_place BlankLines) t.whole ∙ fold-append next_place BlankLines (print_blank t.blank ++ t.method) (32 ∷ t.target)
     ∙ ap (λ (k : RequestPlace). fold next_place k (32 ∷ t.target)) front
     ∙ ap (λ (k : Bool). fold next_place (cond k Method Target) t.target) space_ends_token ∙ in_path t.target t.inner

@@ -179,10 +179,12 @@ length_text true n = refl
 length_text false n = one_line (codes "Content-Length") (decimal n)
 
 section_text : (body : Option (List ℕ)) (extra : Extra) (last none : Bool) (n : ℕ) → flat_map print_field (fields_with body extra last none n)
-    ≡ type_line body ++ (codes "Cache-Control: no-store\r\n" ++ (extra_line extra ++ (close_line last ++ cond none [] (codes "Content-Length: " ++ (decimal n ++ codes "\r\n")))))
+    ≡ type_line body ++ (codes "Cache-Control: no-store\r\n"
+    ++ (extra_line extra ++ (close_line last ++ cond none [] (codes "Content-Length: " ++ (decimal n ++ codes "\r\n")))))
 unfolding line fields_with
 section_text body extra last none n = rw (
-  flat_map-append print_field (type_fields body) (line (codes "Cache-Control") (codes " no-store") ∷ (extra_fields extra ++ (close_fields last ++ length_fields none n))),
+  flat_map-append print_field (type_fields body)
+      (line (codes "Cache-Control") (codes " no-store") ∷ (extra_fields extra ++ (close_fields last ++ length_fields none n))),
   flat_map-append print_field (extra_fields extra) (close_fields last ++ length_fields none n),
   flat_map-append print_field (close_fields last) (length_fields none n),
   type_text body,
@@ -203,10 +205,12 @@ head_text r used =
     let e : List ℕ = codes "\r\n" in
     let n : ℕ = length (body_bytes r.body) in
     let section : List ℕ = flat_map print_field (reply_fields r) in
-    let fields : type_line r.body ++ (codes "Cache-Control: no-store\r\n" ++ (extra_line r.extra ++ (close_line r.last ++ (length_line r.status (decimal n) ++ e)))) ≡ section ++ e =
+    let fields : type_line r.body ++ (codes "Cache-Control: no-store\r\n"
+    ++ (extra_line r.extra ++ (close_line r.last ++ (length_line r.status (decimal n) ++ e)))) ≡ section ++ e =
     regroup (type_line r.body) (codes "Cache-Control: no-store\r\n") (extra_line r.extra) (close_line r.last) (length_line r.status (decimal n)) e
     ∙ ap (λ (t : List ℕ). t ++ e) (sym (section_text r.body r.extra r.last (r.status == 204) n)) in
-    let later : List ℕ = type_line r.body ++ (codes "Cache-Control: no-store\r\n" ++ (extra_line r.extra ++ (close_line r.last ++ (length_line r.status (decimal n) ++ e)))) in
+    let later : List ℕ = type_line r.body
+    ++ (codes "Cache-Control: no-store\r\n" ++ (extra_line r.extra ++ (close_line r.last ++ (length_line r.status (decimal n) ++ e)))) in
     ap (λ (t : List ℕ). codes "HTTP/1.1 " ++ t)
     (first_line (code_digits r.status) (phrase_of r.status) e later
     ∙ ap (λ (t : List ℕ). code_digits r.status ++ 32 ∷ (phrase_of r.status ++ (e ++ t))) (fields ∙ sym (append-nil (section ++ e))))
@@ -245,12 +249,14 @@ number_trimmed : (n : ℕ) → n < 2 ^ 63 → trim_ows (32 ∷ decimal n) ≡ de
 number_trimmed n small =
     let digits = number_digits n small in
     trim_ows_space (decimal n) (stays (decimal n) digits)
-    (stays (reverse (decimal n)) (list_all-from_AllPass is_ascii_digit (reverse (decimal n)) (AllPass-reverse is_ascii_digit (decimal n) (passes is_ascii_digit (decimal n) digits))))
+    (stays (reverse (decimal n)) (list_all-from_AllPass is_ascii_digit (reverse (decimal n))
+    (AllPass-reverse is_ascii_digit (decimal n) (passes is_ascii_digit (decimal n) digits))))
 
 number_length : (n : ℕ) → n < 2 ^ 63 → says_length (trim_ows (32 ∷ decimal n) ∷ []) n ≡ true
 number_length n small =
     let numeral = decimal_is_IsNumeral n (omega arith) in
-    rw (number_trimmed n small) (and_from _ _ (and_from _ _ (some (length (decimal n)) numeral.0.0) (number_digits n small)) (same (digits_value 10 (decimal n)) n numeral.1))
+    rw (number_trimmed n small) (and_from _ _ (and_from _ _ (some (length (decimal n)) numeral.0.0) (number_digits n small))
+    (same (digits_value 10 (decimal n)) n numeral.1))
   where
     some : (k : ℕ) → 0 < k → nat_lt 0 k ≡ true
     some k e = grind (arith, nat_tests)
@@ -305,7 +311,8 @@ good_type (Some body) = one_field _ (good_line (codes "Content-Type") (codes " a
 good_extra : (extra : Extra) → HasMethods extra → All IsField (extra_fields extra)
 unfolding is_token_byte extra_fields
 good_extra Nothing fits = All-nil IsField
-good_extra (Allow methods) fits = one_field _ (good_line (codes "Allow") (32 ∷ methods) (omega arith) refl (all_from is_method_byte is_value_byte value_from_method methods fits))
+good_extra (Allow methods) fits = one_field _
+    (good_line (codes "Allow") (32 ∷ methods) (omega arith) refl (all_from is_method_byte is_value_byte value_from_method methods fits))
 good_extra Challenge fits = one_field _ (good_line (codes "WWW-Authenticate") (codes " GNAP") (omega arith) refl refl)
 
 good_close : (last : Bool) → All IsField (close_fields last)
@@ -316,7 +323,9 @@ good_close false = All-nil IsField
 good_length : (none : Bool) (n : ℕ) → n < 2 ^ 63 → All IsField (length_fields none n)
 unfolding is_token_byte length_fields
 good_length true n small = All-nil IsField
-good_length false n small = one_field _ (good_line (codes "Content-Length") (32 ∷ decimal n) (omega arith) refl (all_from is_ascii_digit is_value_byte value_from_digit (decimal n) (number_digits n small)))
+good_length false n small = one_field _
+    (good_line (codes "Content-Length") (32 ∷ decimal n) (omega arith) refl
+    (all_from is_ascii_digit is_value_byte value_from_digit (decimal n) (number_digits n small)))
 
 good_fields : (ty : Option (List ℕ)) (ex : Extra) (last none : Bool) (n : ℕ) → HasMethods ex → n < 2 ^ 63 → All IsField (fields_with ty ex last none n)
 unfolding is_token_byte fields_with
@@ -339,7 +348,8 @@ good_head r may small = record {
 at_most : (n : ℕ) → n ≤ 16384 → nat_le n 16384 ≡ true
 at_most n e = grind (arith, nat_tests)
 
-no_body : (status : ℕ) (b : Bool) (body : Option (List ℕ)) → (status == 204) ≡ b → (status ≡ 204 → body ≡ None) → (not b || length (body_bytes body) == 0) ≡ true
+no_body : (status : ℕ) (b : Bool) (body : Option (List ℕ)) → (status == 204) ≡ b → (status ≡ 204 → body ≡ None)
+    → (not b || length (body_bytes body) == 0) ≡ true
 no_body status false body e none = refl
 no_body status true body e none = rw (none (eqb-eq status 204 e)) refl
 
@@ -354,6 +364,7 @@ written_is_read_law r may small short =
       head = head_of r;
       reads = (good_head r may small, ap (λ (t : List ℕ). t ++ body_bytes r.body) text);
       fits = and_from _ _ (and_from _ _ (and_from _ _ (at_most _ (subst (λ (t : List ℕ). length t ≤ 16384) text short)) fields.1) fields.0)
-          (subst (λ (s : ℕ). (not (s == 204) || n == 0) ≡ true) (sym (same_status r.status used)) (no_body r.status (r.status == 204) r.body refl may.no_content));
+          (subst (λ (s : ℕ). (not (s == 204) || n == 0) ≡ true) (sym (same_status r.status used))
+          (no_body r.status (r.status == 204) r.body refl may.no_content));
       status_is = sym (same_status r.status used);
     }

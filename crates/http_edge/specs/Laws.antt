@@ -29,7 +29,8 @@ pub record OutcomesDiffer : Type 0 where
 
 -- the messages of a stream: the next one joins them, they stay whatever follows, and so many are the same ones always
 pub record MessagesStay : Type 0 where
-  pub next : (b : List ℕ) (ms : List Message) (rest : List ℕ) (m : Message) (after : List ℕ) → Messages b ms rest → IsMessage rest m after → Messages b (ms ++ m ∷ []) after
+  pub next : (b : List ℕ) (ms : List Message) (rest : List ℕ) (m : Message) (after : List ℕ) → Messages b ms rest → IsMessage rest m after
+      → Messages b (ms ++ m ∷ []) after
   pub stay : (b : List ℕ) (ms : List Message) (rest more : List ℕ) → Messages b ms rest → Messages (b ++ more) ms (rest ++ more)
   pub same : (b more : List ℕ) (ms ns : List Message) (r q : List ℕ) → Messages b ms r → Messages (b ++ more) ns q → length ms ≡ length ns
       → (ms ≡ ns) × (r ++ more ≡ q)

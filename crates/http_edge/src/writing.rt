@@ -175,8 +175,10 @@ fn write_parts<'a, S: Sink>(
     size: (&'a [u8], &'a [u8], &'a [u8]),
     body: &'a [u8],
 ) -> Result<(), Failed>
-    ensures sent { HasSent ((codes "HTTP/1.1 " ++ (status.entry.0.now ++ (codes " " ++ (status.entry.1.now ++ codes "\r\n")))) ++ (kind.now ++ (codes "Cache-Control: no-store\r\n" ++ ((extra.entry.0.now ++ (extra.entry.1.now ++ extra.entry.2.now))
-        ++ (close.now ++ ((size.entry.0.now ++ (size.entry.1.now ++ size.entry.2.now)) ++ codes "\r\n"))))) ++ body.now) (S.told sink.old) (S.told sink.new) result }
+    ensures sent { HasSent ((codes "HTTP/1.1 " ++ (status.entry.0.now ++ (codes " " ++ (status.entry.1.now ++ codes "\r\n"))))
+        ++ (kind.now ++ (codes "Cache-Control: no-store\r\n" ++ ((extra.entry.0.now ++ (extra.entry.1.now ++ extra.entry.2.now))
+        ++ (close.now ++ ((size.entry.0.now ++ (size.entry.1.now ++ size.entry.2.now)) ++ codes "\r\n"))))) ++ body.now) (S.told sink.old) (S.told sink.new)
+        result }
     ensures cause { HasCause (S.faults sink.old) (S.faults sink.new) result }
 {
     let version: &'a [u8] = b"HTTP/1.1 ";

@@ -9,7 +9,8 @@ use Rattle.serving.specs.Reading.{FindsMessage, ReadsMessage}
 use Rattle.serving.specs.declared.ends.NoMessage.{NoMessage}
 use Rattle.http_serving.specs.EdgeWire.{edge_wire, no_message}
 
-pub finds_fault : (bytes rest : List ℕ) (told : Told) (fault : EdgeFault) → HasFault bytes told fault → FindsMessage edge_wire bytes rest told (Err (no_message fault))
+pub finds_fault : (bytes rest : List ℕ) (told : Told) (fault : EdgeFault) → HasFault bytes told fault
+    → FindsMessage edge_wire bytes rest told (Err (no_message fault))
 finds_fault bytes rest told faults.BadHead is = is
 finds_fault bytes rest told faults.TooLarge is = is
 finds_fault bytes rest told faults.Coded is = is

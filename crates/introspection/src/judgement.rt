@@ -18,7 +18,8 @@ pub enum Judged {
     NotServed,
 }
 
-/// Judges the row with the value that an introspection presents, which has these rights, where `approved` says that its grant is approved and `now` is in seconds since 1970. Takes no memory.
+/// Judges the row with the value that an introspection presents, which has these rights, where `approved` says that its grant is approved and `now` is in
+/// seconds since 1970. Takes no memory.
 pub fn judge(
     row: Option<&TokenRow>,
     rights: &Rights,

@@ -10,7 +10,8 @@ use Rattle.json_objects.specs.Bodies.{checked_body, body_of}
 pub body_is : (text : List ℕ) (d : Data) → IsUtf8 text × (read text ≡ Some d) → body_of text ≡ checked_body (Some d)
 body_is text d h = rw (is_utf8-from_IsUtf8 text h.0) (ap checked_body h.1)
 
-none_at : (text : List ℕ) (b : Bool) → is_utf8 text ≡ b → (IsUtf8 text → read text ≡ None) → cond b (checked_body (read text)) (Err faults.NotAnObject) ≡ Err faults.NotAnObject
+none_at : (text : List ℕ) (b : Bool) → is_utf8 text ≡ b → (IsUtf8 text → read text ≡ None)
+    → cond b (checked_body (read text)) (Err faults.NotAnObject) ≡ Err faults.NotAnObject
 none_at text true e h = ap checked_body (h (IsUtf8-from_is_utf8 text e))
 none_at text false e h = refl
 

@@ -8,7 +8,8 @@ use Rattle.serde_json.specs.Find.{get, get_member}
 use Rattle.serde_json.specs.View.{view}
 use Rattle.serde_json.specs.declared.value.Value.{Value}
 
-picked : (n : ℕ) (o : Ordering) (x : Option Data) (e : Data) → IfSome x (λ d. depth d ≤ n) → depth e ≤ n → IfSome (match_ordering o x (Some e) x) (λ d. depth d ≤ n)
+picked : (n : ℕ) (o : Ordering) (x : Option Data) (e : Data) → IfSome x (λ d. depth d ≤ n) → depth e ≤ n
+    → IfSome (match_ordering o x (Some e) x) (λ d. depth d ≤ n)
 picked n Less x e h p = h
 picked n Equal x e h p = p
 picked n Greater x e h p = h

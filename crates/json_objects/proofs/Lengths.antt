@@ -28,7 +28,9 @@ capped-add_right a b = min-add_right a b (2 ^ 64 - 1)
 -- sizes that are told add up as those that they tell
 pub capped-sum : (xs : List ℕ) → capped (sum (map capped xs)) ≡ capped (sum xs)
 capped-sum [] = refl
-capped-sum (x ∷ xs) = ap capped (sum_by-cons (λ n. n) (capped x) (map capped xs)) ∙ capped-add x (sum (map capped xs)) ∙ sym (capped-add_right x (sum (map capped xs))) ∙ ap (λ n. capped (x + n)) (capped-sum xs) ∙ capped-add_right x (sum xs) ∙ ap capped (sym (sum_by-cons (λ n. n) x xs))
+capped-sum (x ∷ xs) = ap capped (sum_by-cons (λ n. n) (capped x) (map capped xs)) ∙ capped-add x (sum (map capped xs))
+    ∙ sym (capped-add_right x (sum (map capped xs))) ∙ ap (λ n. capped (x + n)) (capped-sum xs) ∙ capped-add_right x (sum xs)
+    ∙ ap capped (sym (sum_by-cons (λ n. n) x xs))
 
 enclosed_size-pos : (n : ℕ) → 0 < n → enclosed_size n ≡ n + 1
 enclosed_size-pos n pos = grind (arith, nat_tests)
@@ -89,7 +91,8 @@ length-object (member k d ms) =
 
 put_size_at : (o : Ordering) (k l : List ℕ) (d e : Data) (ms : Members) → match_ordering o (get_member k ms) (Some e) (get_member k ms) ≡ None
     → (get_member k ms ≡ None → members_size (put k d ms) ≡ member_size k d + members_size ms)
-    → members_size (match_ordering o (member k d (member l e ms)) (member l d ms) (member l e (put k d ms))) ≡ member_size k d + (member_size l e + members_size ms)
+    → members_size (match_ordering o (member k d (member l e ms)) (member l d ms) (member l e (put k d ms))) ≡ member_size k d
+    + (member_size l e + members_size ms)
 put_size_at Less k l d e ms none rest = refl
 put_size_at Equal k l d e ms none rest = cc
 put_size_at Greater k l d e ms none rest = let r = rest none in omega (arith, r)
@@ -103,7 +106,8 @@ abbrev pub AreNew : Members → List (List ℕ × Option Data) → Type 0
 AreNew ms [] = Unit {0}
 AreNew ms (f ∷ fs) = (get_member f.0 (members_onto ms fs) ≡ None) × AreNew ms fs
 
-pub members_size-members_onto : (ms : Members) (fs : List (List ℕ × Option Data)) → AreNew ms fs → members_size (members_onto ms fs) ≡ fields_size fs + members_size ms
+pub members_size-members_onto : (ms : Members) (fs : List (List ℕ × Option Data)) → AreNew ms fs
+    → members_size (members_onto ms fs) ≡ fields_size fs + members_size ms
 members_size-members_onto ms [] new = omega arith
 members_size-members_onto ms ((k, None) ∷ fs) new = let r = members_size-members_onto ms fs new.1 in omega (arith, r)
 members_size-members_onto ms ((k, Some d) ∷ fs) new =

@@ -8,7 +8,8 @@ use Rattle.serde_json.specs.Data.{Data, string, Members, no_members, member, put
 use Rattle.serde_json.specs.Written.{has_float, items_have_float, members_have_float}
 use Rattle.json_objects.specs.Objects.{members_onto, items, texts_data}
 
-placed : (o : Ordering) (a b c : Members) → members_have_float a ≡ false → members_have_float b ≡ false → members_have_float c ≡ false → members_have_float (match_ordering o a b c) ≡ false
+placed : (o : Ordering) (a b c : Members) → members_have_float a ≡ false → members_have_float b ≡ false → members_have_float c ≡ false
+    → members_have_float (match_ordering o a b c) ≡ false
 placed Less a b c p q r = p
 placed Equal a b c p q r = q
 placed Greater a b c p q r = r
@@ -23,7 +24,8 @@ abbrev pub IsWhole : Option Data → Type 0
 IsWhole None = Unit {0}
 IsWhole (Some d) = has_float d ≡ false
 
-pub onto_whole : (ms : Members) (fs : List (List ℕ × Option Data)) → members_have_float ms ≡ false → AllByRecursion (λ f. IsWhole f.1) fs → members_have_float (members_onto ms fs) ≡ false
+pub onto_whole : (ms : Members) (fs : List (List ℕ × Option Data)) → members_have_float ms ≡ false → AllByRecursion (λ f. IsWhole f.1) fs
+    → members_have_float (members_onto ms fs) ≡ false
 onto_whole ms [] whole h = whole
 onto_whole ms ((k, None) ∷ fs) whole h = onto_whole ms fs whole h.1
 onto_whole ms ((k, Some d) ∷ fs) whole h = put_whole k d _ h.0 (onto_whole ms fs whole h.1)

@@ -13,12 +13,14 @@ use Rattle.kept_rights.specs.Reading.{length_from, length_at, text_at, read_as, 
 
 -- ---- lengths
 
-length_more : (k before byte n : ℕ) (rest : List ℕ) → byte < 255 → n ≡ before + (k * 255 + byte) → n ≤ length rest → length_from before (replicate k 255 ++ byte ∷ rest) ≡ (n, rest)
+length_more : (k before byte n : ℕ) (rest : List ℕ) → byte < 255 → n ≡ before + (k * 255 + byte) → n ≤ length rest
+    → length_from before (replicate k 255 ++ byte ∷ rest) ≡ (n, rest)
 length_more zero before byte n rest lt e le =
     let same : before + byte ≡ n = omega arith in
     subst (λ (m : ℕ). length_from before (byte ∷ rest) ≡ (m, rest)) same (last_read before byte rest lt (omega arith))
 length_more (suc k) before byte n rest lt e le =
-    full_read before 255 (replicate k 255 ++ byte ∷ rest) (omega arith) (omega (arith, length-append (replicate k 255) (byte ∷ rest))) ∙ length_more k (before + 255) byte n rest lt (omega arith) le
+    full_read before 255 (replicate k 255 ++ byte ∷ rest) (omega arith) (omega (arith, length-append (replicate k 255) (byte ∷ rest)))
+    ∙ length_more k (before + 255) byte n rest lt (omega arith) le
 
 pub length_again : (n : ℕ) (rest : List ℕ) → n ≤ length rest → length_at (written_length n ++ rest) ≡ (n, rest)
 unfolding written_length
@@ -39,30 +41,42 @@ pub text_again : Again written_text text_at
 unfolding text_at
 text_again text rest =
     let room : length text ≤ length (text ++ rest) = omega (arith, length-append text rest) in
-    rw (append_assoc (written_length (length text)) text rest, length_again (length text) (text ++ rest) room, take_at text rest (length text) refl, drop_at text rest (length text) refl) refl
+    rw (
+      append_assoc (written_length (length text)) text rest,
+      length_again (length text) (text ++ rest) room,
+      take_at text rest (length text) refl,
+      drop_at
+          text rest (length text) refl,
+    ) refl
 
 pub option_again : {X : Type 0} (written : X → List ℕ) (read : List ℕ → X × List ℕ) → Again written read → Again (written_option written) (option_at read)
 unfolding option_at
 option_again written read again None rest = refl
 option_again written read again (Some x) rest = ap (read_as Some) (again x rest)
 
-items_again : {X : Type 0} (written : X → List ℕ) (read : List ℕ → X × List ℕ) → Again written read → (xs : List X) (rest : List ℕ) → items_at read (length xs) (flat_map written xs ++ rest) ≡ (xs, rest)
+items_again : {X : Type 0} (written : X → List ℕ) (read : List ℕ → X × List ℕ) → Again written read → (xs : List X) (rest : List ℕ)
+    → items_at read (length xs) (flat_map written xs ++ rest) ≡ (xs, rest)
 unfolding items_at
 items_again written read again [] rest = refl
 items_again written read again (x ∷ xs) rest =
-    let regrouped : flat_map written (x ∷ xs) ++ rest ≡ written x ++ (flat_map written xs ++ rest) = ap (λ (ys : List ℕ). ys ++ rest) (flat_map-cons written x xs) ∙ append_assoc (written x) (flat_map written xs) rest in
+    let regrouped : flat_map written (x ∷ xs) ++ rest ≡ written x
+    ++ (flat_map written xs ++ rest) = ap (λ (ys : List ℕ). ys ++ rest) (flat_map-cons written x xs)
+    ∙ append_assoc (written x) (flat_map written xs) rest in
     ap (items_at read (suc (length xs))) regrouped ∙ rw (again x (flat_map written xs ++ rest), items_again written read again xs rest) refl
 
 -- items of a byte or more each
 room_for : {X : Type 0} (written : X → List ℕ) → ((x : X) → 0 < length (written x)) → (xs : List X) → length xs ≤ length (flat_map written xs)
 room_for written some [] = omega arith
-room_for written some (x ∷ xs) = rw (flat_map-cons written x xs) (omega (arith, some x, room_for written some xs, length-append (written x) (flat_map written xs)))
+room_for written some (x ∷ xs) = rw (flat_map-cons written x xs)
+    (omega (arith, some x, room_for written some xs, length-append (written x) (flat_map written xs)))
 
-pub list_again : {X : Type 0} (written : X → List ℕ) (read : List ℕ → X × List ℕ) → ((x : X) → 0 < length (written x)) → Again written read → Again (written_list written) (list_at read)
+pub list_again : {X : Type 0} (written : X → List ℕ) (read : List ℕ → X × List ℕ) → ((x : X) → 0 < length (written x)) → Again written read
+    → Again (written_list written) (list_at read)
 unfolding list_at
 list_again written read some again xs rest =
     let room : length xs ≤ length (flat_map written xs ++ rest) = omega (arith, room_for written some xs, length-append (flat_map written xs) rest) in
-    rw (append_assoc (written_length (length xs)) (flat_map written xs) rest, length_again (length xs) (flat_map written xs ++ rest) room) (items_again written read again xs rest)
+    rw (append_assoc (written_length (length xs)) (flat_map written xs) rest, length_again (length xs) (flat_map written xs ++ rest) room)
+    (items_again written read again xs rest)
 
 text_is_some : (text : Text) → 0 < length (written_text text)
 text_is_some text = omega (arith, length_is_some (length text), length-append (written_length (length text)) text)
@@ -93,7 +107,16 @@ object_again object rest =
     let after2 : List ℕ = written_option written_texts object.locations ++ after3 in
     let after1 : List ℕ = written_option written_texts object.actions ++ after2 in
     let regrouped : written_object object ++ rest ≡ written_text object.kind ++ after1 = simp append_assoc in
-    ap object_at regrouped ∙ rw (text_again object.kind after1, dimension object.actions after2, dimension object.locations after3, dimension object.datatypes after4, dimension object.privileges after5, label object.identifier last, text_again object.further rest) refl
+    ap object_at regrouped ∙ rw (
+      text_again object.kind after1,
+      dimension object.actions after2,
+      dimension object.locations after3,
+      dimension object.datatypes
+          after4,
+      dimension object.privileges after5,
+      label object.identifier last,
+      text_again object.further rest,
+    ) refl
 
 right_again : Again written_right right_at
 unfolding right_at
@@ -117,17 +140,24 @@ ask_again ask rest =
 
 ask_is_some : (ask : Ask) → 0 < length (written_ask ask)
 unfolding written_ask
-ask_is_some ask = omega (arith, length-append (written_option written_text ask.label ++ written_rights ask.rights) (written_bool ask.bearer), bool_is_some ask.bearer)
+ask_is_some ask = omega (
+  arith,
+  length-append (written_option written_text ask.label ++ written_rights ask.rights) (written_bool ask.bearer),
+  bool_is_some
+      ask.bearer,
+)
 
 -- ---- what is kept
 
 pub rights_again : (rights : List Right) → rights_in (written_rights rights) ≡ rights
 unfolding rights_in
-rights_again rights = ap (λ (bytes : List ℕ). (list_at right_at bytes).0) (sym (append-nil (written_rights rights))) ∙ ap (λ (read : List Right × List ℕ). read.0) (rights_read rights [])
+rights_again rights = ap (λ (bytes : List ℕ). (list_at right_at bytes).0) (sym (append-nil (written_rights rights)))
+    ∙ ap (λ (read : List Right × List ℕ). read.0) (rights_read rights [])
 
 pub asks_again : (asks : List Ask) → asks_in (written_asks asks) ≡ asks
 unfolding asks_in
-asks_again asks = ap (λ (bytes : List ℕ). (list_at ask_at bytes).0) (sym (append-nil (written_asks asks))) ∙ ap (λ (read : List Ask × List ℕ). read.0) (list_again written_ask ask_at ask_is_some ask_again asks [])
+asks_again asks = ap (λ (bytes : List ℕ). (list_at ask_at bytes).0) (sym (append-nil (written_asks asks)))
+    ∙ ap (λ (read : List Ask × List ℕ). read.0) (list_again written_ask ask_at ask_is_some ask_again asks [])
 
 pub no_rights : rights_in [] ≡ []
 unfolding rights_in list_at items_at length_from

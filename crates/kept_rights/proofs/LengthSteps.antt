@@ -22,17 +22,23 @@ nothing_left bytes = take_rest bytes (length bytes) ∙ drop_all (length bytes) 
 
 pub passed : (n i : ℕ) (bytes : List ℕ) → i < length bytes → length (drop (i + 1) bytes) < n + get_or bytes i 0 → length_from n (drop i bytes) ≡ length_at bytes
     → (0, take (length bytes - length bytes) (drop (length bytes) bytes)) ≡ length_at bytes
-passed n i bytes lt past so_far = ap (λ (left : List ℕ). (0, left)) (nothing_left bytes) ∙ sym (passes n (get_or bytes i 0) (drop (i + 1) bytes) past) ∙ sym (at_drop_more (length_from n) bytes i 0 lt) ∙ so_far
+passed n i bytes lt past so_far = ap (λ (left : List ℕ). (0, left)) (nothing_left bytes) ∙ sym (passes n (get_or bytes i 0) (drop (i + 1) bytes) past)
+    ∙ sym (at_drop_more (length_from n) bytes i 0 lt) ∙ so_far
 
-pub ended : (n i : ℕ) (bytes : List ℕ) → length bytes ≤ i → length_from n (drop i bytes) ≡ length_at bytes → (0, take (length bytes - length bytes) (drop (length bytes) bytes)) ≡ length_at bytes
+pub ended : (n i : ℕ) (bytes : List ℕ) → length bytes ≤ i → length_from n (drop i bytes) ≡ length_at bytes
+    → (0, take (length bytes - length bytes) (drop (length bytes) bytes)) ≡ length_at bytes
 unfolding length_from
 ended n i bytes le so_far = ap (λ (left : List ℕ). (0, left)) (nothing_left bytes) ∙ sym (at_drop_all (length_from n) bytes i le) ∙ so_far
 
-pub found : (n i : ℕ) (bytes : List ℕ) → i < length bytes → get_or bytes i 0 < 255 → n + get_or bytes i 0 ≤ length (drop (i + 1) bytes) → length_from n (drop i bytes) ≡ length_at bytes
+pub found : (n i : ℕ) (bytes : List ℕ) → i < length bytes → get_or bytes i 0 < 255 → n + get_or bytes i 0 ≤ length (drop (i + 1) bytes)
+    → length_from n (drop i bytes) ≡ length_at bytes
     → (n + get_or bytes i 0, take (length bytes - (i + 1)) (drop (i + 1) bytes)) ≡ length_at bytes
 found n i bytes lt small room so_far =
-    ap (λ (left : List ℕ). (n + get_or bytes i 0, left)) (take_rest bytes (i + 1)) ∙ sym (last_read n (get_or bytes i 0) (drop (i + 1) bytes) small room) ∙ sym (at_drop_more (length_from n) bytes i 0 lt) ∙ so_far
+    ap (λ (left : List ℕ). (n + get_or bytes i 0, left)) (take_rest bytes (i + 1)) ∙ sym (last_read n (get_or bytes i 0) (drop (i + 1) bytes) small room)
+    ∙ sym (at_drop_more (length_from n) bytes i 0 lt) ∙ so_far
 
-pub goes_on : (n i : ℕ) (bytes : List ℕ) → i < length bytes → 255 ≤ get_or bytes i 0 → n + get_or bytes i 0 ≤ length (drop (i + 1) bytes) → length_from n (drop i bytes) ≡ length_at bytes
+pub goes_on : (n i : ℕ) (bytes : List ℕ) → i < length bytes → 255 ≤ get_or bytes i 0 → n + get_or bytes i 0 ≤ length (drop (i + 1) bytes)
+    → length_from n (drop i bytes) ≡ length_at bytes
     → length_from (n + get_or bytes i 0) (drop (i + 1) bytes) ≡ length_at bytes
-goes_on n i bytes lt big room so_far = sym (full_read n (get_or bytes i 0) (drop (i + 1) bytes) big room) ∙ sym (at_drop_more (length_from n) bytes i 0 lt) ∙ so_far
+goes_on n i bytes lt big room so_far = sym (full_read n (get_or bytes i 0) (drop (i + 1) bytes) big room) ∙ sym (at_drop_more (length_from n) bytes i 0 lt)
+    ∙ so_far

@@ -1,4 +1,5 @@
--- What is read from the front of bytes, and the bytes after it. Each run of bytes has a reading; where one ends too early, what is left out is read as 0 or as no bytes.
+-- What is read from the front of bytes, and the bytes after it. Each run of bytes has a reading; where one ends too early, what is left out is read as 0 or as
+-- no bytes.
 use Rattle.std.specs.Prelude.{ℕ, zero, suc, ◌+◌, Bool, List, [], ◌∷◌, length, take, drop, nat_lt, ◌==◌, not, Option, Some, None, if◌then◌else◌}
 use Rattle.gnap_model.specs.Common.{Text}
 use Rattle.gnap_model.specs.declared.rights.Right.{Right}
@@ -29,6 +30,10 @@ read_as f read = (f read.0, read.1)
 unfoldable pub option_at : {X : Type 0} → (List ℕ → X × List ℕ) → List ℕ → Option X × List ℕ
 option_at read bytes = let flag = byte_at bytes in if flag.0 == 0 then (None, flag.1) else read_as Some (read flag.1)
 
+-- two, one after the other
+abbrev pub two_at : {X Y : Type 0} → (List ℕ → X × List ℕ) → (List ℕ → Y × List ℕ) → List ℕ → (X × Y) × List ℕ
+two_at one other bytes = let first = one bytes in let second = other first.1 in ((first.0, second.0), second.1)
+
 -- this many items
 unfoldable pub items_at : {X : Type 0} → (List ℕ → X × List ℕ) → ℕ → List ℕ → List X × List ℕ
 items_at read zero bytes = ([], bytes)
@@ -51,8 +56,18 @@ object_at bytes =
     let datatypes = option_at texts_at locations.1 in
     let privileges = option_at texts_at datatypes.1 in
     let identifier = option_at text_at privileges.1 in
-    let further = text_at identifier.1 in
-    (record { kind = kind.0; actions = actions.0; locations = locations.0; datatypes = datatypes.0; privileges = privileges.0; identifier = identifier.0; further = further.0 }, further.1)
+    let further = text_at identifier.1 in (
+      record {
+        kind = kind.0;
+        actions = actions.0;
+        locations = locations.0;
+        datatypes = datatypes.0;
+        privileges = privileges.0;
+        identifier = identifier.0;
+        further = further.0;
+      },
+      further.1,
+    )
 
 unfoldable pub right_at : List ℕ → Right × List ℕ
 right_at bytes = let flag = byte_at bytes in if flag.0 == 0 then read_as Reference (text_at flag.1) else read_as Object (object_at flag.1)

@@ -1,6 +1,6 @@
 //! What has a written form: texts, options and lists of what has one.
 ghost use Rattle.std.specs.Prelude.{◌≡◌, ℕ, List, ◌++◌, IfOk, OnOk};
-ghost use Rattle.kept_rights.specs.Reading.{items_at};
+ghost use Rattle.kept_rights.specs.Reading.{two_at, items_at};
 
 use crate::lengths::{byte_of, length_of, put_length};
 use bytes_and_lists::bytes::Bytes;
@@ -96,6 +96,15 @@ impl<T: Form> Form for Seq<T> {
         let (n, rest) = length_of(bytes);
         items_of(alloc, n, rest)
     }
+}
+
+// Two, one after the other.
+pub(crate) fn two_of<A: Form, B: Form>(alloc: Global, bytes: &[u8]) -> Result<((A, B), &[u8]), Mem>
+    ensures { IfOk result (λ x. (x.0, x.1.now) ≡ two_at A.read_at B.read_at bytes.now) }
+{
+    let (one, rest) = A::read(alloc, bytes)?;
+    let (other, rest) = B::read(alloc, rest)?;
+    Ok(((one, other), rest))
 }
 
 // This many items.

@@ -1,5 +1,5 @@
 //! The written forms of rights and asks, member by member.
-use crate::form::Form;
+use crate::form::{Form, two_of};
 use crate::lengths::byte_of;
 use bytes_and_lists::bytes::Bytes;
 use bytes_and_lists::memory::Mem;
@@ -51,12 +51,9 @@ impl Form for RightObject {
     #[tactic(auto, unfolding(crate::specs::Reading::object_at))]
     fn read(alloc: Global, bytes: &[u8]) -> Result<(RightObject, &[u8]), Mem> {
         let (kind, bytes) = Bytes::read(alloc, bytes)?;
-        let (actions, bytes) = Option::<Texts>::read(alloc, bytes)?;
-        let (locations, bytes) = Option::<Texts>::read(alloc, bytes)?;
-        let (datatypes, bytes) = Option::<Texts>::read(alloc, bytes)?;
-        let (privileges, bytes) = Option::<Texts>::read(alloc, bytes)?;
-        let (identifier, bytes) = Option::<Bytes>::read(alloc, bytes)?;
-        let (further, bytes) = Bytes::read(alloc, bytes)?;
+        let ((actions, locations), bytes) = two_of(alloc, bytes)?;
+        let ((datatypes, privileges), bytes) = two_of(alloc, bytes)?;
+        let ((identifier, further), bytes) = two_of(alloc, bytes)?;
         let object = RightObject {
             kind,
             actions,
@@ -121,8 +118,7 @@ impl Form for Ask {
     #[tactic(auto, unfolding(crate::specs::Reading::ask_at))]
     fn read(alloc: Global, bytes: &[u8]) -> Result<(Ask, &[u8]), Mem> {
         let (label, bytes) = Option::<Bytes>::read(alloc, bytes)?;
-        let (rights, bytes) = Rights::read(alloc, bytes)?;
-        let (bearer, bytes) = bool::read(alloc, bytes)?;
+        let ((rights, bearer), bytes) = two_of(alloc, bytes)?;
         let ask = Ask {
             label,
             rights,

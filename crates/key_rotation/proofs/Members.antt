@@ -11,7 +11,8 @@ use Rattle.message_signature.specs.Verified.{signature_fields}
 use Rattle.message_signature.proofs.CheckSteps.{need_ok}
 use Rattle.key_rotation.specs.RotationBase.{members_of, signature_members}
 
-members_is : (m : Message) (name text : List ℕ) (d : List (List ℕ × Member)) → field_value name m.fields ≡ Some text → dictionary_of text ≡ Some d → members_of m name ≡ d
+members_is : (m : Message) (name text : List ℕ) (d : List (List ℕ × Member)) → field_value name m.fields ≡ Some text → dictionary_of text ≡ Some d
+    → members_of m name ≡ d
 members_is m name text d v r = rw (v, r) refl
 
 pub members_are : (m : Message) (fields : SignatureFields) → signature_fields m ≡ Ok fields → signature_members m ≡ fields
@@ -22,8 +23,10 @@ members_are m fields e =
     let signatures = need_ok NotAField (dictionary_of signature.value) _ fields inputs.rest in
     let found : SignatureFields = record { inputs = inputs.value; signatures = signatures.value } in
     let same : found ≡ fields = cc in
-    ap (λ (i : List (List ℕ × Member)). the_fields i (members_of m (codes "signature"))) (members_is m (codes "signature-input") input.value inputs.value input.is inputs.is)
-    ∙ ap (λ (s : List (List ℕ × Member)). the_fields inputs.value s) (members_is m (codes "signature") signature.value signatures.value signature.is signatures.is)
+    ap (λ (i : List (List ℕ × Member)). the_fields i (members_of m (codes "signature")))
+    (members_is m (codes "signature-input") input.value inputs.value input.is inputs.is)
+    ∙ ap (λ (s : List (List ℕ × Member)). the_fields inputs.value s)
+    (members_is m (codes "signature") signature.value signatures.value signature.is signatures.is)
     ∙ same
   where
     the_fields : List (List ℕ × Member) → List (List ℕ × Member) → SignatureFields

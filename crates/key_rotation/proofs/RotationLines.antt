@@ -38,12 +38,15 @@ module _ (m : Message) (base : List ℕ) (fields : SignatureFields) (items : Lis
   pub lines_more : (out : List ℕ) → behind text (rotation_line m base fields item (drop (i + 1) items)) ≡ Some out
       → behind out (rotation_lines m base fields (drop (i + 1) items)) ≡ rotation_lines m base fields items
   lines_more out h =
-      sym (ap (behind text) step ∙ joined text (rotation_line m base fields item (drop (i + 1) items)) (rotation_lines m base fields (drop (i + 1) items)) out h) ∙ so_far
+      sym (ap (behind text) step ∙ joined text (rotation_line m base fields item (drop (i + 1) items)) (rotation_lines m base fields (drop (i + 1) items)) out
+      h) ∙ so_far
 
-  pub lines_failed : (e : BaseFault) → FailsBase e (behind text (rotation_line m base fields item (drop (i + 1) items))) → FailsBase e (rotation_lines m base fields items)
+  pub lines_failed : (e : BaseFault) → FailsBase e (behind text (rotation_line m base fields item (drop (i + 1) items)))
+      → FailsBase e (rotation_lines m base fields items)
   lines_failed OutOfMemory h = tt
   lines_failed Unsupported h =
-      let no : rotation_lines m base fields (drop i items) ≡ None = rw (step, none_behind text (rotation_line m base fields item (drop (i + 1) items)) h) refl in
+      let no : rotation_lines m base fields (drop i items)
+      ≡ None = rw (step, none_behind text (rotation_line m base fields item (drop (i + 1) items)) h) refl in
       sym so_far ∙ ap (behind text) no
 
 pub lines_start : (lines : Option (List ℕ)) → behind [] lines ≡ lines
@@ -55,7 +58,8 @@ unfolding rotation_lines
 lines_end m base fields text = ap (λ (t : List ℕ). Some t) (append-nil text)
 
 -- a line behind the text: the item, what stands between, the value and the end
-pub valued_line : (text name between end : List ℕ) (value : Option (List ℕ)) (named parted valued : List ℕ) → Some (text ++ name) ≡ Some named → Some (named ++ between) ≡ Some parted
+pub valued_line : (text name between end : List ℕ) (value : Option (List ℕ)) (named parted valued : List ℕ) → Some (text ++ name) ≡ Some named
+    → Some (named ++ between) ≡ Some parted
     → behind parted value ≡ Some valued → behind text (option_map (λ v. name ++ (between ++ (v ++ end))) value) ≡ Some (valued ++ end)
 valued_line text name between end None named parted valued p q h = absurd cc
 valued_line text name between end (Some v) named parted valued p q h =

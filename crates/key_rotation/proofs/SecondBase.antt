@@ -40,7 +40,8 @@ list_of body token params = record { items = items_of body token; params = param
 -- where the digest of a body is there, a token that is covered, and the first signature
 base_there : (m : Message) (base : List ℕ) (fields : SignatureFields) (params : List (List ℕ × Bare)) (body token : Bool)
     → (body ≡ true → has_field (codes "content-digest") m ≡ true) → (token ≡ true → has_field (codes "authorization") m ≡ true)
-    → is_some (value_at fields.signatures label) ≡ true → is_some (value_at fields.inputs label) ≡ true → IsSome (base_with m base fields (list_of body token params))
+    → is_some (value_at fields.signatures label) ≡ true → is_some (value_at fields.inputs label) ≡ true
+    → IsSome (base_with m base fields (list_of body token params))
 unfolding base_with rotation_lines component
 base_there m base fields params false false d t s i = rw ((there_is _ s).is, (there_is _ i).is) refl
 base_there m base fields params true false d t s i = rw ((there_is _ (d refl)).is, (there_is _ s).is, (there_is _ i).is) refl
@@ -60,7 +61,8 @@ signed_parts m h =
     let both = and_parts (are_first_alone (signature_fields m)) (not (has_body m) || has_field (codes "content-digest") m) h in
     by (signature_fields m) refl both.0 both.1
   where
-    by : (r : Result SignatureFields SigFault) → signature_fields m ≡ r → are_first_alone r ≡ true → (not (has_body m) || has_field (codes "content-digest") m) ≡ true → IsSigned m
+    by : (r : Result SignatureFields SigFault) → signature_fields m ≡ r → are_first_alone r ≡ true
+        → (not (has_body m) || has_field (codes "content-digest") m) ≡ true → IsSigned m
     by (Ok fields) e o d = record { fields = fields; are = e; only = o; digest = d }
     by (Err fault) e o d = cc o
 
@@ -95,7 +97,8 @@ pub based : (m : Message) (base id : List ℕ) (created : ℕ) → is_signed m �
 based m base id created h =
     let signed = signed_parts m h in
     let fields : SignatureFields = signed.fields in
-    let last = and_parts ((length fields.inputs == 1) && is_inner (value_at fields.inputs label) && (length fields.signatures == 1)) (is_some (value_at fields.signatures label)) signed.only in
+    let last = and_parts ((length fields.inputs == 1) && is_inner (value_at fields.inputs label) && (length fields.signatures == 1))
+    (is_some (value_at fields.signatures label)) signed.only in
     let second = and_parts ((length fields.inputs == 1) && is_inner (value_at fields.inputs label)) (length fields.signatures == 1) last.0 in
     let first = and_parts (length fields.inputs == 1) (is_inner (value_at fields.inputs label)) second.0 in
     subst (λ (f : SignatureFields). IsSome (base_with m base f (rotation_input m id created))) (sym (members_are m fields signed.are))
@@ -109,7 +112,8 @@ pub signed_with : (m : Message) (base id secret bytes : List ℕ) (created : ℕ
     → signed_rotation m base id secret created ≡ Some (record m { fields = fields })
 unfolding signed_rotation
 signed_with m base id secret bytes created list fields more b c d e =
-    by (rotation_base m base (rotation_input m id created)) (subst (λ (l : InnerList). option_map (hmac_sha256 secret) (rotation_base m base l) ≡ Some bytes) b c)
+    by (rotation_base m base (rotation_input m id created))
+    (subst (λ (l : InnerList). option_map (hmac_sha256 secret) (rotation_base m base l) ≡ Some bytes) b c)
   where
     by : (text : Option (List ℕ)) → option_map (hmac_sha256 secret) text ≡ Some bytes
         → (text >>= λ t. Some (with_fields (second_lines (rotation_input m id created) (hmac_sha256 secret t)) m)) ≡ Some (record m { fields = fields })
@@ -133,7 +137,8 @@ items_range false true = (name_range _ refl, (name_range _ refl, (name_range _ r
 items_range true false = (name_range _ refl, (name_range _ refl, (name_range _ refl, (member_range _ refl, (member_range _ refl, tt)))))
 items_range true true = (name_range _ refl, (name_range _ refl, (name_range _ refl, (name_range _ refl, (member_range _ refl, (member_range _ refl, tt))))))
 
-pub input_range : (m : Message) (id : List ℕ) (created : ℕ) → created < 10 ^ 15 → list_all is_string_byte id ≡ true → IsInnerInRange (rotation_input m id created)
+pub input_range : (m : Message) (id : List ℕ) (created : ℕ) → created < 10 ^ 15 → list_all is_string_byte id ≡ true
+    → IsInnerInRange (rotation_input m id created)
 input_range m id created c i = record {
   items = items_range (has_body m) (has_field (codes "authorization") m);
   params = params_range id created None second_tag c i tt refl;

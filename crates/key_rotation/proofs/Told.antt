@@ -6,12 +6,14 @@ use Rattle.message_signature.specs.declared.fault.SigFault.TheVariants.{OutOfMem
 use Rattle.message_signature.specs.Faults.{Gives as GivesSignature}
 use Rattle.key_rotation.specs.Faults.{Gives, IsToldOf, in_first, in_second, told_first, told_second}
 
-pub first_gives : {X Y : Type 0} (view : X → Y) (answer : Result X SigFault) (read : Result Y SigFault) → GivesSignature view answer read → Gives view (told_first answer) (in_first read)
+pub first_gives : {X Y : Type 0} (view : X → Y) (answer : Result X SigFault) (read : Result Y SigFault) → GivesSignature view answer read
+    → Gives view (told_first answer) (in_first read)
 first_gives view (Ok x) read h = ap in_first h
 first_gives view (Err OutOfMemory) read h = tt
 first_gives view (Err _) read h = ap in_first h
 
-pub second_gives : {X Y : Type 0} (view : X → Y) (answer : Result X SigFault) (read : Result Y SigFault) → GivesSignature view answer read → Gives view (told_second answer) (in_second read)
+pub second_gives : {X Y : Type 0} (view : X → Y) (answer : Result X SigFault) (read : Result Y SigFault) → GivesSignature view answer read
+    → Gives view (told_second answer) (in_second read)
 second_gives view (Ok x) read h = ap in_second h
 second_gives view (Err OutOfMemory) read h = tt
 second_gives view (Err _) read h = ap in_second h

@@ -68,7 +68,8 @@ fn append_valued(
     name: &[u8],
     item: &Item,
 ) -> Result<Bytes, BaseFault>
-    ensures { GivesBase (λ b. b) result (option_map (λ line. text ++ line) (line_with item.now (value_of message.now base.now fields.now name.now item.now.params))) }
+    ensures { GivesBase (λ b. b) result
+        (option_map (λ line. text ++ line) (line_with item.now (value_of message.now base.now fields.now name.now item.now.params))) }
 {
     let named = append_name(alloc, text, item)?;
     let parted = appended(named, b": ")?;
@@ -166,9 +167,12 @@ pub(crate) fn base_over(
     base_with(alloc, message, base, fields, list)
 }
 
-/// The signature base of a message to the server with this base, under a list of covered components (RFC 9421, section 2.5), where `signature` and `signature-input` with the one parameter `key`, a String, are the member under that label (section 2.1.2): its value is its canonical text. The base is scheme, `://` and authority, without a `/` at its end.
+/// The signature base of a message to the server with this base, under a list of covered components (RFC 9421, section 2.5), where `signature` and
+/// `signature-input` with the one parameter `key`, a String, are the member under that label (section 2.1.2): its value is its canonical text. The base is
+/// scheme, `://` and authority, without a `/` at its end.
 ///
-/// Errors: Unsupported exactly where a covered component is no String, isn't lower case or isn't there, has other parameters, or is named again with the same ones. OutOfMemory may come in place of any answer.
+/// Errors: Unsupported exactly where a covered component is no String, isn't lower case or isn't there, has other parameters, or is named again with the same
+/// ones. OutOfMemory may come in place of any answer.
 pub fn rotation_base(
     alloc: Global,
     message: &Message,

@@ -184,11 +184,15 @@ fn signature_of(
     }
 }
 
-/// Signs a message to the server with this base again, under the secret of a new key and over its signature (RFC 9635, section 6.1.1), so that `verify_rotation` answers both keys.
+/// Signs a message to the server with this base again, under the secret of a new key and over its signature (RFC 9635, section 6.1.1), so that
+/// `verify_rotation` answers both keys.
 ///
 /// The base is scheme, `://` and authority, without a `/` at its end. `created` is in seconds since 1970. The id holds characters from SP to `~`.
-/// One line of `signature-input` and one of `signature` are added behind the other fields, each with one member under the label `sig2`. It covers what `message_signature::sign` covers, and then `signature` and `signature-input` with `sig1` as `key`. The parameters are `created`, `keyid` and `tag`, which is `gnap-rotate`.
-/// NotSigned comes exactly where `signature-input` isn't a dictionary of one inner list under the label `sig1`, or `signature` isn't one of one member under it, or there is a body and no `content-digest` field; OutOfMemory may come in its place. An `Err` changes nothing.
+/// One line of `signature-input` and one of `signature` are added behind the other fields, each with one member under the label `sig2`. It covers what
+/// `message_signature::sign` covers, and then `signature` and `signature-input` with `sig1` as `key`. The parameters are `created`, `keyid` and `tag`, which is
+/// `gnap-rotate`.
+/// NotSigned comes exactly where `signature-input` isn't a dictionary of one inner list under the label `sig1`, or `signature` isn't one of one member under
+/// it, or there is a body and no `content-digest` field; OutOfMemory may come in its place. An `Err` changes nothing.
 pub fn sign_rotation(
     alloc: Global,
     message: &mut Message,

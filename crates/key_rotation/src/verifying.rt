@@ -188,10 +188,37 @@ fn is_chained(label: &Bytes, list: &InnerList) -> bool
 
 // ---- both
 
-/// The keys of both signatures of a message which came to the server with this base (RFC 9635, section 6.1.1): the first has the tag `gnap` and is verified as any (`message_signature::verify`), the second has the tag `gnap-rotate`, is verified by the same checks over the base that may cover another signature (`rotation_base`), and covers the first: `signature` and `signature-input` with its label as `key`.
+// The keys of both signatures of a message whose two fields were read.
+#[tactic(auto, unfolding(crate::specs::Rotated::rotated_keys))]
+fn rotated_keys(
+    alloc: Global,
+    message: &Message,
+    base: &Bytes,
+    fields: &SignatureFields,
+    ring: &Keyring,
+    now: u64,
+) -> Result<RotatedKeys, RotationFault>
+    requires { signature_fields message.now ≡ Ok fields.now }
+    ensures gives { Gives (λ keys. keys) result (rotated_keys message.now base.now ring.now now) }
+    ensures told { IfErr result IsToldOf }
+{
+    let first = first_signature(fields)?;
+    let old = old_key(alloc, message, base, ring, now, &first)?;
+    let second = second_signature(fields)?;
+    let new = new_key(alloc, message, base, fields, ring, now, &second)?;
+    if !is_chained(first.label, second.list) {
+        return Err(RotationFault::NotChained);
+    }
+    Ok(RotatedKeys { old, new })
+}
+
+/// The keys of both signatures of a message which came to the server with this base (RFC 9635, section 6.1.1): the first has the tag `gnap` and is verified as
+/// any (`message_signature::verify`), the second has the tag `gnap-rotate`, is verified by the same checks over the base that may cover another signature
+/// (`rotation_base`), and covers the first: `signature` and `signature-input` with its label as `key`.
 /// The base is scheme, `://` and authority, without a `/` at its end. `now` is in seconds since 1970.
 ///
-/// Errors: First exactly where the first has a fault, and which is its first; else Second exactly where the second has one; else NotChained exactly where the second doesn't cover the first. OutOfMemory may come in place of any answer, and is never the fault in First and Second.
+/// Errors: First exactly where the first has a fault, and which is its first; else Second exactly where the second has one; else NotChained exactly where the
+/// second doesn't cover the first. OutOfMemory may come in place of any answer, and is never the fault in First and Second.
 #[tactic(auto, unfolding(crate::specs::Rotated::rotated_keys))]
 pub fn verify_rotation(
     alloc: Global,
@@ -204,12 +231,5 @@ pub fn verify_rotation(
     ensures told { IfErr result IsToldOf }
 {
     let fields = fields_of(alloc, message)?;
-    let first = first_signature(&fields)?;
-    let old = old_key(alloc, message, base, ring, now, &first)?;
-    let second = second_signature(&fields)?;
-    let new = new_key(alloc, message, base, &fields, ring, now, &second)?;
-    if !is_chained(first.label, second.list) {
-        return Err(RotationFault::NotChained);
-    }
-    Ok(RotatedKeys { old, new })
+    rotated_keys(alloc, message, base, &fields, ring, now)
 }

@@ -15,7 +15,8 @@ use Rattle.message_signature.specs.Components.{values_of, joined, field_value}
 
 module _ (name : List ℕ) (fields more : List Field) where
   values_more : values_of name (fields ++ more) ≡ values_of name fields ++ values_of name more
-  values_more = ap (map (λ (f : Field). trimmed f.value)) (filter-append (λ (f : Field). bytes_eq f.name name) fields more) ∙ map-append (λ (f : Field). trimmed f.value) (filter (λ (f : Field). bytes_eq f.name name) fields) _
+  values_more = ap (map (λ (f : Field). trimmed f.value)) (filter-append (λ (f : Field). bytes_eq f.name name) fields more)
+      ∙ map-append (λ (f : Field). trimmed f.value) (filter (λ (f : Field). bytes_eq f.name name) fields) _
 
   -- under other names
   pub value_beside : values_of name more ≡ [] → field_value name (fields ++ more) ≡ field_value name fields

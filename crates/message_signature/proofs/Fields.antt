@@ -17,13 +17,15 @@ unfolding field_value
 is_some_field name [] = refl
 is_some_field name (f ∷ fields) = by (bytes_eq f.name name) refl (is_some_field name fields)
   where
-    by : (r : Bool) → bytes_eq f.name name ≡ r → list_any (λ f. bytes_eq f.name name) fields ≡ is_some (joined (values_of name fields)) → list_any (λ f. bytes_eq f.name name) (f ∷ fields) ≡ is_some (joined (values_of name (f ∷ fields)))
+    by : (r : Bool) → bytes_eq f.name name ≡ r → list_any (λ f. bytes_eq f.name name) fields ≡ is_some (joined (values_of name fields))
+        → list_any (λ f. bytes_eq f.name name) (f ∷ fields) ≡ is_some (joined (values_of name (f ∷ fields)))
     by true p again = rw p refl
     by false p again = rw p again
 
 -- ---- one line more
 
-further_more : (vs : List (List ℕ)) (v : List ℕ) → further_text (44 ∷ 32 ∷ []) (λ v. v) (vs ++ v ∷ []) ≡ further_text (44 ∷ 32 ∷ []) (λ v. v) vs ++ (44 ∷ 32 ∷ v)
+further_more : (vs : List (List ℕ)) (v : List ℕ)
+    → further_text (44 ∷ 32 ∷ []) (λ v. v) (vs ++ v ∷ []) ≡ further_text (44 ∷ 32 ∷ []) (λ v. v) vs ++ (44 ∷ 32 ∷ v)
 further_more [] v = simp append-nil
 further_more (w ∷ vs) v = rw (further_more vs v) (simp append_assoc)
 
@@ -34,7 +36,9 @@ joined_more (w ∷ vs) v = rw (further_more vs v) (ap (λ (t : List ℕ). Some t
 module _ (name : List ℕ) (fields : List Field) (i : ℕ) (f : Field) (at : f ≡ get_or fields i f) (lt : i < length fields) where
   values_more : values_of name (take (i + 1) fields) ≡ values_of name (take i fields) ++ map (λ f. trimmed f.value) (cond (bytes_eq f.name name) (f ∷ []) [])
   values_more =
-      ap (map (λ f. trimmed f.value)) (filter_more (λ f. bytes_eq f.name name) fields i f lt ∙ ap (λ (g : Field). filter (λ f. bytes_eq f.name name) (take i fields) ++ cond (bytes_eq g.name name) (g ∷ []) []) (sym at))
+      ap (map (λ f. trimmed f.value))
+      (filter_more (λ f. bytes_eq f.name name) fields i f lt
+      ∙ ap (λ (g : Field). filter (λ f. bytes_eq f.name name) (take i fields) ++ cond (bytes_eq g.name name) (g ∷ []) []) (sym at))
       ∙ map-append (λ f. trimmed f.value) (filter (λ f. bytes_eq f.name name) (take i fields)) (cond (bytes_eq f.name name) (f ∷ []) [])
 
   pub field_more : bytes_eq f.name name ≡ true → field_value name (take (i + 1) fields) ≡ Some (with_next (field_value name (take i fields)) (trimmed f.value))

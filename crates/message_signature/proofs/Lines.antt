@@ -33,8 +33,10 @@ module _ (m : Message) (base : List ℕ) (items : List Item) (i : ℕ) (item : I
   unfolding base_lines
   step = ap (base_lines m base) (opened items i item at)
 
-  pub lines_more : (out : List ℕ) → behind text (line_of m base item (drop (i + 1) items)) ≡ Some out → behind out (base_lines m base (drop (i + 1) items)) ≡ base_lines m base items
-  lines_more out h = sym (ap (behind text) step ∙ joined text (line_of m base item (drop (i + 1) items)) (base_lines m base (drop (i + 1) items)) out h) ∙ so_far
+  pub lines_more : (out : List ℕ) → behind text (line_of m base item (drop (i + 1) items)) ≡ Some out
+      → behind out (base_lines m base (drop (i + 1) items)) ≡ base_lines m base items
+  lines_more out h = sym (ap (behind text) step ∙ joined text (line_of m base item (drop (i + 1) items)) (base_lines m base (drop (i + 1) items)) out h)
+      ∙ so_far
 
   pub lines_failed : (e : BaseFault) → FailsBase e (behind text (line_of m base item (drop (i + 1) items))) → FailsBase e (base_lines m base items)
   lines_failed OutOfMemory h = tt

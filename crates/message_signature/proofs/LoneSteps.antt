@@ -39,7 +39,8 @@ module _ (tag : List ℕ) where
   none_tagged ((name, Single item) ∷ d) h = none_tagged d h
   none_tagged ((name, Inner list) ∷ d) h = by (holds list) refl h (none_tagged d)
     where
-      by : (b : Bool) → holds list ≡ b → cond b ((name, Inner list) ∷ matching d) (matching d) ≡ [] → (matching d ≡ [] → with_tag tag d ≡ []) → with_tag tag ((name, Inner list) ∷ d) ≡ []
+      by : (b : Bool) → holds list ≡ b → cond b ((name, Inner list) ∷ matching d) (matching d) ≡ [] → (matching d ≡ [] → with_tag tag d ≡ [])
+          → with_tag tag ((name, Inner list) ∷ d) ≡ []
       by true t h again = absurd cc
       by false t h again =
           rw t (again h)
@@ -49,7 +50,8 @@ module _ (tag : List ℕ) where
   one_tagged ((name, Single item) ∷ d) label one h = one_tagged d label one h
   one_tagged ((name, Inner list) ∷ d) label one h = by (holds list) refl h (none_tagged d) (one_tagged d label one)
     where
-      by : (b : Bool) → holds list ≡ b → cond b ((name, Inner list) ∷ matching d) (matching d) ≡ (label, Inner one) ∷ [] → (matching d ≡ [] → with_tag tag d ≡ [])
+      by : (b : Bool) → holds list ≡ b → cond b ((name, Inner list) ∷ matching d) (matching d) ≡ (label, Inner one) ∷ []
+          → (matching d ≡ [] → with_tag tag d ≡ [])
           → (matching d ≡ (label, Inner one) ∷ [] → with_tag tag d ≡ (label, one) ∷ []) → with_tag tag ((name, Inner list) ∷ d) ≡ (label, one) ∷ []
       by true t h none again =
           let held : Entry = (name, Inner list) in
@@ -87,7 +89,8 @@ strings_are (Inner other) list h = by (are_strings other.items) h
     by true h = ap (λ (l : InnerList). Inner l) (sym (some_is list other h))
     by false h = absurd cc
 
-pub once_is : (tag label : List ℕ) (d : List Entry) (list : InnerList) (m : Member) → m ≡ Inner list → matches_among (codes "tag") tag d ≡ (label, m) ∷ [] → matches_among (codes "tag") tag d ≡ (label, Inner list) ∷ []
+pub once_is : (tag label : List ℕ) (d : List Entry) (list : InnerList) (m : Member) → m ≡ Inner list → matches_among (codes "tag") tag d ≡ (label, m) ∷ []
+    → matches_among (codes "tag") tag d ≡ (label, Inner list) ∷ []
 once_is tag label d list m is one = one ∙ ap (λ (x : Member). (label, x) ∷ []) is
 
 -- a list of other items hasn't its form
@@ -109,20 +112,23 @@ bytes_of_single label d = by (value_at d label) refl
     by (Some (Inner l)) e = rw e refl
 
 -- what is read of the field, where it is a dictionary, and where it is none
-pub bytes_read : (label : List ℕ) (r : Option (List Entry)) (bare : Option Bare) → option_map (λ d. bare_found (value_at d label)) r ≡ Some bare → need NotAField (option_map (signature_under label) r) ≡ Ok (bytes_in bare)
+pub bytes_read : (label : List ℕ) (r : Option (List Entry)) (bare : Option Bare) → option_map (λ d. bare_found (value_at d label)) r ≡ Some bare
+    → need NotAField (option_map (signature_under label) r) ≡ Ok (bytes_in bare)
 bytes_read label None bare h = absurd cc
 bytes_read label (Some d) bare h =
     let same : bare_found (value_at d label) ≡ bare = some_is (bare_found (value_at d label)) bare h in
     ap (λ (o : Option (List ℕ)). Ok o) (sym (bytes_of_single label d)) ∙ ap (λ (o : Option Bare). Ok (bytes_in o)) same
 
-pub no_bytes : (label : List ℕ) (r : Option (List Entry)) → option_map (λ d. bare_found (value_at d label)) r ≡ None → need NotAField (option_map (signature_under label) r) ≡ Err NotAField
+pub no_bytes : (label : List ℕ) (r : Option (List Entry)) → option_map (λ d. bare_found (value_at d label)) r ≡ None
+    → need NotAField (option_map (signature_under label) r) ≡ Err NotAField
 no_bytes label None h = refl
 no_bytes label (Some d) h = absurd cc
 
 -- ---- the chain
 
 -- a step that fails, whatever is made of its value
-fails_behind : {A B C : Type 0} (f : SigFault) (g : A → B) (o : Option A) (k : A → Result C SigFault) (e : SigFault) → need f (option_map g o) ≡ Err e → (need f o >>= k) ≡ Err e
+fails_behind : {A B C : Type 0} (f : SigFault) (g : A → B) (o : Option A) (k : A → Result C SigFault) (e : SigFault) → need f (option_map g o) ≡ Err e
+    → (need f o >>= k) ≡ Err e
 fails_behind f g None k e h = cc
 fails_behind f g (Some x) k e h = absurd cc
 
@@ -139,26 +145,33 @@ module _ (input signature tag : List ℕ) where
   input_fails e h = ap (λ (r : Result (List Entry) SigFault). r >>= rest) h
 
   module _ (d : List Entry) (reads : dictionary_of input ≡ Some d) where
-    pub signature_fails : (label : List ℕ) (e : SigFault) → Fails e (need NotAField (option_map (signature_under label) (dictionary_of signature))) → Fails e (read_tagged input signature tag)
+    pub signature_fails : (label : List ℕ) (e : SigFault) → Fails e (need NotAField (option_map (signature_under label) (dictionary_of signature)))
+        → Fails e (read_tagged input signature tag)
     signature_fails label OutOfMemory h = tt
-    signature_fails label e h = rw reads (fails_behind NotAField (signature_under label) (dictionary_of signature) (λ signatures. tagged_in tag (record { inputs = d; signatures = signatures })) e h)
+    signature_fails label e h = rw reads
+        (fails_behind NotAField (signature_under label) (dictionary_of signature) (λ signatures. tagged_in tag (record { inputs = d; signatures = signatures }))
+        e h)
 
-    pub untagged : (label : List ℕ) (o : Option (List ℕ)) → need NotAField (option_map (signature_under label) (dictionary_of signature)) ≡ Ok o → matches_among (codes "tag") tag d ≡ [] → read_tagged input signature tag ≡ Err NoTag
+    pub untagged : (label : List ℕ) (o : Option (List ℕ)) → need NotAField (option_map (signature_under label) (dictionary_of signature)) ≡ Ok o
+        → matches_among (codes "tag") tag d ≡ [] → read_tagged input signature tag ≡ Err NoTag
     untagged label o h none =
         let x = read_behind NotAField (signature_under label) (dictionary_of signature) o h in
         rw (reads, x.1, none_tagged tag d none) refl
 
-    pub tagged_once : (label : List ℕ) (list : InnerList) (o : Option (List ℕ)) → need NotAField (option_map (signature_under label) (dictionary_of signature)) ≡ Ok o
+    pub tagged_once : (label : List ℕ) (list : InnerList) (o : Option (List ℕ))
+        → need NotAField (option_map (signature_under label) (dictionary_of signature)) ≡ Ok o
         → matches_among (codes "tag") tag d ≡ (label, Inner list) ∷ [] → read_tagged input signature tag ≡ formed label list o
     tagged_once label list o h one =
         let x = read_behind NotAField (signature_under label) (dictionary_of signature) o h in
         rw (reads, x.1, one_tagged tag d label list one) (ap (formed label list) x.2)
 
-    pub once_fails : (label : List ℕ) (list : InnerList) (o : Option (List ℕ)) (e : SigFault) → need NotAField (option_map (signature_under label) (dictionary_of signature)) ≡ Ok o
+    pub once_fails : (label : List ℕ) (list : InnerList) (o : Option (List ℕ)) (e : SigFault)
+        → need NotAField (option_map (signature_under label) (dictionary_of signature)) ≡ Ok o
         → matches_among (codes "tag") tag d ≡ (label, Inner list) ∷ [] → Fails e (formed label list o) → Fails e (read_tagged input signature tag)
     once_fails label list o e h one f = subst (Fails e) (sym (tagged_once label list o h one)) f
 
-    pub malformed_once : (label : List ℕ) (m : Member) (o : Option (List ℕ)) → need NotAField (option_map (signature_under label) (dictionary_of signature)) ≡ Ok o
+    pub malformed_once : (label : List ℕ) (m : Member) (o : Option (List ℕ))
+        → need NotAField (option_map (signature_under label) (dictionary_of signature)) ≡ Ok o
         → matches_among (codes "tag") tag d ≡ (label, m) ∷ [] → None ≡ strings_in m → read_tagged input signature tag ≡ Err Malformed
     malformed_once label (Single item) o h one none = absurd (never_single tag d label item one)
     malformed_once label (Inner list) o h one none = tagged_once label list o h one ∙ rw (no_strings list none) refl
@@ -177,12 +190,14 @@ module _ (m : Message) (tag : List ℕ) where
     no_signature OutOfMemory h = tt
     no_signature e h = rw (input_is, h) refl
 
-    pub by_texts : (signature : List ℕ) → need NoField (field_value (codes "signature") m.fields) ≡ Ok signature → tagged m tag ≡ read_tagged input signature tag
+    pub by_texts : (signature : List ℕ) → need NoField (field_value (codes "signature") m.fields) ≡ Ok signature
+        → tagged m tag ≡ read_tagged input signature tag
     unfolding tagged
     by_texts signature signature_is = rw (input_is, signature_is) (by (dictionary_of input) (dictionary_of signature))
       where
         by : (a b : Option (List Entry))
-            → ((need NotAField a >>= λ inputs. need NotAField b >>= λ signatures. Ok (record { inputs = inputs; signatures = signatures })) >>= λ fields. tagged_in tag fields)
+            → ((need NotAField a >>= λ inputs. need NotAField b >>= λ signatures. Ok (record { inputs = inputs; signatures = signatures })) >>= λ fields.
+            tagged_in tag fields)
             ≡ (need NotAField a >>= λ inputs. need NotAField b >>= λ signatures. tagged_in tag (record { inputs = inputs; signatures = signatures }))
         by None b = refl
         by (Some a) None = refl

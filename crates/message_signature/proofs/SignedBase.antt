@@ -30,13 +30,15 @@ digest_lines m = field digest_name (digest_text m.body) ∷ []
 
 -- where there was none, it is that of the body
 pub digest_value : (m : Message) → has_field digest_name m ≡ false → field_value digest_name (m.fields ++ digest_lines m) ≡ Some (digest_text m.body)
-digest_value m none = value_added digest_name m.fields (digest_lines m) (digest_text m.body) (ap (λ (t : List ℕ). t ∷ []) (digest_trimmed m.body)) (none_is _ none)
+digest_value m none = value_added digest_name m.fields (digest_lines m) (digest_text m.body) (ap (λ (t : List ℕ). t ∷ []) (digest_trimmed m.body))
+    (none_is _ none)
 
 pub has_digest : (m : Message) → has_body (with_digest m) ≡ true → has_field digest_name (with_digest m) ≡ true
 has_digest m = by (has_body m) (has_field digest_name m) refl refl
   where
     by : (a b : Bool) → has_body m ≡ a → has_field digest_name m ≡ b
-        → has_body (cond (a && not b) (with_fields (digest_lines m) m) m) ≡ true → has_field digest_name (cond (a && not b) (with_fields (digest_lines m) m) m) ≡ true
+        → has_body (cond (a && not b) (with_fields (digest_lines m) m) m) ≡ true
+        → has_field digest_name (cond (a && not b) (with_fields (digest_lines m) m) m) ≡ true
     by true true p q h = q
     by false b p q h = absurd (true≢false (sym h ∙ p))
     by true false p q h = ap is_some (digest_value m q)
@@ -55,7 +57,8 @@ there_is (Some x) h = record { value = x; is = refl }
 there_is None h = absurd cc
 
 -- where the digest of a body is there, and a token that is covered
-base_there : (m : Message) (base : List ℕ) (params : List (List ℕ × Bare)) (body token : Bool) → (body ≡ true → has_field (codes "content-digest") m ≡ true) → (token ≡ true → has_field (codes "authorization") m ≡ true)
+base_there : (m : Message) (base : List ℕ) (params : List (List ℕ × Bare)) (body token : Bool) → (body ≡ true → has_field (codes "content-digest") m ≡ true)
+    → (token ≡ true → has_field (codes "authorization") m ≡ true)
     → IsSome (signature_base m base (list_of body token params))
 unfolding signature_base base_lines component
 base_there m base params false false d t = refl
@@ -63,17 +66,21 @@ base_there m base params true false d t = rw ((there_is _ (d refl)).is) refl
 base_there m base params false true d t = rw ((there_is _ (t refl)).is) refl
 base_there m base params true true d t = rw ((there_is _ (d refl)).is, (there_is _ (t refl)).is) refl
 
-pub always_based : (m : Message) (base : List ℕ) (params : List (List ℕ × Bare)) → IsSome (signature_base (with_digest m) base (signature_input (with_digest m) params))
+pub always_based : (m : Message) (base : List ℕ) (params : List (List ℕ × Bare))
+    → IsSome (signature_base (with_digest m) base (signature_input (with_digest m) params))
 always_based m base params =
     let w = with_digest m in
     base_there w base params (has_body w) (has_field (codes "authorization") w) (has_digest m) (λ h. h)
 
 -- the signed message, from the steps of signing
-pub signed_with : (m w : Message) (base : List ℕ) (params : List (List ℕ × Bare)) (secret bytes : List ℕ) (list : InnerList) (fields more : List Field) → w ≡ with_digest m → list ≡ signature_input w params
-    → option_map (hmac_sha256 secret) (signature_base w base list) ≡ Some bytes → more ≡ signature_lines list bytes → fields ≡ w.fields ++ more → signed_under m base params secret ≡ Some (record w { fields = fields })
+pub signed_with : (m w : Message) (base : List ℕ) (params : List (List ℕ × Bare)) (secret bytes : List ℕ) (list : InnerList) (fields more : List Field)
+    → w ≡ with_digest m → list ≡ signature_input w params
+    → option_map (hmac_sha256 secret) (signature_base w base list) ≡ Some bytes → more ≡ signature_lines list bytes → fields ≡ w.fields ++ more
+    → signed_under m base params secret ≡ Some (record w { fields = fields })
 unfolding signed_under
 signed_with m w base params secret bytes list fields more a b c d e =
-    rw (sym a) (by (signature_base w base (signature_input w params)) (subst (λ (l : InnerList). option_map (hmac_sha256 secret) (signature_base w base l) ≡ Some bytes) b c))
+    rw (sym a) (by (signature_base w base (signature_input w params))
+    (subst (λ (l : InnerList). option_map (hmac_sha256 secret) (signature_base w base l) ≡ Some bytes) b c))
   where
     by : (text : Option (List ℕ)) → option_map (hmac_sha256 secret) text ≡ Some bytes
         → (text >>= λ t. Some (with_fields (signature_lines (signature_input w params) (hmac_sha256 secret t)) w)) ≡ Some (record w { fields = fields })
@@ -88,4 +95,5 @@ pub always_signed : (m : Message) (base : List ℕ) (params : List (List ℕ × 
 always_signed m base params secret =
     let w = with_digest m in
     let text = there_is _ (always_based m base params) in
-    ap is_some (signed_with m w base params secret (hmac_sha256 secret text.value) (signature_input w params) _ _ refl refl (ap (option_map (hmac_sha256 secret)) text.is) refl refl)
+    ap is_some (signed_with m w base params secret (hmac_sha256 secret text.value) (signature_input w params) _ _ refl refl
+    (ap (option_map (hmac_sha256 secret)) text.is) refl refl)

@@ -27,13 +27,17 @@ abbrev some_item : Bool → List ℕ → List Item
 some_item is_covered name = cond is_covered (component_item name ∷ []) []
 
 pub covered_items : (m : Message) (body token : Bool) → body ≡ has_body m → token ≡ has_field (codes "authorization") m
-    → (component_item (codes "@method") ∷ component_item (codes "@target-uri") ∷ some_item body (codes "content-digest")) ++ some_item token (codes "authorization") ≡ map component_item (covered m)
+    → (component_item (codes "@method") ∷ component_item (codes "@target-uri") ∷ some_item body (codes "content-digest"))
+    ++ some_item token (codes "authorization") ≡ map component_item (covered m)
 covered_items m body token p q =
-    ap (λ (a : Bool). (component_item (codes "@method") ∷ component_item (codes "@target-uri") ∷ some_item a (codes "content-digest")) ++ some_item token (codes "authorization")) p
-    ∙ ap (λ (b : Bool). (component_item (codes "@method") ∷ component_item (codes "@target-uri") ∷ some_item (has_body m) (codes "content-digest")) ++ some_item b (codes "authorization")) q
+    ap (λ (a : Bool). (component_item (codes "@method") ∷ component_item (codes "@target-uri") ∷ some_item a (codes "content-digest"))
+    ++ some_item token (codes "authorization")) p
+    ∙ ap (λ (b : Bool). (component_item (codes "@method") ∷ component_item (codes "@target-uri") ∷ some_item (has_body m) (codes "content-digest"))
+    ++ some_item b (codes "authorization")) q
     ∙ by (has_body m) (has_field (codes "authorization") m)
   where
-    by : (a b : Bool) → (component_item (codes "@method") ∷ component_item (codes "@target-uri") ∷ some_item a (codes "content-digest")) ++ some_item b (codes "authorization") ≡ map component_item (names a b)
+    by : (a b : Bool) → (component_item (codes "@method") ∷ component_item (codes "@target-uri") ∷ some_item a (codes "content-digest"))
+        ++ some_item b (codes "authorization") ≡ map component_item (names a b)
     by false false = refl
     by false true = refl
     by true false = refl

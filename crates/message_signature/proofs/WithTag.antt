@@ -14,7 +14,8 @@ held None = []
 held (Some one) = one ∷ []
 
 -- how the code holds it: see gives its value
-module _ {X : Type 0} (see : X → List ℕ × InnerList) (tag : List ℕ) (inputs : List (List ℕ × Member)) (i : ℕ) (label : List ℕ) (member : Member) (at : slice_get inputs i ≡ Some (label, member)) where
+module _ {X : Type 0} (see : X → List ℕ × InnerList) (tag : List ℕ) (inputs : List (List ℕ × Member)) (i : ℕ) (label : List ℕ) (member : Member)
+    (at : slice_get inputs i ≡ Some (label, member)) where
   pub passed : (found : Option X) → held (option_map see found) ++ with_tag tag (drop i inputs) ≡ with_tag tag inputs → tagged_list tag member ≡ None
       → held (option_map see found) ++ with_tag tag (drop (i + 1) inputs) ≡ with_tag tag inputs
   passed found so_far h = sym (ap (λ es. held (option_map see found) ++ with_tag tag es) (opened inputs i (label, member) at) ∙ rw h refl) ∙ so_far

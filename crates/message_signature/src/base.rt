@@ -123,9 +123,11 @@ fn append_params_line(alloc: Global, text: Bytes, list: &InnerList) -> Result<By
     Ok(append_inner(alloc, text, list)?)
 }
 
-/// The signature base of a message to the server with this base, under a list of covered components (RFC 9421, section 2.5). The base is scheme, `://` and authority, without a `/` at its end.
+/// The signature base of a message to the server with this base, under a list of covered components (RFC 9421, section 2.5). The base is scheme, `://` and
+/// authority, without a `/` at its end.
 ///
-/// Errors: Unsupported exactly where a covered component is no String, has parameters, is named again, isn't lower case or isn't there. OutOfMemory may come in place of any answer.
+/// Errors: Unsupported exactly where a covered component is no String, has parameters, is named again, isn't lower case or isn't there. OutOfMemory may come in
+/// place of any answer.
 #[tactic(auto, unfolding(crate::specs::Base::signature_base))]
 pub fn base_of(
     alloc: Global,

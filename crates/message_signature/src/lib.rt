@@ -1,9 +1,12 @@
 //! HTTP message signatures (RFC 9421) with `hmac-sha256`: the signature base, signing, and verifying as GNAP asks for it (RFC 9635, section 7.3.1).
 //!
-//! The contracts speak of functions on data: `signature_base` (`specs/Base.antt`), `signed` (`specs/Signed.antt`) and `verified` (`specs/Verified.antt`), whose lines are the checks in their order. So each fault of `verify` comes exactly where it is the first.
-//! The crate `signature_laws` says what they amount to: a message is accepted for a key's id exactly where its signature is that key's, in time, and covers what it must; and a message that was signed is accepted.
+//! The contracts speak of functions on data: `signature_base` (`specs/Base.antt`), `signed` (`specs/Signed.antt`) and `verified` (`specs/Verified.antt`), whose
+//! lines are the checks in their order. So each fault of `verify` comes exactly where it is the first.
+//! The crate `signature_laws` says what they amount to: a message is accepted for a key's id exactly where its signature is that key's, in time, and covers
+//! what it must; and a message that was signed is accepted.
 //!
-//! Want of memory is `OutOfMemory`, and changes nothing. A field of one line is read where it stands, and the body is never copied. Of the fields of signatures the one list with the tag is read, and the bytes under its label; other members are passed over, and take no memory that stays.
+//! Want of memory is `OutOfMemory`, and changes nothing. A field of one line is read where it stands, and the body is never copied. Of the fields of signatures
+//! the one list with the tag is read, and the bytes under its label; other members are passed over, and take no memory that stays.
 #![tactic(auto)]
 
 mod base;

@@ -2,14 +2,15 @@
 ghost use Rattle.std.specs.Prelude.{◌≡◌, ◌↔◌, ◌<◌, ◌^◌, true, if◌then◌else◌, [], ◌∷◌, ◌++◌, map, length, Some, option_map, None, Err, IsSome, IfOk, OnOk, OnErr};
 ghost use Rattle.std.specs.List.{list_all};
 ghost use Rattle.std.specs.Option.{option_copied};
-ghost use Rattle.structured_fields.specs.declared.bare.Bare.TheVariants.{Binary};
+ghost use Rattle.structured_fields.specs.declared.bare.Bare.TheVariants.{Binary, Str};
+ghost use Rattle.structured_fields.specs.declared.item.Member.TheVariants.{Item as Single};
 ghost use Rattle.structured_fields.specs.Letters.{is_key, is_string_byte};
-ghost use Rattle.structured_fields.specs.Named.{IsDistinct};
+ghost use Rattle.structured_fields.specs.Named.{IsDistinct, with_value};
 ghost use Rattle.structured_fields.specs.Canonical.{dictionary_text, AreInRange, IsInRange, IsInnerInRange, IsMemberInRange};
 ghost use Rattle.hmac_key.specs.Hmac.{hmac_sha256};
 ghost use Rattle.message_signature.specs.declared.fault.SignFault.TheVariants.{HasSignature};
 ghost use Rattle.message_signature.specs.Base.{signature_base};
-ghost use Rattle.message_signature.specs.Signed.{field, has_signature, with_digest, covered, component_item, params_of, under_label, signature_lines, signed_under, signed, signed_marked, cut};
+ghost use Rattle.message_signature.specs.Signed.{field, has_signature, with_digest, covered, component_item, params_of, under_label, label, signature_lines, signed_under, signed, signed_marked, cut};
 ghost use Rattle.message_signature.specs.Marks.{is_nonce};
 
 use crate::base::base_of;
@@ -65,11 +66,17 @@ fn component_item(alloc: Global, name: &[u8]) -> Result<Item, Mem>
     })
 }
 
+fn push_component(alloc: Global, items: &mut Items, name: &[u8]) -> Result<(), Mem>
+    ensures { OnOk result (items.new ≡ items.old ++ component_item name.now ∷ []) }
+{
+    items.push(component_item(alloc, name)?)
+}
+
 fn push_if(alloc: Global, items: &mut Items, is_covered: bool, name: &[u8]) -> Result<(), Mem>
     ensures { OnOk result (items.new ≡ items.old ++ (if is_covered then component_item name.now ∷ [] else [])) }
 {
     if is_covered {
-        items.push(component_item(alloc, name)?)?;
+        push_component(alloc, items, name)?;
     }
     Ok(())
 }
@@ -79,8 +86,8 @@ pub fn covered_items(alloc: Global, message: &Message) -> Result<Items, Mem>
     ensures { IfOk result (λ items. items ≡ map component_item (covered message.now)) }
 {
     let mut items = Items::new(alloc);
-    items.push(component_item(alloc, b"@method")?)?;
-    items.push(component_item(alloc, b"@target-uri")?)?;
+    push_component(alloc, &mut items, b"@method")?;
+    push_component(alloc, &mut items, b"@target-uri")?;
     push_if(alloc, &mut items, has_body(message), b"content-digest")?;
     push_if(
         alloc,
@@ -89,6 +96,19 @@ pub fn covered_items(alloc: Global, message: &Message) -> Result<Items, Mem>
         b"authorization",
     )?;
     Ok(items)
+}
+
+fn set_param(alloc: Global, params: &mut Params, name: &[u8], value: Bare) -> Result<(), Mem>
+    ensures { OnOk result (params.new ≡ with_value params.old name.now value) }
+{
+    params.set(Bytes::from_slice(alloc, name)?, value)
+}
+
+// Sets a parameter to the String of this text.
+fn set_text(alloc: Global, params: &mut Params, name: &[u8], text: &Bytes) -> Result<(), Mem>
+    ensures { OnOk result (params.new ≡ with_value params.old name.now (Str text.now)) }
+{
+    set_param(alloc, params, name, Bare::Str(text.copy()?))
 }
 
 /// The parameters of a signature, in their order: `created` (in seconds since 1970), `keyid`, `nonce` where there is one, and `tag`.
@@ -103,18 +123,13 @@ pub fn signature_params(
     ensures { IfOk result (λ params. params ≡ params_of id.now created (option_copied nonce.entry) tag.now) }
 {
     let mut params = Params::new(alloc);
-    params.set(
-        Bytes::from_slice(alloc, b"created")?,
-        Bare::Integer(created as i64),
-    )?;
-    params.set(Bytes::from_slice(alloc, b"keyid")?, Bare::Str(id.copy()?))?;
+    let created = Bare::Integer(created as i64);
+    set_param(alloc, &mut params, b"created", created)?;
+    set_text(alloc, &mut params, b"keyid", id)?;
     if let Some(nonce) = nonce {
-        params.set(
-            Bytes::from_slice(alloc, b"nonce")?,
-            Bare::Str(nonce.copy()?),
-        )?;
+        set_text(alloc, &mut params, b"nonce", nonce)?;
     }
-    params.set(Bytes::from_slice(alloc, b"tag")?, Bare::Str(tag.copy()?))?;
+    set_text(alloc, &mut params, b"tag", tag)?;
     Ok(params)
 }
 
@@ -129,20 +144,34 @@ pub fn labelled(alloc: Global, label: &[u8], member: Member) -> Result<Bytes, Me
     write_dictionary(alloc, &entries)
 }
 
+// Adds the line of a field that is a dictionary of one member, under the label of the signature.
+fn push_labelled(alloc: Global, lines: &mut Fields, name: &[u8], member: Member) -> Result<(), Mem>
+    requires { IsMemberInRange member }
+    ensures { OnOk result (lines.new ≡ lines.old ++ field name.now (dictionary_text (under_label label member)) ∷ []) }
+{
+    let text = labelled(alloc, LABEL, member)?;
+    lines.push(field(alloc, name, text)?)
+}
+
+fn binary_member(alloc: Global, bytes: Bytes) -> Member
+    ensures { result ≡ Single (record { bare = Binary bytes; params = [] }) }
+{
+    Member::Item(Item {
+        bare: Bare::Binary(bytes),
+        params: Params::new(alloc),
+    })
+}
+
 fn signature_lines(alloc: Global, list: InnerList, bytes: Bytes) -> Result<Fields, Mem>
     requires list { IsInnerInRange list }
     requires bytes { IsInRange (Binary bytes) }
     ensures { IfOk result (λ lines. lines ≡ signature_lines list bytes) }
 {
-    let signature = Item {
-        bare: Bare::Binary(bytes),
-        params: Params::new(alloc),
-    };
-    let input = labelled(alloc, LABEL, Member::Inner(list))?;
-    let signature = labelled(alloc, LABEL, Member::Item(signature))?;
     let mut lines = Fields::new(alloc);
-    lines.push(field(alloc, b"signature-input", input)?)?;
-    lines.push(field(alloc, b"signature", signature)?)?;
+    let input = Member::Inner(list);
+    push_labelled(alloc, &mut lines, b"signature-input", input)?;
+    let signature = binary_member(alloc, bytes);
+    push_labelled(alloc, &mut lines, b"signature", signature)?;
     Ok(lines)
 }
 
@@ -217,10 +246,12 @@ fn sign_under(
     Ok(())
 }
 
-/// Signs a message to the server with this base by HMAC-SHA-256 under the secret (RFC 9421, section 3.1), and covers what a GNAP request has to cover (RFC 9635, section 7.3.1): `@method`, `@target-uri`, `content-digest` where there is a body, and `authorization` where that field is there.
+/// Signs a message to the server with this base by HMAC-SHA-256 under the secret (RFC 9421, section 3.1), and covers what a GNAP request has to cover (RFC
+/// 9635, section 7.3.1): `@method`, `@target-uri`, `content-digest` where there is a body, and `authorization` where that field is there.
 ///
 /// The base is scheme, `://` and authority, without a `/` at its end. `created` is in seconds since 1970. The id and the tag hold characters from SP to `~`.
-/// Fields are added behind the others: `content-digest` (RFC 9530) where there is a body and no such field, then `signature-input` and `signature`, each with one member under the label `sig1`. The parameters are `created`, `keyid` and `tag`.
+/// Fields are added behind the others: `content-digest` (RFC 9530) where there is a body and no such field, then `signature-input` and `signature`, each with
+/// one member under the label `sig1`. The parameters are `created`, `keyid` and `tag`.
 /// HasSignature comes exactly where a `signature-input` or a `signature` field is there already. An `Err` changes nothing.
 pub fn sign(
     alloc: Global,

@@ -8,7 +8,8 @@ ghost use Rattle.structured_fields.specs.declared.bare.Bare.TheVariants.{Integer
 ghost use Rattle.hmac_key.specs.Hmac.{hmac_sha256};
 ghost use Rattle.message_signature.specs.declared.fault.SigFault.TheVariants.{Unsupported, UnknownKey};
 ghost use Rattle.message_signature.specs.Base.{signature_base};
-ghost use Rattle.message_signature.specs.Faults.{Gives, need, must};
+ghost use Rattle.message_signature.specs.Components.{field_value};
+ghost use Rattle.message_signature.specs.Faults.{Gives, need};
 ghost use Rattle.message_signature.specs.Marked.{id_and_mark, judged_with_mark, verified_marked};
 ghost use Rattle.message_signature.specs.Verified.{absent_or, covers_enough, is_in_window, is_not_expired, key_in, has_right_digest, admitted, made_under, judged_over, judged, verified};
 
@@ -17,7 +18,6 @@ use crate::components::{field_value, has_body, has_field};
 use crate::fault::{BaseFault, SigFault};
 use crate::lone::signature_of;
 use crate::marks::{SignatureMark, mark_in};
-use crate::tags::must;
 use bytes_and_lists::bytes::Bytes;
 use bytes_and_lists::memory::{Duplicate, Mem};
 use bytes_and_lists::message::Message;
@@ -116,33 +116,43 @@ fn is_hmac(bytes: &Bytes, key: &HmacKey, text: &Bytes) -> bool
     same(bytes.as_slice(), &key.hmac(text.as_slice()))
 }
 
-fn has_right_digest(alloc: Global, message: &Message) -> Result<bool, Mem>
+// Whether the digest that the field tells is right.
+fn is_right_digest(alloc: Global, message: &Message, field: &[u8]) -> Result<bool, Mem>
+    requires { field_value (codes "content-digest") message.now.fields ≡ Some field.now }
     ensures { IfOk result (λ right. right ≡ has_right_digest message.now) }
 {
-    let Some(field) = field_value(alloc, &message.fields, b"content-digest")? else {
-        return Ok(!has_body(message));
-    };
-    match content_digest::check(alloc, field.as_slice(), message.body.as_slice()) {
+    match content_digest::check(alloc, field, message.body.as_slice()) {
         Ok(()) => Ok(true),
         Err(DigestFault::OutOfMemory) => Err(Mem),
         Err(_) => Ok(false),
     }
 }
 
+fn has_right_digest(alloc: Global, message: &Message) -> Result<bool, Mem>
+    ensures { IfOk result (λ right. right ≡ has_right_digest message.now) }
+{
+    let Some(field) = field_value(alloc, &message.fields, b"content-digest")? else {
+        return Ok(!has_body(message));
+    };
+    is_right_digest(alloc, message, field.as_slice())
+}
+
 #[tactic(auto, unfolding(crate::specs::Verified::admitted))]
 fn admit(message: &Message, now: u64, list: &InnerList) -> Result<(), SigFault>
     ensures { result ≡ admitted message.now now list.now }
 {
-    must(SigFault::Uncovered, covers_enough(message, list))?;
-    must(
-        SigFault::Created,
-        is_in_window(now, list.params.get(b"created")),
-    )?;
-    must(
-        SigFault::Expired,
-        is_not_expired(now, list.params.get(b"expires")),
-    )?;
-    must(SigFault::Alg, is_right_alg(list.params.get(b"alg")))?;
+    if !covers_enough(message, list) {
+        return Err(SigFault::Uncovered);
+    }
+    if !is_in_window(now, list.params.get(b"created")) {
+        return Err(SigFault::Created);
+    }
+    if !is_not_expired(now, list.params.get(b"expires")) {
+        return Err(SigFault::Expired);
+    }
+    if !is_right_alg(list.params.get(b"alg")) {
+        return Err(SigFault::Alg);
+    }
     Ok(())
 }
 
@@ -158,8 +168,12 @@ fn made_under(
     ensures { Gives (λ id. id) result (made_under message.now text.now ring.now list.now bytes.now) }
 {
     let (id, key) = key_of(ring, list)?;
-    must(SigFault::Differs, is_hmac(bytes, key, text))?;
-    must(SigFault::Digest, has_right_digest(alloc, message)?)?;
+    if !is_hmac(bytes, key, text) {
+        return Err(SigFault::Differs);
+    }
+    if !has_right_digest(alloc, message)? {
+        return Err(SigFault::Digest);
+    }
     Ok(id.copy()?)
 }
 
@@ -193,14 +207,17 @@ fn judged_list(
     list: &InnerList,
     bytes: &Bytes,
 ) -> Result<Bytes, SigFault>
-    ensures { (label : List ℕ) → Gives (λ id. id) result (judged message.now base.now ring.now now (record { label = label; list = list.now; bytes = bytes.now })) }
+    ensures { (label : List ℕ) → Gives (λ id. id) result
+        (judged message.now base.now ring.now now (record { label = label; list = list.now; bytes = bytes.now })) }
 {
     let text = base_under(alloc, message, base, list)?;
     check_tagged(alloc, message, &text, ring, now, list, bytes)
 }
 
-/// The id of the key that signed a message which came to the server with this base (RFC 9421, section 3.2). The signature is the one whose parameter `tag` is this tag, and others are passed over; it is the HMAC-SHA-256 (section 3.3.3) of the signature base (section 2.5) under a key of the ring.
-/// The base is scheme, `://` and authority, without a `/` at its end. `now`, `created` and `expires` are in seconds since 1970. Parameters of other names, as `nonce`, are signed and not looked at.
+/// The id of the key that signed a message which came to the server with this base (RFC 9421, section 3.2). The signature is the one whose parameter `tag` is
+/// this tag, and others are passed over; it is the HMAC-SHA-256 (section 3.3.3) of the signature base (section 2.5) under a key of the ring.
+/// The base is scheme, `://` and authority, without a `/` at its end. `now`, `created` and `expires` are in seconds since 1970. Parameters of other names, as
+/// `nonce`, are signed and not looked at.
 ///
 /// Errors: the first fault that is so, in the order of `SigFault`. OutOfMemory may come in place of any answer.
 pub fn verify(
@@ -226,7 +243,8 @@ fn id_and_mark_of(
     list: &InnerList,
     bytes: &Bytes,
 ) -> Result<(Bytes, Option<SignatureMark>), SigFault>
-    ensures { (label : List ℕ) → Gives (λ x. x) result (judged_with_mark message.now base.now ring.now now (record { label = label; list = list.now; bytes = bytes.now })) }
+    ensures { (label : List ℕ) → Gives (λ x. x) result
+        (judged_with_mark message.now base.now ring.now now (record { label = label; list = list.now; bytes = bytes.now })) }
 {
     let id = judged_list(alloc, message, base, ring, now, list, bytes)?;
     Ok((id, mark_in(list)?))

@@ -124,7 +124,8 @@ any_next texts key nonce k n places place is next =
     ∙ ap (λ b. list_any (is_at texts k n) places || b) (or-false (is_at (texts ++ (key ++ nonce)) k n place)
     ∙ at_next texts key nonce k n place next)
 
-pub next_within : (texts key nonce : List ℕ) (place : Place) → IsNext (length texts) (length key) (length nonce) place → is_within (length (texts ++ (key ++ nonce))) place ≡ true
+pub next_within : (texts key nonce : List ℕ) (place : Place) → IsNext (length texts) (length key) (length nonce) place
+    → is_within (length (texts ++ (key ++ nonce))) place ≡ true
 next_within texts key nonce place next =
     let starts = next.starts in
     let middle = next.middle in

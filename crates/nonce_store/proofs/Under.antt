@@ -81,7 +81,8 @@ pub sum_inserted : {X : Type 0} (f : X → ℕ) (old new : BTreeMap (Vec ℕ) X)
     → sum_by f (values_of new.entries) ≡ sum_by f (values_of old.entries) + f value
 sum_inserted {X} f old new key value ordered is none =
     let sums = sum_by-insert_entry f text_total old.entries key value ordered in
-    let new_is : sum_by f (values_of new.entries) ≡ sum_by f (values_of (insert_entry text_order old.entries key value)) = ap (λ (es : List (Vec ℕ × X)). sum_by f (values_of es)) is in
+    let new_is : sum_by f (values_of new.entries)
+    ≡ sum_by f (values_of (insert_entry text_order old.entries key value)) = ap (λ (es : List (Vec ℕ × X)). sum_by f (values_of es)) is in
     let nothing : unwrap_or (option_map f (lookup (is_at (text_order key)) old.entries)) 0 ≡ 0 = ap (λ (o : Option X). unwrap_or (option_map f o) 0) none in
     omega (arith, sums, new_is, nothing)
 
@@ -168,7 +169,8 @@ until_first keys new key kept nonce empty untils end same absent none updates ro
     rows q ∙ ap (λ (es : List (Vec ℕ × ℕ)). cond (bytes_eq nonce q) (Some end) (lookup (λ (v : Vec ℕ). is_eq (slice_cmp nat_cmp q v.items)) es)) none
     ∙ sym (ap (λ (o : Option Untils). cond (bytes_eq nonce q) (Some end) (option_and_then (λ (u : Untils). under u q) o)) absent))
 
-pub many_first : (keys new : Keys) (key : List ℕ) (kept : Vec ℕ) (empty untils : Untils) (end m : ℕ) → kept.items ≡ key → under keys key ≡ None → empty.entries ≡ []
+pub many_first : (keys new : Keys) (key : List ℕ) (kept : Vec ℕ) (empty untils : Untils) (end m : ℕ) → kept.items ≡ key → under keys key ≡ None
+    → empty.entries ≡ []
     → IsOrdered text_order keys → new.entries ≡ insert_entry text_order keys.entries kept untils
     → many_of m untils ≡ many_of m empty + (if nat_le m end then 1 else 0)
     → many_in new m ≡ many_in keys m + (if nat_le m end then 1 else 0)
@@ -342,7 +344,8 @@ counted_more keys new count end was more =
     let one : one_where (nat_le 0 end) ≡ 1 = ap one_where (le-leb 0 end (omega arith)) in
     omega (arith, was, now, one)
 
-pub counted_less : (keys new : Keys) (key nonce : List ℕ) (count : ℕ) (there b : Bool) → there ≡ is_some (until_in keys key nonce) → there ≡ b → count ≡ many_in keys 0
+pub counted_less : (keys new : Keys) (key nonce : List ℕ) (count : ℕ) (there b : Bool) → there ≡ is_some (until_in keys key nonce) → there ≡ b
+    → count ≡ many_in keys 0
     → ((m : ℕ) → many_in new m + (if is_live_at m (until_in keys key nonce) then 1 else 0) ≡ many_in keys m) → many_in new 0 + one_where b ≡ count
 counted_less keys new key nonce count there b is same was less =
     let now = less 0 in

@@ -24,8 +24,7 @@ pub fn note(
     ensures err { OnErr result ((e : ℕ) (k n : List ℕ) → is_noted seconds.new e k n ≡ is_noted seconds.old e k n) }
 {
     if let Some(run) = seconds.get_mut(&end) {
-        run.push(key, nonce)?;
-        return Ok(());
+        return run.push(key, nonce);
     }
     let mut run = Run::new(alloc);
     run.push(key, nonce)?;

@@ -21,7 +21,8 @@ before key_of items m i key x is ascending at below le =
     grind (arith, nat_tests, there, low, below)
 
 -- the item in the middle has no smaller key, nor have those after it
-pub after : {A : Type 0} (key_of : A → ℕ) (items : List A) (m i key : ℕ) (x : A) → x ≡ get_or items m x → IsAscending (map key_of items) → m ≤ i → i < length (map key_of items)
+pub after : {A : Type 0} (key_of : A → ℕ) (items : List A) (m i key : ℕ) (x : A) → x ≡ get_or items m x → IsAscending (map key_of items) → m ≤ i
+    → i < length (map key_of items)
     → false ≡ nat_lt (key_of x) key → key ≤ slice_index (map key_of items) i
 after key_of items m i key x is ascending le at above =
     let many = length-map items key_of in

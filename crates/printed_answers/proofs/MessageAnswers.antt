@@ -17,12 +17,15 @@ module _ (answers : Result (List ℕ) (List ℕ) → Type 0) (before after : Tol
   abbrev pub IsRefusal : List ℕ → Type 0
   IsRefusal line = (name : List ℕ) × answers (Err name) × (line ≡ refused_line name)
 
-  pub prints_text : (text : List ℕ) → answers (Ok text) → PrintsAnswer (λ line. line ≡ text) (λ line. ⊥) before after ended → PrintsFor answers before after ended
+  pub prints_text : (text : List ℕ) → answers (Ok text) → PrintsAnswer (λ line. line ≡ text) (λ line. ⊥) before after ended
+      → PrintsFor answers before after ended
   prints_text text is prints =
-      prints_weaker (λ line. line ≡ text) (λ line. ⊥) (λ line. answers (Ok line)) IsRefusal (λ line same. subst (λ t. answers (Ok t)) (sym same) is) (λ line no. absurd no)
+      prints_weaker (λ line. line ≡ text) (λ line. ⊥) (λ line. answers (Ok line)) IsRefusal (λ line same. subst (λ t. answers (Ok t)) (sym same) is)
+      (λ line no. absurd no)
       before after ended prints
 
-  nothing : (last : Ended) → EndsPrinting (λ text. answers (Ok text)) IsRefusal last [] → (after ≡ before) × (ended ≡ last) → PrintsFor answers before after ended
+  nothing : (last : Ended) → EndsPrinting (λ text. answers (Ok text)) IsRefusal last [] → (after ≡ before) × (ended ≡ last)
+      → PrintsFor answers before after ended
   nothing last ends is =
       let N : Told → Type 0 = λ told. PrintsFor answers before told last in
       let none : N before = record { sent = []; told = writes_none before; ends = ends } in
@@ -31,7 +34,8 @@ module _ (answers : Result (List ℕ) (List ℕ) → Type 0) (before after : Tol
 
   pub prints_fault : (fault : FileFault) → Gives answers (Err fault) → PrintsFault fault before after ended → PrintsFor answers before after ended
   prints_fault (file_faults.Refused name) is prints =
-      prints_weaker (λ text. ⊥) (λ line. line ≡ refused_line name.now) (λ line. answers (Ok line)) IsRefusal (λ line no. absurd no) (λ line same. (name.now, is, same))
+      prints_weaker (λ text. ⊥) (λ line. line ≡ refused_line name.now) (λ line. answers (Ok line)) IsRefusal (λ line no. absurd no)
+      (λ line same. (name.now, is, same))
       before after ended prints.0
   prints_fault file_faults.ReadFault is prints = nothing Failed refl prints
   prints_fault file_faults.OutOfMemory is prints = nothing Memory refl prints
@@ -57,8 +61,10 @@ fault_reads (file_faults.Refused name) ended before after faults faults_now prin
     at (inl is) = subst C (sym is) counts
     at (inr (inl is)) = subst C (sym is) counts
     at (inr (inr is)) = subst C (sym is) counts
-fault_reads file_faults.ReadFault ended before after faults faults_now prints counts = subst (λ (e : Ended). CountsReads e faults faults_now) (sym prints.1) counts
-fault_reads file_faults.OutOfMemory ended before after faults faults_now prints counts = subst (λ (e : Ended). CountsReads e faults faults_now) (sym prints.1) counts
+fault_reads file_faults.ReadFault ended before after faults faults_now prints counts = subst (λ (e : Ended). CountsReads e faults faults_now) (sym prints.1)
+    counts
+fault_reads file_faults.OutOfMemory ended before after faults faults_now prints counts = subst (λ (e : Ended). CountsReads e faults faults_now) (sym prints.1)
+    counts
 
 abbrev pub IsFault : Ended → Type 0
 IsFault Refused = Unit {0}

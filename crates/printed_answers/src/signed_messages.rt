@@ -59,7 +59,8 @@ pub fn print_signed<S: Source, O: Sink>(
     requires nonce { IfSome (option_copied nonce) (λ n. is_nonce n ≡ true) }
     requires fresh { (S.told source.old).taken ≡ [] }
     ensures prints { (rest : _) → IsRest (S.told source.new) rest
-        → PrintsFor (SignsFile setup.now key.now created (option_copied nonce.entry) ((S.told source.new).taken ++ rest)) (O.told out.old) (O.told out.new) result }
+        → PrintsFor (SignsFile setup.now key.now created (option_copied nonce.entry) ((S.told source.new).taken ++ rest)) (O.told out.old) (O.told out.new)
+        result }
     ensures leaves { Leaves (S.told source.new).taken (S.told source.old).left (S.told source.new).left }
     ensures reads { CountsReads result (S.faults source.old) (S.faults source.new) }
     ensures writes { CountsWrites result (O.faults out.old) (O.faults out.new) }

@@ -42,7 +42,8 @@ plain_short h few =
     omega arith
 
 -- the core has such a history
-pub short_within : {S : Type 0} (stands : S → List Event → Type 0) (rules : S → Setup) (core advanced : S) (until : List ℕ → List ℕ → Option ℕ) (many : ℕ → ℕ) (latest : ℕ)
+pub short_within : {S : Type 0} (stands : S → List Event → Type 0) (rules : S → Setup) (core advanced : S) (until : List ℕ → List ℕ → Option ℕ) (many : ℕ → ℕ)
+    (latest : ℕ)
     → advanced ≡ core
     → (h : List SignedEvent) × SignedStands SignedFits (stands core) until many (rules core) latest h × (length h < 2 ^ 58)
     → (p : List Event) × stands advanced p × (length p < 2 ^ 58)
@@ -51,7 +52,8 @@ short_within stands rules core advanced until many latest same short =
 
 -- the mark is refused
 pub next_refused : {S : Type 0} (stands : S → List Event → Type 0) (rules : S → Setup) (core advanced final : S)
-    (until next : List ℕ → List ℕ → Option ℕ) (many count : ℕ → ℕ) (latest next_latest : ℕ) (h : List SignedEvent) (moment : ℕ) (draw : List ℕ) (signed : Signed)
+    (until next : List ℕ → List ℕ → Option ℕ) (many count : ℕ → ℕ) (latest next_latest : ℕ) (h : List SignedEvent) (moment : ℕ) (draw : List ℕ)
+    (signed : Signed)
     → advanced ≡ core → rules final ≡ rules advanced → next_latest ≡ max latest moment
     → ((p : List Event) (draw : List ℕ) → stands advanced p → Lapses grants (rules advanced) p moment draw (stands final))
     → SignedFits signed → moment ≤ last_moment
@@ -63,9 +65,12 @@ next_refused stands rules core advanced final until next many count latest next_
     let r : rules final ≡ rules core = kept ∙ ap rules same in
     let passed = subst (λ x. Lapses grants (rules x) (plain_history h) moment draw (stands final)) same
     (lapses (plain_history h) draw (subst (λ x. stands x (plain_history h)) (sym same) here.within)) in
-    subst (λ n. Answers gnap (rules core) h moment draw signed (Error InvalidClient) (λ k. SignedStands SignedFits (stands final) next count (rules final) n k)) (sym top)
-    (subst (λ y. Answers gnap (rules core) h moment draw signed (Error InvalidClient) (λ k. SignedStands SignedFits (stands final) next count y (max latest moment) k)) (sym r)
-    (signed-refused GnapFits SignedFits (stands core) (stands final) until next many count (rules core) latest h moment draw signed here fit time is passed tells))
+    subst (λ n. Answers gnap (rules core) h moment draw signed (Error InvalidClient) (λ k. SignedStands SignedFits (stands final) next count (rules final) n k))
+    (sym top)
+    (subst (λ y. Answers gnap (rules core) h moment draw signed (Error InvalidClient)
+    (λ k. SignedStands SignedFits (stands final) next count y (max latest moment) k)) (sym r)
+    (signed-refused GnapFits SignedFits (stands core) (stands final) until next many count (rules core) latest h moment draw signed here fit time is passed
+    tells))
 
 -- memory was wanting
 pub next_lapses : {S : Type 0} (stands : S → List Event → Type 0) (rules : S → Setup) (core advanced final : S)
@@ -87,7 +92,8 @@ next_lapses stands rules core advanced final until next many count latest next_l
 
 -- the call is answered
 pub next_accepted : {S : Type 0} (stands : S → List Event → Type 0) (rules : S → Setup) (core advanced final : S)
-    (until next : List ℕ → List ℕ → Option ℕ) (many count : ℕ → ℕ) (latest next_latest : ℕ) (h : List SignedEvent) (moment : ℕ) (draw : List ℕ) (signed : Signed) (reply : Reply)
+    (until next : List ℕ → List ℕ → Option ℕ) (many count : ℕ → ℕ) (latest next_latest : ℕ) (h : List SignedEvent) (moment : ℕ) (draw : List ℕ)
+    (signed : Signed) (reply : Reply)
     → advanced ≡ core → rules final ≡ rules advanced → next_latest ≡ max latest moment
     → ((p : List Event) → stands advanced p → Answers grants (rules advanced) p moment draw signed.call reply (stands final))
     → SignedFits signed → moment ≤ last_moment
@@ -95,13 +101,15 @@ pub next_accepted : {S : Type 0} (stands : S → List Event → Type 0) (rules :
     → TellsOf next count (notes_of h ++ mark_notes signed) (max latest moment)
     → SignedStands SignedFits (stands core) until many (rules core) latest h
     → Answers gnap (rules core) h moment draw signed reply (λ k. SignedStands SignedFits (stands final) next count (rules final) next_latest k)
-next_accepted stands rules core advanced final until next many count latest next_latest h moment draw signed reply same kept top answers fit time is tells here =
+next_accepted stands rules core advanced final until next many count latest next_latest h moment draw signed reply same kept top answers fit time is tells
+    here =
     let r : rules final ≡ rules core = kept ∙ ap rules same in
     let passed = subst (λ x. Answers grants (rules x) (plain_history h) moment draw signed.call reply (stands final)) same
     (answers (plain_history h) (subst (λ x. stands x (plain_history h)) (sym same) here.within)) in
     subst (λ n. Answers gnap (rules core) h moment draw signed reply (λ k. SignedStands SignedFits (stands final) next count (rules final) n k)) (sym top)
     (subst (λ y. Answers gnap (rules core) h moment draw signed reply (λ k. SignedStands SignedFits (stands final) next count y (max latest moment) k)) (sym r)
-    (signed-accepted GnapFits SignedFits (stands core) (stands final) until next many count (rules core) latest h moment draw signed reply here fit time is passed tells))
+    (signed-accepted GnapFits SignedFits (stands core) (stands final) until next many count (rules core) latest h moment draw signed reply here fit time is
+    passed tells))
 
 -- ---- the test of the mark
 
@@ -109,7 +117,8 @@ pub no_mark_open : (h : List SignedEvent) (moment : ℕ) (signed : Signed) → s
     → refuses (notes_of h) (now h moment) (caller signed.call) signed.mark ≡ false
 no_mark_open h moment signed is = ap (refuses (notes_of h) (now h moment) (caller signed.call)) is
 
-pub mark_test : (until : List ℕ → List ℕ → Option ℕ) (many : ℕ → ℕ) (h : List SignedEvent) (latest next_latest moment : ℕ) (signed : Signed) (mark : Mark) (b : Bool)
+pub mark_test : (until : List ℕ → List ℕ → Option ℕ) (many : ℕ → ℕ) (h : List SignedEvent) (latest next_latest moment : ℕ) (signed : Signed) (mark : Mark)
+    (b : Bool)
     → signed.mark ≡ Some mark → next_latest ≡ max latest moment → now h 0 ≡ latest → TellsOf until many (notes_of h) (max latest moment)
     → (nat_lt (mark.created + mark_time) next_latest || is_live_at next_latest (until (caller signed.call) mark.nonce)) ≡ b
     → refuses (notes_of h) (now h moment) (caller signed.call) signed.mark ≡ b
@@ -155,7 +164,8 @@ pub absent : (until : List ℕ → List ℕ → Option ℕ) (many : ℕ → ℕ)
 absent until many notes n next key nonce top tells dead =
     none_there (until key nonce) (tells.none_over key nonce ∙ sym (ap (λ x. is_live_at x (until key nonce)) top) ∙ dead)
 
-pub tells_marked : (until more : List ℕ → List ℕ → Option ℕ) (many count : ℕ → ℕ) (notes : List SignedNote) (n next : ℕ) (signed : Signed) (mark : Mark) (key : List ℕ)
+pub tells_marked : (until more : List ℕ → List ℕ → Option ℕ) (many count : ℕ → ℕ) (notes : List SignedNote) (n next : ℕ) (signed : Signed) (mark : Mark)
+    (key : List ℕ)
     → key ≡ caller signed.call → signed.mark ≡ Some mark → is_remembered signed.call ≡ true
     → HasOneMore until many key mark.nonce (mark.created + mark_time) more count → next ≡ n → is_live_at next (until key mark.nonce) ≡ false
     → next ≤ mark.created + mark_time → TellsOf until many notes n → TellsOf more count (notes ++ mark_notes signed) n

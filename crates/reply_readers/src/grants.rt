@@ -10,7 +10,10 @@ ghost use Rattle.reply_readers.specs.Members.{there, where_there, tested};
 ghost use Rattle.reply_readers.specs.Grants.{continue_of, only_item, subject_in, subject_of, code_uri_in, code_of, uri_of, interaction_of, granted_of, pending_of, continuing_of, rotated_of, has, given_of};
 
 use crate::grant_reply::{GrantReply, Interaction, ReplyKind};
-use crate::members::{FormFault, checked_value, needed, needed_number, needed_text, optional_text};
+use crate::members::{
+    FormFault, checked_value, needed, needed_number, needed_str, needed_text, optional_str,
+    optional_text,
+};
 use crate::tokens::{token_of, tokens_of};
 use bytes_and_lists::bytes::Bytes;
 use json_objects::member;
@@ -23,7 +26,7 @@ fn continue_of(alloc: Global, value: &Value) -> Result<Bytes, FormFault>
 {
     let continuation = needed(value, "continue")?;
     let token = needed(continuation, "access_token")?;
-    let _uri = needed_text(alloc, continuation, "uri")?;
+    let _uri = needed_str(continuation, "uri")?;
     let _wait = needed_number(continuation, "wait")?;
     checked_value(needed_text(alloc, token, "value")?)
 }
@@ -48,10 +51,10 @@ fn items_of(value: &Value) -> Result<&Vec<Value>, FormFault>
     }
 }
 
-fn opaque(text: Bytes) -> Result<Bytes, FormFault>
-    ensures { Gives OutOfMemory (λ b. b) result (tested (bytes_eq (codes "opaque")) text) }
+fn opaque(text: &str) -> Result<&str, FormFault>
+    ensures { Gives OutOfMemory (λ s. s.now) result (tested (bytes_eq (codes "opaque")) text.now) }
 {
-    if b"opaque".as_slice() == text.as_slice() {
+    if "opaque" == text {
         Ok(text)
     } else {
         Err(FormFault::NotOfForm)
@@ -65,7 +68,7 @@ fn subject_in(alloc: Global, value: &Value) -> Result<Bytes, FormFault>
     let sub_ids = needed(value, "sub_ids")?;
     let items = items_of(sub_ids)?;
     let sub_id = only_item(items)?;
-    let _format = opaque(needed_text(alloc, sub_id, "format")?)?;
+    let _format = opaque(needed_str(sub_id, "format")?)?;
     needed_text(alloc, sub_id, "id")
 }
 
@@ -134,7 +137,7 @@ fn granted_of(alloc: Global, value: &Value) -> Result<GrantReply, FormFault>
 {
     let tokens = tokens_of(alloc, value)?;
     let door = continue_of(alloc, value)?;
-    let _instance = optional_text(alloc, value, "instance_id")?;
+    let _instance = optional_str(value, "instance_id")?;
     let subject = subject_of(alloc, value)?;
     Ok(GrantReply::Granted {
         door,
@@ -148,7 +151,7 @@ fn pending_of(alloc: Global, value: &Value) -> Result<GrantReply, FormFault>
     ensures { Gives OutOfMemory (λ v. v) result (pending_of (view value.now)) }
 {
     let door = continue_of(alloc, value)?;
-    let _instance = optional_text(alloc, value, "instance_id")?;
+    let _instance = optional_str(value, "instance_id")?;
     let interact = needed(value, "interact")?;
     let interaction = interaction_of(alloc, interact)?;
     Ok(GrantReply::Pending { door, interaction })

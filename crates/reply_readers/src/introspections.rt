@@ -8,7 +8,7 @@ ghost use Rattle.reply_readers.specs.Introspections.{key_of, needed_flag, active
 
 use crate::judgement::Judgement;
 use crate::members::{
-    FormFault, bearer_of, needed, needed_number, needed_rights, needed_text, optional_text,
+    FormFault, bearer_of, needed, needed_number, needed_rights, needed_str, optional_text,
 };
 use crate::reading::object_of;
 use bytes_and_lists::bytes::Bytes;
@@ -17,7 +17,7 @@ use serde_json::Value;
 use std::alloc::Global;
 
 // The key of a bound token: a token has a key or the flag, and not both.
-fn key_of(bearer: bool, instance: &Bytes, key: Option<Bytes>) -> Result<Option<Bytes>, FormFault>
+fn key_of(bearer: bool, instance: &str, key: Option<Bytes>) -> Result<Option<Bytes>, FormFault>
     ensures { Gives OutOfMemory (λ k. k) result (key_of bearer instance.now key) }
 {
     match key {
@@ -26,7 +26,7 @@ fn key_of(bearer: bool, instance: &Bytes, key: Option<Bytes>) -> Result<Option<B
         } else {
             Err(FormFault::NotOfForm)
         },
-        Some(key) => if !bearer && key.as_slice() == instance.as_slice() {
+        Some(key) => if !bearer && key.as_slice() == instance.as_bytes() {
             Ok(Some(key))
         } else {
             Err(FormFault::NotOfForm)
@@ -43,10 +43,10 @@ fn active_of(alloc: Global, value: &Value) -> Result<Judgement, FormFault>
     let exp = needed_number(value, "exp")?;
     let bearer = bearer_of(value)?;
     let _iat = needed_number(value, "iat")?;
-    let instance = needed_text(alloc, value, "instance_id")?;
-    let _iss = needed_text(alloc, value, "iss")?;
+    let instance = needed_str(value, "instance_id")?;
+    let _iss = needed_str(value, "iss")?;
     let named = optional_text(alloc, value, "key")?;
-    let key = key_of(bearer, &instance, named)?;
+    let key = key_of(bearer, instance, named)?;
     Ok(Judgement::Active { access, key, exp })
 }
 

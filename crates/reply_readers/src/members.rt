@@ -1,5 +1,5 @@
 //! Members of a reply's objects.
-ghost use Rattle.std.specs.Prelude.{◌≡◌, ◌==◌, if◌then◌else◌, length, Some, None, IfOk};
+ghost use Rattle.std.specs.Prelude.{◌≡◌, ◌==◌, if◌then◌else◌, length, Some, None, IfOk, option_map};
 ghost use Rattle.serde_json.specs.Find.{as_str};
 ghost use Rattle.serde_json.specs.View.{view, items_view};
 ghost use Rattle.json_objects.specs.Bodies.{IsBody};
@@ -38,6 +38,31 @@ pub(crate) fn needed<'v>(value: &'v Value, name: &str) -> Result<&'v Value, Form
     match member(value, name) {
         Some(member) => Ok(member),
         None => Err(FormFault::NotOfForm),
+    }
+}
+
+fn str_of(value: &Value) -> Result<&str, FormFault>
+    ensures { Gives OutOfMemory (λ s. s.now) result (text_of (view value.now)) }
+{
+    match value.as_str() {
+        Some(text) => Ok(text),
+        None => Err(FormFault::NotOfForm),
+    }
+}
+
+// The text, where it isn't kept.
+pub(crate) fn needed_str<'v>(value: &'v Value, name: &str) -> Result<&'v str, FormFault>
+    ensures { Gives OutOfMemory (λ s. s.now) result (needed_text name.now (view value.now)) }
+{
+    str_of(needed(value, name)?)
+}
+
+pub(crate) fn optional_str<'v>(value: &'v Value, name: &str) -> Result<Option<&'v str>, FormFault>
+    ensures { Gives OutOfMemory (option_map (λ s. s.now)) result (optional_text name.now (view value.now)) }
+{
+    match member(value, name) {
+        None => Ok(None),
+        Some(member) => Ok(Some(str_of(member)?)),
     }
 }
 
@@ -97,13 +122,13 @@ fn array_of(text: &[u8]) -> Option<[u8; 32]>
     }
 }
 
-pub(crate) fn checked_drawn(text: Bytes) -> Result<[u8; 32], FormFault>
-    ensures { Gives OutOfMemory (λ b. b) result (tested is_drawn text) }
+pub(crate) fn checked_drawn(text: &str) -> Result<[u8; 32], FormFault>
+    ensures { Gives OutOfMemory (λ b. b) result (tested is_drawn text.now) }
 {
-    if !all_value_bytes(text.as_slice()) {
+    if !all_value_bytes(text.as_bytes()) {
         return Err(FormFault::NotOfForm);
     }
-    match array_of(text.as_slice()) {
+    match array_of(text.as_bytes()) {
         Some(array) => Ok(array),
         None => Err(FormFault::NotOfForm),
     }

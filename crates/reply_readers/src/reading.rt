@@ -54,7 +54,7 @@ fn reply_of(
     if status == 200 {
         given_of(alloc, kind, &value)
     } else {
-        refused_of(alloc, status, &value)
+        refused_of(status, &value)
     }
 }
 

@@ -8,10 +8,9 @@ ghost use Rattle.reply_readers.specs.declared.members.FormFault.TheVariants.{Out
 ghost use Rattle.reply_readers.specs.Grants.{code_named, refused_of};
 
 use crate::grant_reply::GrantReply;
-use crate::members::{FormFault, needed, needed_text};
+use crate::members::{FormFault, needed, needed_str};
 use gnap_model::objects::ErrorCode;
 use serde_json::Value;
-use std::alloc::Global;
 
 fn is_code(text: &[u8], code: ErrorCode) -> bool
     ensures { result ≡ bytes_eq text.now (error_text code) }
@@ -59,12 +58,12 @@ fn code_named(text: &[u8]) -> Result<ErrorCode, FormFault>
 }
 
 #[tactic(auto, unfolding(crate::specs::Grants::refused_of))]
-pub(crate) fn refused_of(alloc: Global, status: u16, value: &Value) -> Result<GrantReply, FormFault>
+pub(crate) fn refused_of(status: u16, value: &Value) -> Result<GrantReply, FormFault>
     ensures { Gives OutOfMemory (λ r. r) result (refused_of status (view value.now)) }
 {
     let error = needed(value, "error")?;
-    let text = needed_text(alloc, error, "code")?;
-    let code = code_named(text.as_slice())?;
+    let text = needed_str(error, "code")?;
+    let code = code_named(text.as_bytes())?;
     if status == code.status() {
         Ok(GrantReply::Refused { code })
     } else {

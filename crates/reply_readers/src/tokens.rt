@@ -6,7 +6,7 @@ ghost use Rattle.reply_readers.specs.declared.members.FormFault.TheVariants.{Out
 ghost use Rattle.reply_readers.specs.Grants.{manage_of, token_of, tokens_in, tokens_of, some_tokens};
 
 use crate::members::{
-    FormFault, bearer_of, checked_drawn, needed, needed_number, needed_rights, needed_text,
+    FormFault, bearer_of, checked_drawn, needed, needed_number, needed_rights, needed_str,
     optional_text,
 };
 use bytes_and_lists::seq::Seq;
@@ -16,13 +16,13 @@ use serde_json::Value;
 use std::alloc::Global;
 
 #[tactic(auto, unfolding(crate::specs::Grants::manage_of))]
-fn manage_of(alloc: Global, value: &Value) -> Result<[u8; 32], FormFault>
+fn manage_of(value: &Value) -> Result<[u8; 32], FormFault>
     ensures { Gives OutOfMemory (λ v. v) result (manage_of (view value.now)) }
 {
     let manage = needed(value, "manage")?;
     let token = needed(manage, "access_token")?;
-    let _uri = needed_text(alloc, manage, "uri")?;
-    checked_drawn(needed_text(alloc, token, "value")?)
+    let _uri = needed_str(manage, "uri")?;
+    checked_drawn(needed_str(token, "value")?)
 }
 
 #[tactic(auto, unfolding(crate::specs::Grants::token_of))]
@@ -34,8 +34,8 @@ pub(crate) fn token_of(alloc: Global, value: &Value) -> Result<TokenOut, FormFau
     let expires_in = needed_number(value, "expires_in")?;
     let bearer = bearer_of(value)?;
     let label = optional_text(alloc, value, "label")?;
-    let manage = manage_of(alloc, value)?;
-    let value = checked_drawn(needed_text(alloc, value, "value")?)?;
+    let manage = manage_of(value)?;
+    let value = checked_drawn(needed_str(value, "value")?)?;
     Ok(TokenOut {
         value,
         manage,

@@ -123,7 +123,14 @@ module _ (setup : Setup) (number : ℕ) (line text : List ℕ) where
         by (Accepted call) made e = absurd cc
         by (Refused code) made e =
             said code e
-            (inl (kind, key, line_body (get (codes "body") d), (name, is, kind_is), call_refused setup kind key value (line_body (get (codes "body") d)) code made))
+            (inl (
+              kind,
+              key,
+              line_body (get (codes "body") d),
+              (name, is, kind_is),
+              call_refused setup kind key value (line_body (get (codes "body") d)) code
+                  made,
+            ))
 
     formed : (moment : Option ℕ) (name key value draw : Option (List ℕ)) (body_form : Bool) (mark : Option (Option (List ℕ))) (created : Option (Option ℕ))
         → moment_of d ≡ moment → text_under (codes "call") d ≡ name → text_under (codes "key") d ≡ key → value_of d ≡ value → draw_of d ≡ draw
@@ -145,7 +152,8 @@ module _ (setup : Setup) (number : ℕ) (line text : List ℕ) where
         no_line e (lacks nonce_in nonce_is (λ name key body is. is.nonce))
     formed (Some at) (Some name) (Some key) (Some value) (Some draw) true (Some mark) None at_is name_is key_is value_is draw_is form_is nonce_is created_is e =
         no_line e (lacks created_in created_is (λ name key body is. is.created))
-    formed (Some at) (Some name) (Some key) (Some value) (Some draw) true (Some mark) (Some created) at_is name_is key_is value_is draw_is form_is nonce_is created_is e =
+    formed (Some at) (Some name) (Some key) (Some value) (Some draw) true (Some mark) (Some created) at_is name_is key_is value_is draw_is form_is nonce_is
+        created_is e =
         called at draw _ name key value
         (record {
           text = utf8;

@@ -213,12 +213,14 @@ pub judged_fault : (setup : RsSetup) (m : Message) (now j : ℕ) (wanted : List 
     → Judged setup m now j wanted answered answer → answer ≡ guarded.LinkFault → answered ≡ Err link_faults.Failed
 judged_fault setup m now j wanted _ _ (said reply says s) e = absurd (never_fault setup m now j wanted says e)
   where
-    by : (a b : Bool) (i : ℕ) → (if not a then guarded.Deny 403 why.TooNarrow else (if b then guarded.Allow i else guarded.Deny 401 why.Signature)) ≡ guarded.LinkFault → ⊥
+    by : (a b : Bool) (i : ℕ) → (if not a then guarded.Deny 403 why.TooNarrow else (if b then guarded.Allow i else guarded.Deny 401 why.Signature))
+        ≡ guarded.LinkFault → ⊥
     by true true i e = absurd (cc)
     by true false i e = absurd (cc)
     by false b i e = absurd (cc)
 
-    never_fault : (setup : RsSetup) (m : Message) (now j : ℕ) (wanted : List Right) (says : Judgement) → answer_of setup m now j wanted says ≡ guarded.LinkFault → ⊥
+    never_fault : (setup : RsSetup) (m : Message) (now j : ℕ) (wanted : List Right) (says : Judgement) → answer_of setup m now j wanted says ≡ guarded.LinkFault
+        → ⊥
     never_fault setup m now j wanted Inactive e = absurd (cc)
     never_fault setup m now j wanted (Active access key exp) e = by (covers access wanted) (has_signed setup m now key) j e
 judged_fault setup m now j wanted _ _ (said_nothing reply s) e = absurd (cc)
@@ -259,5 +261,6 @@ pub fault_rose : (setup : RsSetup) (m : Message) (now : ℕ) (before after : Lin
     → answer ≡ guarded.LinkFault → Rose before.faults after.faults
 fault_rose setup m now before after answer over is =
     let one : (request : List ℕ) × (over.exchanges ≡ (request, None) ∷ []) = (fault_means_law setup m now over.exchanges answer over.guarded).0 is in
-    let counts : CountsExchanges ((one.0, None) ∷ []) before.faults after.faults = subst (λ es. CountsExchanges es before.faults after.faults) one.1 over.over.counts in
+    let counts : CountsExchanges ((one.0, None) ∷ []) before.faults after.faults = subst (λ es. CountsExchanges es before.faults after.faults) one.1
+    over.over.counts in
     subst (λ n. Rose before.faults n) (sym counts.2) counts.1

@@ -13,4 +13,5 @@ use Rattle.resource_server.specs.Introspecting.{introspection_fields, introspect
 pub introspection_whole : (id : List ℕ) (rights : List Right) (token : Scheme × List ℕ) → AllByRecursion Fits rights
     → has_float (introspection_data id rights token) ≡ false
 unfolding introspection_data
-introspection_whole id rights token fits = onto_whole no_members (introspection_fields id rights token) refl (rights_whole rights fits, (refl, (refl, (refl, tt))))
+introspection_whole id rights token fits = onto_whole no_members (introspection_fields id rights token) refl
+    (rights_whole rights fits, (refl, (refl, (refl, tt))))

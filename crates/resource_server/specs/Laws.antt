@@ -87,7 +87,8 @@ abbrev pub IsCause : RsSetup → Message → ℕ → List Exchange → Why → T
 IsCause setup m now exchanges why.NoRoute = (exchanges ≡ []) × (list_any (has_path (target_path m.target)) setup.routes ≡ false)
 -- a route has it, and none of those has the message's method
 IsCause setup m now exchanges why.NoMethod =
-    (exchanges ≡ []) × (list_any (has_path (target_path m.target)) setup.routes ≡ true) × (list_any (is_route m.method (target_path m.target)) setup.routes ≡ false)
+    (exchanges ≡ []) × (list_any (has_path (target_path m.target)) setup.routes ≡ true)
+    × (list_any (is_route m.method (target_path m.target)) setup.routes ≡ false)
 -- a route has both, and no token is presented in the one `Authorization` field
 IsCause setup m now exchanges why.NoToken =
     (exchanges ≡ []) × (i : ℕ) × (route_of setup.routes m ≡ Ok i) × (presented_at (only_value (filter is_authorization m.fields)) ≡ None)

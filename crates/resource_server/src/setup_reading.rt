@@ -264,7 +264,8 @@ fn only_setup_members(alloc: Global, value: &Value, setup: RsSetup) -> Result<Rs
 ///
 /// It is a JSON object with exactly the members `base` and `server`, addresses of servers (`gnap_objects::forms::is_base`); `id`
 /// (`gnap_objects::forms::is_id`) and `secret`, 16 to 64 bytes in base64 with padding (RFC 4648, section 4), its key at the authorization server; `keys`,
-/// an array of at most 4,096 objects with exactly `id`, which no other key has, and `secret`; and `routes`, an array of 1 to 1,024 objects with exactly `method`, 1 to 15
+/// an array of at most 4,096 objects with exactly `id`, which no other key has, and `secret`; and `routes`, an array of 1 to 1,024 objects with exactly
+/// `method`, 1 to 15
 /// upper-case letters, `path`, which begins with `/`, `right`, a right, and `text`, a string. No two routes have one method and one path. The members are
 /// read in this order, and the first fault is named; a member with another name comes after all others of its object.
 #[tactic(auto, unfolding(crate::specs::RsSetups::rs_setup_of))]

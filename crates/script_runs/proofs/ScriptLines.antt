@@ -45,7 +45,8 @@ script-start first asked held taken source out few = record {
 
 -- the endings that a script has as all lines have them
 module _ (Had : List ScriptTurn → Type 0) (held : List ℕ) (taken taken2 : ℕ) (s s2 o o2 : Told) where
-  same_ends : (ended : Ended) → ((turns : List ScriptTurn) (whole later : List (List ℕ)) (sent : List ℕ) → EndsAs ended turns whole later sent → EndsScript ended turns whole later sent)
+  same_ends : (ended : Ended) → ((turns : List ScriptTurn) (whole later : List (List ℕ)) (sent : List ℕ) → EndsAs ended turns whole later sent
+      → EndsScript ended turns whole later sent)
       → RunsLines Had EndsAs held taken taken2 s s2 o o2 ended → RunsLines Had EndsScript held taken taken2 s s2 o o2 ended
   same_ends ended ends r = runs-weaker Had Had EndsAs EndsScript held taken taken2 s s2 o o2 ended ended (λ turns had. had) ends r
 
@@ -98,7 +99,8 @@ module _ (first : Client) (asked : List Exchange) (last : Client) (asked1 : List
     pub script-had : ScriptHad first asked new asked2 (goes.goes.turns ++ line_turn ∷ [])
     script-had = record {
       each = each_from-next IsScriptTurn 1 goes.goes.turns line_turn goes.goes.had.each (subst (λ (n : ℕ). IsScriptTurn n line_turn) place says.turn.turn);
-      chained = subst (λ (es : List ScriptEntry). Chained first es new) (sym entries_now) (chained_next first (entries_in goes.goes.turns) entry last goes.goes.had.chained refl);
+      chained = subst (λ (es : List ScriptEntry). Chained first es new) (sym entries_now)
+          (chained_next first (entries_in goes.goes.turns) entry last goes.goes.had.chained refl);
       adds = says.turn.adds ∙ ap (λ (x : List Exchange). x ++ says.turn.exchanges) goes.goes.had.adds
           ∙ append_assoc asked (exchanges_in (entries_in goes.goes.turns)) says.turn.exchanges
           ∙ ap (λ (x : List Exchange). asked ++ x) (sym exchanges_now);
@@ -127,7 +129,8 @@ module _ (first : Client) (asked : List Exchange) (last : Client) (asked1 : List
     -- it ended with this line
     module _ (taken2 : ℕ) (s2 : Told) (came : Came bytes taken1 taken2 s1 s2) (is_line : IsLine full) where
       module _ (ends : (rest : List ℕ) → IsRest s2 rest → (later : List (List ℕ)) × (lines_of (held1 ++ bytes ++ rest) ≡ full ∷ later)) where
-        pub script-starved : (o2 ≡ o1) × (bytes_said says.said ≡ []) → RunsLines (ScriptHad first asked new asked2) EndsScript held taken taken2 s s2 o o2 Memory
+        pub script-starved : (o2 ≡ o1) × (bytes_said says.said ≡ [])
+            → RunsLines (ScriptHad first asked new asked2) EndsScript held taken taken2 s s2 o o2 Memory
         script-starved nothing = as_starved (ScriptHad first asked new asked2) held taken taken2 s s2 o o2
             (turned-starved (ScriptHad first asked last asked1) held held1 taken taken1 s s1 o o1 goes.goes full bytes taken2 s2 came is_line o2
             (ScriptHad first asked new asked2) line_turn script-had refl ends nothing)
@@ -141,8 +144,10 @@ module _ (first : Client) (asked : List Exchange) (last : Client) (asked1 : List
 -- ---- a line that was read
 
 module _ (first : Client) (asked : List Exchange) (last : Client) (asked1 : List Exchange) (fine : Bool) (number : ℕ)
-    (held held1 : List ℕ) (taken taken1 : ℕ) (s s1 o o1 : Told) (goes : ScriptGoes first asked last asked1 fine number held held1 taken taken1 s s1 o o1) (line held2 : List ℕ) (taken2 : ℕ) (s2 : Told) (end : LineEnd)
-    (none : stopped end ≡ None) (short : end ≢ line_ends.Long) (read : ReadsLine 1073741824 line held1 held2 taken1 taken2 s1 s2 end) (most : taken2 ≤ 1073741824) where
+    (held held1 : List ℕ) (taken taken1 : ℕ) (s s1 o o1 : Told) (goes : ScriptGoes first asked last asked1 fine number held held1 taken taken1 s s1 o o1)
+    (line held2 : List ℕ) (taken2 : ℕ) (s2 : Told) (end : LineEnd)
+    (none : stopped end ≡ None) (short : end ≢ line_ends.Long) (read : ReadsLine 1073741824 line held1 held2 taken1 taken2 s1 s2 end)
+    (most : taken2 ≤ 1073741824) where
   -- all of it is kept
   pub kept_line : line ≡ read.full
   kept_line =
@@ -187,12 +192,14 @@ module _ (first : Client) (asked : List Exchange) (last : Client) (asked1 : List
   pub script-behind : (bytes : List ℕ) (taken2 : ℕ) (s2 : Told) → Came bytes taken1 taken2 s1 s2 → held1 ++ bytes ≡ [] → IsAtEnd s2
       → RunsLines (ScriptHad first asked last asked1) EndsScript held taken taken2 s s2 o o1 (ended_script fine)
   script-behind bytes taken2 s2 came none end =
-      stops-behind (ScriptHad first asked last asked1) held held1 taken taken1 s s1 o o1 goes.goes bytes taken2 s2 came o1 refl EndsScript (ended_script fine) none end
+      stops-behind (ScriptHad first asked last asked1) held held1 taken taken1 s s1 o o1 goes.goes bytes taken2 s2 came o1 refl EndsScript (ended_script fine)
+      none end
       (script_ends fine goes.goes.turns _ ([] ∷ []) (bytes_in goes.goes.turns) goes.goes.on (inl refl) refl goes.fine_is)
 
   -- the last line had its turn
   module _ (full bytes : List ℕ) (new : Client) (asked2 : List Exchange) (o2 : Told) (result : After) (fine2 : Bool) (next : ℕ)
-      (is_next : next ≡ number + 1) (says : SaysLine next full last new asked1 asked2 o1 o2 result fine fine2) (taken2 : ℕ) (s2 : Told) (came : Came bytes taken1 taken2 s1 s2) (is_line : IsLine full)
+      (is_next : next ≡ number + 1) (says : SaysLine next full last new asked1 asked2 o1 o2 result fine fine2) (taken2 : ℕ) (s2 : Told)
+      (came : Came bytes taken1 taken2 s1 s2) (is_line : IsLine full)
       (whole : held1 ++ bytes ≡ full) (end : IsAtEnd s2) where
     abbrev turn : ScriptTurn
     turn = line_turn first asked last asked1 fine number held held1 taken taken1 s s1 o o1 goes full bytes new asked2 o2 result fine2 next is_next says
@@ -244,7 +251,8 @@ script_account first last asked asked2 held taken taken2 s s2 o o2 ended unasked
     }
 
 -- as many bytes were counted as were taken
-pub script_took : (bytes : List ℕ) (taken taken2 : ℕ) (s s2 : Told) (ended : Ended) → s.taken ≡ [] → taken ≡ 0 → Came bytes taken taken2 s s2 → EndsAt ended taken2 s2
+pub script_took : (bytes : List ℕ) (taken taken2 : ℕ) (s s2 : Told) (ended : Ended) → s.taken ≡ [] → taken ≡ 0 → Came bytes taken taken2 s s2
+    → EndsAt ended taken2 s2
     → Took ended s2
 script_took bytes taken taken2 s s2 ended fresh zero came at =
     let text : s2.taken ≡ bytes = came.takes.taken ∙ ap (λ (t : List ℕ). t ++ bytes) fresh in

@@ -29,7 +29,8 @@ fn say_line<L: Link, O: Sink, E: Sink>(
     line: &Bytes,
     fine: &mut bool,
 ) -> After
-    ensures says { SaysLine number line.now client.old client.new (L.link link.old).asked (L.link link.new).asked (O.told out.old) (O.told out.new) result fine.old fine.new }
+    ensures says { SaysLine number line.now client.old client.new (L.link link.old).asked (L.link link.new).asked (O.told out.old) (O.told out.new) result
+        fine.old fine.new }
     ensures counts { CountsPrint result (O.faults out.old) (O.faults out.new) }
 {
     match script_line(alloc, client, link, number, line.as_slice()) {

@@ -52,7 +52,8 @@ more_uses g ms ns ds es =
     ap (λ x. record g { log = record g.log { moments = x; draws = (g.log.draws ++ ds) ++ es } }) (append_assoc g.log.moments ms ns)
     ∙ ap (λ x. record g { log = record g.log { moments = g.log.moments ++ (ms ++ ns); draws = x } }) (append_assoc g.log.draws ds es)
 
-used-next : (g g1 g2 : GearState) (ms ns : List ℕ) (ds es : List (List ℕ)) → g1 ≡ with_uses ms ds g → g2 ≡ with_uses ns es g1 → g2 ≡ with_uses (ms ++ ns) (ds ++ es) g
+used-next : (g g1 g2 : GearState) (ms ns : List ℕ) (ds es : List (List ℕ)) → g1 ≡ with_uses ms ds g → g2 ≡ with_uses ns es g1
+    → g2 ≡ with_uses (ms ++ ns) (ds ++ es) g
 used-next g g1 g2 ms ns ds es first second = second ∙ ap (with_uses ns es) first ∙ more_uses g ms ns ds es
 
 -- ---- turns, one more
@@ -161,7 +162,8 @@ module _ {Message Fault B Past E : Type 0} (wire : Wire Message Fault)
         (rose_some f2 f3 (same ∙ so_far.none_failed) rose))
 
     pub closes-stop : (why : NoMessage Fault) → ReadsMessage wire held rest c1 c2 (Err why)
-        → (let r : Result (Option Message) (NoMessage Fault) = Err why in HasReadCause f1 f2 r) → (ended : ConnectionEnd Fault) → Stops wire c2 c3 f2 f3 why ended
+        → (let r : Result (Option Message) (NoMessage Fault) = Err why in HasReadCause f1 f2 r) → (ended : ConnectionEnd Fault)
+        → Stops wire c2 c3 f2 f3 why ended
         → ServesTurns kind wire IsTurn b p b1 g g1 (served_of c3 f3) ended
     closes-stop why next counts ended (truncated same kept) =
         let here = subst (λ x. ReadsMessage wire held rest c1 x (Err no.Truncated)) (sym same) next in
@@ -207,7 +209,8 @@ module _ {Message Fault B Past E : Type 0} (wire : Wire Message Fault)
 
       used_now : g2 ≡ with_uses (moments_in (so_far.turns ++ t.turn ∷ [])) (kind.draws (entries_in (so_far.turns ++ t.turn ∷ []))) g
       used_now =
-          used-next g g1 g2 (moments_in so_far.turns) (t.turn.moment ∷ []) (kind.draws (entries_in so_far.turns)) (kind.draws t.turn.entries) so_far.used t.entered.used
+          used-next g g1 g2 (moments_in so_far.turns) (t.turn.moment ∷ []) (kind.draws (entries_in so_far.turns)) (kind.draws t.turn.entries) so_far.used
+          t.entered.used
           ∙ ap (λ x. with_uses x (kind.draws (entries_in so_far.turns) ++ kind.draws t.turn.entries) g) (sym (moments_in-append so_far.turns (t.turn ∷ [])))
           ∙ ap (λ x. with_uses (moments_in (so_far.turns ++ t.turn ∷ [])) x g)
           (sym (kind.draws_more (entries_in so_far.turns) t.turn.entries) ∙ ap kind.draws (sym (entries_in-next so_far.turns t.turn)))

@@ -34,7 +34,8 @@ module _ {Front Rules E : Type 0} where
   abbrev pub EachDrained : List (WorkerState Front Rules E) → List (WorkerState Front Rules E) → Type 0
   EachDrained before after = (i : ℕ) (d : WorkerState Front Rules E) → i < length before → Drained (slice_index_or before i d) (slice_index_or after i d)
 
-  pub same_workers : (core : Sharing Rules) (front : Front) (before after : List (WorkerState Front Rules E)) → EachDrained before after → length after ≡ length before
+  pub same_workers : (core : Sharing Rules) (front : Front) (before after : List (WorkerState Front Rules E)) → EachDrained before after
+      → length after ≡ length before
       → AreWorkers core front before → AreWorkers core front after
   same_workers core front before after each long are = record {
     count = long ∙ are.count;
@@ -57,23 +58,27 @@ module _ {Front Rules E : Type 0} where
       let first : Drained w v = each 0 w (omega arith) in
       (first.all, all_done before after (λ i d lt. each (suc i) d (omega (arith, lt))) (omega (arith, long)))
 
-module _ {Message Rules Call Reply Note : Type 0} (law : Law Rules Call Reply Note) (session : Served → List (Turn Message (Entry Call Reply Note)) → Type 0) where
-  none_meet : {Gear : Type 0} (state : Gear → GearState) (gears : List Gear) (number : ℕ) → All (λ gear. IsUnused (state gear)) gears
-      → AllMeet number (accounts_of session (map state gears)) []
-  none_meet state [] number unused = tt
-  none_meet {Gear} state (gear ∷ gears) number unused =
-      let first : IsUnused (state gear) = unused 0 gear (omega arith) in
-      (subst (λ (l : Log). IsAccount session l []) (sym (ap (λ (g : GearState). g.log) first)) (account-none session), none_meet state gears (suc number) (λ k d lt. unused (suc k) d (omega (arith, lt))))
+module _ {Message Rules Call Reply Note : Type 0} (law : Law Rules Call Reply Note) (session : Served → List (Turn Message (Entry Call Reply Note)) → Type 0)
+  where
+    none_meet : {Gear : Type 0} (state : Gear → GearState) (gears : List Gear) (number : ℕ) → All (λ gear. IsUnused (state gear)) gears
+        → AllMeet number (accounts_of session (map state gears)) []
+    none_meet state [] number unused = tt
+    none_meet {Gear} state (gear ∷ gears) number unused =
+        let first : IsUnused (state gear) = unused 0 gear (omega arith) in (
+          subst (λ (l : Log). IsAccount session l []) (sym (ap (λ (g : GearState). g.log) first)) (account-none session),
+          none_meet state gears (suc number)
+              (λ k d lt. unused (suc k) d (omega (arith, lt))),
+        )
 
-  -- gears that did nothing are accounted for by the empty history
-  pub one_unused : {Gear : Type 0} (state : Gear → GearState) (gears : List Gear) (rules : Rules) → All (λ gear. IsUnused (state gear)) gears
-      → OneHistory law rules (accounts_of session (map state gears))
-  one_unused state gears rules unused = record {
-    history = [];
-    legal = legal-nil law rules;
-    numbers = tt;
-    each = none_meet state gears 0 unused;
-  }
+    -- gears that did nothing are accounted for by the empty history
+    pub one_unused : {Gear : Type 0} (state : Gear → GearState) (gears : List Gear) (rules : Rules) → All (λ gear. IsUnused (state gear)) gears
+        → OneHistory law rules (accounts_of session (map state gears))
+    one_unused state gears rules unused = record {
+      history = [];
+      legal = legal-nil law rules;
+      numbers = tt;
+      each = none_meet state gears 0 unused;
+    }
 
 -- all that workers have seen is of one history, in which each account holds
 pub one_of_all : {Message Rules Call Reply Note : Type 0} (law : Law Rules Call Reply Note)
@@ -89,5 +94,6 @@ pub written_back : {X : Type 0} (n : ℕ) (old new : List X) → length new ≡ 
 written_back n old new long size =
     ap (λ l. take n (new ++ l)) (drop_of_length-le old (omega (arith, long))) ∙ ap (take n) (append-nil new) ∙ take_all n new (omega (arith, long, size))
 
-pub out_unused : {Gear : Type 0} (state : Gear → GearState) (gears : List Gear) → All (λ gear. IsUnused (state gear)) gears → All (λ gear. (state gear).out ≡ 0) gears
+pub out_unused : {Gear : Type 0} (state : Gear → GearState) (gears : List Gear) → All (λ gear. IsUnused (state gear)) gears
+    → All (λ gear. (state gear).out ≡ 0) gears
 out_unused state gears unused k d lt = ap (λ (g : GearState). g.out) (unused k d lt)

@@ -18,7 +18,8 @@ joined-next [] ys = append-nil ys
 joined-next (xs ∷ xss) ys = ap (λ zs. xs ++ zs) (joined-next xss ys) ∙ sym (append_assoc xs (joined xss) ys)
 
 module _ {Message Call Reply Note : Type 0} (IsSession : Served → List (Turn Message (Entry Call Reply Note)) → Type 0) where
-  sessions-next : (conns : List Served) (turns : List (List (Turn Message (Entry Call Reply Note)))) (conn : Served) (ts : List (Turn Message (Entry Call Reply Note)))
+  sessions-next : (conns : List Served) (turns : List (List (Turn Message (Entry Call Reply Note)))) (conn : Served)
+      (ts : List (Turn Message (Entry Call Reply Note)))
       → Sessions IsSession conns turns → IsSession conn ts → Sessions IsSession (conns ++ conn ∷ []) (turns ++ ts ∷ [])
   sessions-next [] [] conn ts each one = (one, tt)
   sessions-next [] (us ∷ turns) conn ts each one = absurd each
@@ -68,7 +69,8 @@ module _ {Message Call Reply Note : Type 0} (IsSession : Served → List (Turn M
       omega (arith, most, all)
 
 -- a turn makes one entry at most
-pub entries_few : {Message Rules Call Reply Note : Type 0} (law : Law Rules Call Reply Note) (face : Face Message Rules Call Reply) (rules : Rules) (last : Bool)
+pub entries_few : {Message Rules Call Reply Note : Type 0} (law : Law Rules Call Reply Note) (face : Face Message Rules Call Reply) (rules : Rules)
+    (last : Bool)
     (turn : Turn Message (Entry Call Reply Note)) → IsTurn law face rules last turn → length turn.entries ≤ 1
 entries_few law face rules last turn (direct m t bytes says) = omega arith
 entries_few law face rules last turn (called m e asks) = omega arith
@@ -77,8 +79,10 @@ entries_few law face rules last turn (lapsed m e call asks lapse) = omega arith
 entries_few law face rules last turn (unsaid m e asks) = omega arith
 
 -- what was served at a desk, by what its sessions are
-module _ {D Rules Home Message Fault Call Reply Note : Type 0} (rules : D → Rules) (number : D → ℕ) (home : D → Home) (seen : D → List (Entry Call Reply Note) → Type 0)
-    (wanted : Rules) (wire : Wire Message Fault) (IsTurn : Bool → Turn Message (Entry Call Reply Note) → Type 0) (before after : D) (gear gear_now : GearState) (conn : Served)
+module _ {D Rules Home Message Fault Call Reply Note : Type 0} (rules : D → Rules) (number : D → ℕ) (home : D → Home)
+    (seen : D → List (Entry Call Reply Note) → Type 0)
+    (wanted : Rules) (wire : Wire Message Fault) (IsTurn : Bool → Turn Message (Entry Call Reply Note) → Type 0) (before after : D) (gear gear_now : GearState)
+    (conn : Served)
     (ended : ConnectionEnd Fault)
     (serves : (h : List (Entry Call Reply Note)) → seen before h
     → ServesTurns (desk_backend rules number home seen wanted) wire IsTurn before h after gear gear_now conn ended) where
@@ -97,5 +101,6 @@ module _ {D Rules Home Message Fault Call Reply Note : Type 0} (rules : D → Ru
         session = so s.turns s.session;
       }
 
-  pub same-desk : (h : List (Entry Call Reply Note)) → seen before h → (rules after ≡ rules before) × (number after ≡ number before) × (home after ≡ home before)
+  pub same-desk : (h : List (Entry Call Reply Note)) → seen before h
+      → (rules after ≡ rules before) × (number after ≡ number before) × (home after ≡ home before)
   same-desk h was = let leads = (serves h was).leads in (leads.rules_same, leads.number_same, leads.home_same)

@@ -90,7 +90,8 @@ module _ {D Rules Home Call Reply Note : Type 0} (rules : D → Rules) (number :
   entered-lapse x = entered-next law.lapse x.others x.not_mine x.seen_now
 
 -- by what came of submitting a call
-pub submitted : {Rules Call Reply Note E : Type 0} (law : Law Rules Call Reply Note) (rules : Rules) (n : ℕ) (h : List (Entry Call Reply Note)) (t : ℕ) (call : Call)
+pub submitted : {Rules Call Reply Note E : Type 0} (law : Law Rules Call Reply Note) (rules : Rules) (n : ℕ) (h : List (Entry Call Reply Note)) (t : ℕ)
+    (call : Call)
     (was now : List (Entry Call Reply Note) → Type 0) (g g1 : GearState) (draw : List ℕ) → g1 ≡ with_draw draw g → (r : Result Reply E)
     → IfOk r (λ reply. (k : List (Entry Call Reply Note)) → was k → Enters law rules n k t draw call reply now)
     → OnErr r ((k : List (Entry Call Reply Note)) → was k → EntersLapse law rules n k t draw now)
@@ -100,7 +101,8 @@ submitted law rules n h t call was now g g1 draw drew (Err e) ok err seen = (dra
 
 module _ {Message B Past E : Type 0} (kind : BackendKind B Past E) (IsTurn : Bool → Turn Message E → Type 0) where
   -- a turn, by what was entered and what was written
-  pub turn-of : (last : Bool) (m : Message) (b : B) (p : Past) (c : B) (q : Past) (t : ℕ) (es : List E) (g g1 : GearState) (conn conn' : Told) (f f' : ℕ) (after : AfterTurn)
+  pub turn-of : (last : Bool) (m : Message) (b : B) (p : Past) (c : B) (q : Past) (t : ℕ) (es : List E) (g g1 : GearState) (conn conn' : Told) (f f' : ℕ)
+      (after : AfterTurn)
       (bytes : List ℕ) (on : Bool) → Entered kind b p es t g g1 c q → length es ≤ 2 → HasWrittenText bytes conn conn' f f' after → LetsFollow after on
       → IsTurn last (record { message = m; moment = t; entries = es; bytes = bytes; on = on })
       → TakesTurn kind IsTurn last m b p c g g1 conn conn' f f' after
@@ -132,7 +134,8 @@ turn-so kind P Q last m so b p c g g1 conn conn' f f' after takes = record {
 }
 
 -- A desk whose histories are legal gives replies that can be said.
-pub entered_said : {R A B N : Type 0} (law : Law R A B N) (rules : R) (can_say : B → Type 0) (says : SaysAllReplies law can_say) (n : ℕ) (h : List (Entry A B N))
+pub entered_said : {R A B N : Type 0} (law : Law R A B N) (rules : R) (can_say : B → Type 0) (says : SaysAllReplies law can_say) (n : ℕ)
+    (h : List (Entry A B N))
     (t : ℕ) (d : List ℕ) (call : A) (reply : B) (seen : List (Entry A B N) → Type 0) → ((k : List (Entry A B N)) → seen k → Legal law rules k)
     → Enters law rules n h t d call reply seen → can_say reply
 entered_said {R} {A} {B} {N} law rules can_say says n h t d call reply seen legal x =

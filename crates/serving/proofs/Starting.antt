@@ -79,12 +79,14 @@ made-all gear state workers rest gears n made long many =
     sym (append-nil (map gear workers)) ∙ ap (λ l. map gear workers ++ map state l) (sym none) ∙ made
 
 -- one more account
-pub one-more-account : {Message Call Reply Note : Type 0} (account : Served → List (Turn Message (Entry Call Reply Note)) → Type 0) (gears : List GearState) (gear : GearState)
+pub one-more-account : {Message Call Reply Note : Type 0} (account : Served → List (Turn Message (Entry Call Reply Note)) → Type 0) (gears : List GearState)
+    (gear : GearState)
     (passes : List (List (Entry Call Reply Note))) (seen : List (Entry Call Reply Note)) (i : ℕ)
     → AllKeep i (accounts_of account gears) passes → IsAccount account gear.log (own_of (i + length passes) seen)
     → AllKeep i (accounts_of account (gears ++ gear ∷ [])) (passes ++ seen ∷ [])
 one-more-account account gears gear passes seen i keeps whole =
-    subst (λ l. AllKeep i l (passes ++ seen ∷ [])) (sym (accounts-append gears)) (keep-append i (accounts_of account gears) passes (IsAccount account gear.log) seen keeps whole)
+    subst (λ l. AllKeep i l (passes ++ seen ∷ [])) (sym (accounts-append gears))
+    (keep-append i (accounts_of account gears) passes (IsAccount account gear.log) seen keeps whole)
   where
     accounts-append : (gs : List GearState) → accounts_of account (gs ++ gear ∷ []) ≡ accounts_of account gs ++ IsAccount account gear.log ∷ []
     accounts-append [] = refl

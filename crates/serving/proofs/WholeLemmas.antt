@@ -10,7 +10,8 @@ use Rattle.serving.specs.declared.ends.ConnectionEnd.{ConnectionEnd}
 module _ {Message Fault : Type 0} (wire : Wire Message Fault)
     (stays : (bytes : List ℕ) (m : Message) (rest more : List ℕ) → wire.begins bytes m rest → wire.begins (bytes ++ more) m (rest ++ more)) where
   -- messages stay where more bytes follow
-  pub messages-more : (bytes : List ℕ) (ms : List Message) (rest more : List ℕ) → AreMessages wire bytes ms rest → AreMessages wire (bytes ++ more) ms (rest ++ more)
+  pub messages-more : (bytes : List ℕ) (ms : List Message) (rest more : List ℕ) → AreMessages wire bytes ms rest
+      → AreMessages wire (bytes ++ more) ms (rest ++ more)
   messages-more bytes [] rest more is = ap (λ b. b ++ more) is
   messages-more bytes (m ∷ ms) rest more is = (is.0 ++ more, stays bytes m is.0 more is.1, messages-more is.0 ms rest more is.2)
 

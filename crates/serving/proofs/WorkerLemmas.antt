@@ -44,7 +44,8 @@ module _ {Message Front Rules Call Reply Note : Type 0} (law : Law Rules Call Re
     own_now = ap (λ n. own_of n station.seen) number ∙ ap (own_of w.station.number) (sym served.seen_now.0) ∙ served.own
 
     uses : gear2.log ≡ log_uses (moments_in served.turns) (map draw_of (entries_in served.turns)) w.gear.log
-    uses = ap (λ (g : GearState). g.log) served.used ∙ ap (λ (g : GearState). log_uses (moments_in served.turns) (map draw_of (entries_in served.turns)) g.log) gave
+    uses = ap (λ (g : GearState). g.log) served.used
+        ∙ ap (λ (g : GearState). log_uses (moments_in served.turns) (map draw_of (entries_in served.turns)) g.log) gave
 
     log_now : gear3.log ≡ log_served conn gear2.log
     log_now = ap (λ (g : GearState). g.log) back

@@ -20,12 +20,13 @@ pub record WorkerState (Front Rules E : Type 0) : Type 0 where
 -- What a worker's type keeps. What was seen is legal by the rules, the gear is accounted for, no connection is out, and all connections
 -- that may still come have room in the worker's entries.
 pub record IsSoundWorker {Message Front Rules Call Reply Note : Type 0} (law : Law Rules Call Reply Note)
-    (session : Served → List (Turn Message (Entry Call Reply Note)) → Type 0) (rules : Rules) (w : WorkerState Front Rules (Entry Call Reply Note)) : Type 0 where
-  pub rules_are : w.station.home.rules ≡ rules
-  pub legal : Legal law rules w.station.seen
-  pub account : IsAccount session w.gear.log (own_of w.station.number w.station.seen)
-  pub room : length (own_of w.station.number w.station.seen) + 2000 * w.gear.left + 2000 < 4503599627370496
-  pub out : w.gear.out ≡ 0
+    (session : Served → List (Turn Message (Entry Call Reply Note)) → Type 0) (rules : Rules) (w : WorkerState Front Rules (Entry Call Reply Note)) : Type 0
+  where
+    pub rules_are : w.station.home.rules ≡ rules
+    pub legal : Legal law rules w.station.seen
+    pub account : IsAccount session w.gear.log (own_of w.station.number w.station.seen)
+    pub room : length (own_of w.station.number w.station.seen) + 2000 * w.gear.left + 2000 < 4503599627370496
+    pub out : w.gear.out ≡ 0
 
 -- What serving leaves of a worker: its front, the core and the number. Its door gives no more connections than before.
 pub record IsSameWorker {Front Rules E : Type 0} (before after : WorkerState Front Rules E) : Type 0 where

@@ -38,5 +38,6 @@ pub trait TurnTaker<B, G: Clock> {
     ) -> AfterTurn
         requires { (backend_kind self.now).has_room backend.old 1 }
         ensures { (past : _) → (backend_kind self.now).seen backend.old past → TakesTurn (backend_kind self.now) (is_turn self.now) last message.now
-            backend.old past backend.new (G.state gear.old) (G.state gear.new) (S.told conn.old) (S.told conn.new) (S.faults conn.old) (S.faults conn.new) result };
+            backend.old past backend.new (G.state gear.old) (G.state gear.new) (S.told conn.old) (S.told conn.new) (S.faults conn.old) (S.faults conn.new)
+            result };
 }

@@ -43,7 +43,11 @@ fields_are m fields e =
     let signatures = need_ok NotAField (dictionary_of signature.value) _ fields inputs.rest in
     let found : SignatureFields = record { inputs = inputs.value; signatures = signatures.value } in
     let same : found ≡ fields = cc in
-    subst (AreFields m) same (record { text = input.value; value = input.is; reads = inputs.is }, record { text = signature.value; value = signature.is; reads = signatures.is })
+    subst (AreFields m) same (
+      record { text = input.value; value = input.is; reads = inputs.is },
+      record
+          { text = signature.value; value = signature.is; reads = signatures.is },
+    )
 
 module _ (m : Message) (tag : List ℕ) where
   tagged_is : (one : Signature) → tagged m tag ≡ Ok one → IsTagged m tag one
@@ -69,7 +73,15 @@ module _ (m : Message) (tag : List ℕ) where
   tagged_found : (one : Signature) → IsTagged m tag one → tagged m tag ≡ Ok one
   unfolding tagged
   tagged_found one t =
-      rw (t.inputs_are.value, t.signatures_are.value, t.inputs_are.reads, t.signatures_are.reads, tagged_made tag t.inputs one.label one.list t.is, t.formed, bytes_found one.label t.signatures one.bytes t.has) refl
+      rw (
+        t.inputs_are.value,
+        t.signatures_are.value,
+        t.inputs_are.reads,
+        t.signatures_are.reads,
+        tagged_made tag t.inputs one.label one.list t.is,
+        t.formed,
+        bytes_found one.label t.signatures one.bytes t.has,
+      ) refl
 
   module _ (base : List ℕ) (ring : List (List ℕ × List ℕ)) (now : ℕ) (id : List ℕ) where
     accepted : (one : Signature) → IsTagged m tag one → judged m base ring now one ≡ Ok id → IsAccepted m base ring now tag id

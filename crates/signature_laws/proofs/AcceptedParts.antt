@@ -55,11 +55,13 @@ name_is_string item name h = by item.bare refl
     by (Date n) e = absurd cc
     by (Display t) e = absurd cc
 
-line_is_of_string : (m : Message) (base : List ℕ) (item : Item) (others : List Item) (line : List ℕ) → line_of m base item others ≡ Some line → is_any_string item.bare ≡ true
+line_is_of_string : (m : Message) (base : List ℕ) (item : Item) (others : List Item) (line : List ℕ) → line_of m base item others ≡ Some line
+    → is_any_string item.bare ≡ true
 line_is_of_string m base item others line h = option_and_then_some _ (name_of item) line h (λ name named rest. name_is_string item name named)
 
 -- what is covered is a String each, where there is a base
-lines_are_strings : (m : Message) (base : List ℕ) (items : List Item) (lines : List ℕ) → base_lines m base items ≡ Some lines → list_all (λ i. is_any_string i.bare) items ≡ true
+lines_are_strings : (m : Message) (base : List ℕ) (items : List Item) (lines : List ℕ) → base_lines m base items ≡ Some lines
+    → list_all (λ i. is_any_string i.bare) items ≡ true
 unfolding base_lines
 lines_are_strings m base [] lines h = refl
 lines_are_strings m base (item ∷ items) lines h =
@@ -67,7 +69,8 @@ lines_are_strings m base (item ∷ items) lines h =
     option_and_then_some _ (base_lines m base items) lines rest (λ more is last.
     rw (line_is_of_string m base item items line lined, lines_are_strings m base items more is) refl))
 
-pub base_is_of_strings : (m : Message) (base : List ℕ) (list : InnerList) (text : List ℕ) → signature_base m base list ≡ Some text → list_all (λ i. is_any_string i.bare) list.items ≡ true
+pub base_is_of_strings : (m : Message) (base : List ℕ) (list : InnerList) (text : List ℕ) → signature_base m base list ≡ Some text
+    → list_all (λ i. is_any_string i.bare) list.items ≡ true
 unfolding signature_base
 base_is_of_strings m base list text h =
     option_and_then_some _ (base_lines m base list.items) text h (λ lines is rest. lines_are_strings m base list.items lines is)
@@ -87,14 +90,16 @@ pub record HasBytes (label : List ℕ) (signatures : List (List ℕ × Member)) 
   pub is : value_at signatures label ≡ Some signature
   pub bytes_are : sequence_of signature ≡ Some bytes
 
-pub bytes_say : (label : List ℕ) (signatures : List (List ℕ × Member)) (bytes : List ℕ) → signature_under label signatures ≡ Some bytes → HasBytes label signatures bytes
+pub bytes_say : (label : List ℕ) (signatures : List (List ℕ × Member)) (bytes : List ℕ) → signature_under label signatures ≡ Some bytes
+    → HasBytes label signatures bytes
 bytes_say label signatures bytes h = by (value_at signatures label) refl
   where
     by : (o : Option Member) → value_at signatures label ≡ o → HasBytes label signatures bytes
     by (Some signature) e = record { signature = signature; is = e; bytes_are = rw e at h }
     by None e = absurd cc
 
-pub bytes_found : (label : List ℕ) (signatures : List (List ℕ × Member)) (bytes : List ℕ) → HasBytes label signatures bytes → signature_under label signatures ≡ Some bytes
+pub bytes_found : (label : List ℕ) (signatures : List (List ℕ × Member)) (bytes : List ℕ) → HasBytes label signatures bytes
+    → signature_under label signatures ≡ Some bytes
 bytes_found label signatures bytes has = rw has.is has.bytes_are
 
 -- ---- what it covers
@@ -127,7 +132,8 @@ cover_says m list h =
 
 pub covered_passes : (m : Message) (list : InnerList) → Covers m list → covers_enough m list ≡ true
 covered_passes m list c =
-    rw (c.method, c.target, wants (has_body m) _ (empty_is_no_body m) c.digest, wants (has_field (codes "authorization") m) _ (λ e. rw e refl) c.authorization) refl
+    rw (c.method, c.target, wants (has_body m) _ (empty_is_no_body m) c.digest, wants (has_field (codes "authorization") m) _ (λ e. rw e refl) c.authorization)
+    refl
 
 -- ---- the digest of the body
 

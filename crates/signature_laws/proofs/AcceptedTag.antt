@@ -56,14 +56,22 @@ module _ (tag : List ℕ) where
 
   module _ (label : List ℕ) (one : InnerList) where
     behind : (e : Entry) (es : List Entry) → (HasTag tag e.1 → ⊥) → IsTheTagged tag es label one → IsTheTagged tag (e ∷ es) label one
-    behind e es none s = record { before = e ∷ s.before; after = s.after; split = ap (λ (r : List Entry). e ∷ r) s.split; has = s.has; others = (none, s.others) }
+    behind e es none s = record {
+      before = e
+          ∷ s.before;
+      after = s.after;
+      split = ap (λ (r : List Entry). e ∷ r) s.split;
+      has = s.has;
+      others = (none, s.others);
+    }
 
     one_says : (es : List Entry) → with_tag tag es ≡ (label, one) ∷ [] → IsTheTagged tag es label one
     one_says [] h = absurd cc
     one_says ((name, Single item) ∷ es) h = behind (name, Single item) es (λ has. has) (one_says es h)
     one_says ((name, Inner list) ∷ es) h = by (tests list) refl (one_says es)
       where
-        by : (b : Bool) → tests list ≡ b → (with_tag tag es ≡ (label, one) ∷ [] → IsTheTagged tag es label one) → IsTheTagged tag ((name, Inner list) ∷ es) label one
+        by : (b : Bool) → tests list ≡ b → (with_tag tag es ≡ (label, one) ∷ [] → IsTheTagged tag es label one)
+            → IsTheTagged tag ((name, Inner list) ∷ es) label one
         by true t again =
             let first : (name, list) ∷ with_tag tag es ≡ (label, one) ∷ [] = sym (taken name list es t) ∙ h in
             let found : Tagged = (name, list) in
@@ -71,7 +79,14 @@ module _ (tag : List ℕ) where
             let same : found ≡ wanted = cc in
             let lists : list ≡ one = ap (λ (t : Tagged). t.1) same in
             let none : with_tag tag es ≡ [] = cc in
-            record { before = []; after = es; split = ap (λ (t : Tagged). let e : Entry = (t.0, Inner t.1) in e ∷ es) same; has = subst (λ (l : InnerList). HasTag tag (Inner l)) lists (passes list t); others = none_says es none }
+            record {
+              before = [];
+              after = es;
+              split = ap (λ (t : Tagged). let e : Entry = (t.0, Inner t.1) in e ∷ es) same;
+              has = subst
+                  (λ (l : InnerList). HasTag tag (Inner l)) lists (passes list t);
+              others = none_says es none;
+            }
         by false t again = behind (name, Inner list) es (fails list t) (again (sym (pass_by (name, Inner list) es (fails list t)) ∙ h))
 
   -- ---- what makes the answer

@@ -96,5 +96,6 @@ expiry_passes now (Some v) later = rw later.1 (refl, by later.0 later.2)
 
 -- ---- the key
 
-pub key_found : (ring : List (List ℕ × List ℕ)) (o : Option Bare) (id secret : List ℕ) → o ≡ Some (Str id) → value_at ring id ≡ Some secret → key_in ring o ≡ Some (id, secret)
+pub key_found : (ring : List (List ℕ × List ℕ)) (o : Option Bare) (id secret : List ℕ) → o ≡ Some (Str id) → value_at ring id ≡ Some secret
+    → key_in ring o ≡ Some (id, secret)
 key_found ring o id secret e h = rw (e, h) refl

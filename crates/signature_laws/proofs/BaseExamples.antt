@@ -23,7 +23,8 @@ grant_request = record {
   last = false;
 }
 
-pub grant_request_base : signature_base grant_request (codes "https://as.example") (signature_input grant_request (params_of (codes "c1") 1000 None (codes "gnap"))) ≡ Some (
+pub grant_request_base : signature_base grant_request (codes "https://as.example")
+    (signature_input grant_request (params_of (codes "c1") 1000 None (codes "gnap"))) ≡ Some (
     codes "\"@method\": POST\n\"@target-uri\": https://as.example/gnap\n\"content-digest\": sha-256=:X48E9qOokqqrvdts8nOJRJN3OWDUoyWxBf7kbu9DBPE=:\n\"@signature-params\": (\"@method\" \"@target-uri\" \"content-digest\");created=1000;keyid=\"c1\";tag=\"gnap\"")
 unfolding signature_base base_lines component field_value digits
 grant_request_base = refl
@@ -76,7 +77,8 @@ unfolding component
 no_query_is = refl
 
 pub lines_are_joined : field_value (codes "cache-control")
-    (field (codes "cache-control") (codes "max-age=60") ∷ field (codes "date") (codes "x") ∷ field (codes "cache-control") (codes "\t   must-revalidate ") ∷ []) ≡ Some (codes "max-age=60, must-revalidate")
+    (field (codes "cache-control") (codes "max-age=60") ∷ field (codes "date") (codes "x") ∷ field (codes "cache-control") (codes "\t   must-revalidate ") ∷ [])
+    ≡ Some (codes "max-age=60, must-revalidate")
 unfolding field_value
 lines_are_joined = refl
 

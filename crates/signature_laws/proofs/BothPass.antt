@@ -65,14 +65,16 @@ chained_again true true params = refl
 
 -- where a message has other fields, but the same digest and authorization, a signature over the same base is judged alike
 judged_kept : (n : Message) (fields : List Field) (base : List ℕ) (ring : List (List ℕ × List ℕ)) (now : ℕ) (one : Signature)
-    → field_value (codes "content-digest") fields ≡ field_value (codes "content-digest") n.fields → field_value (codes "authorization") fields ≡ field_value (codes "authorization") n.fields
+    → field_value (codes "content-digest") fields ≡ field_value (codes "content-digest") n.fields
+    → field_value (codes "authorization") fields ≡ field_value (codes "authorization") n.fields
     → signature_base (record n { fields = fields }) base one.list ≡ signature_base n base one.list
     → judged (record n { fields = fields }) base ring now one ≡ judged n base ring now one
 unfolding judged judged_over admitted made_under
 judged_kept n fields base ring now one d t b = rw (b, d, t) refl
 
 -- a message whose signature passes has the right digest
-digest_passes : (n : Message) (base : List ℕ) (ring : List (List ℕ × List ℕ)) (now : ℕ) (one : Signature) (id : List ℕ) → judged n base ring now one ≡ Ok id → has_right_digest n ≡ true
+digest_passes : (n : Message) (base : List ℕ) (ring : List (List ℕ × List ℕ)) (now : ℕ) (one : Signature) (id : List ℕ) → judged n base ring now one ≡ Ok id
+    → has_right_digest n ≡ true
 unfolding judged judged_over made_under
 digest_passes n base ring now one id e =
     let text = need_ok Unsupported (signature_base n base one.list) _ id e in
@@ -160,9 +162,11 @@ module _ (w : Message) (id secret text : List ℕ) (created : ℕ) (nonce : Opti
     both_are : signature_fields r ≡ Ok both_fields
     both_are = rw (
       value_of_two (codes "signature-input") w.fields lines more _ _ (ap (λ (t : List ℕ). t ∷ []) (input_trimmed w id created nonce first_tag))
-          (ap (λ (t : List ℕ). t ∷ []) (second_trimmed n new_id moment)) (none_is _ no_input) ∙ ap (λ (t : List ℕ). Some t) (joined_text (label, Inner list) (second_label, Inner second_list)),
+          (ap (λ (t : List ℕ). t ∷ []) (second_trimmed n new_id moment)) (none_is _ no_input)
+          ∙ ap (λ (t : List ℕ). Some t) (joined_text (label, Inner list) (second_label, Inner second_list)),
       value_of_two (codes "signature") w.fields lines more _ _ (ap (λ (t : List ℕ). t ∷ []) (signature_trimmed bytes))
-          (ap (λ (t : List ℕ). t ∷ []) (second_bytes_trimmed second_bytes)) (none_is _ no_signature) ∙ ap (λ (t : List ℕ). Some t) (joined_text (label, bytes_member bytes) (second_label, bytes_member second_bytes)),
+          (ap (λ (t : List ℕ). t ∷ []) (second_bytes_trimmed second_bytes)) (none_is _ no_signature)
+          ∙ ap (λ (t : List ℕ). Some t) (joined_text (label, bytes_member bytes) (second_label, bytes_member second_bytes)),
       inputs_again list second_list list_range (input_range n new_id moment moment_size new_id_text),
       signatures_again secret text new_secret new_text,
     ) refl
@@ -195,13 +199,17 @@ module _ (w : Message) (id secret text : List ℕ) (created : ℕ) (nonce : Opti
     first_based : signature_base r base list ≡ signature_base n base list
     first_based =
         base_same w r.fields base _ (has_body w) (has_field (codes "authorization") w)
-        (kept_again (codes "content-digest") refl ∙ kept (codes "content-digest") refl) (kept_again (codes "authorization") refl ∙ kept (codes "authorization") refl)
-        ∙ sym (base_same w n.fields base _ (has_body w) (has_field (codes "authorization") w) (kept (codes "content-digest") refl) (kept (codes "authorization") refl))
+        (kept_again (codes "content-digest") refl ∙ kept (codes "content-digest") refl)
+        (kept_again (codes "authorization") refl ∙ kept (codes "authorization") refl)
+        ∙ sym (base_same w n.fields base _ (has_body w) (has_field (codes "authorization") w) (kept (codes "content-digest") refl)
+        (kept (codes "authorization") refl))
 
-    module _ (ring : List (List ℕ × List ℕ)) (now : ℕ) (first_passes : judged n base ring now one ≡ Ok id) (can : CanPassAgain ring new_id new_secret moment now)
+    module _ (ring : List (List ℕ × List ℕ)) (now : ℕ) (first_passes : judged n base ring now one ≡ Ok id)
+        (can : CanPassAgain ring new_id new_secret moment now)
         (text_is : rotation_base n base second_list ≡ Some new_text) where
       old_is : judged r base ring now one ≡ Ok id
-      old_is = judged_kept n r.fields base ring now one (kept_again (codes "content-digest") refl) (kept_again (codes "authorization") refl) first_based ∙ first_passes
+      old_is = judged_kept n r.fields base ring now one (kept_again (codes "content-digest") refl) (kept_again (codes "authorization") refl) first_based
+          ∙ first_passes
 
       new_is : judged_again r base ring now two ≡ Ok new_id
       unfolding judged_again judged_over admitted made_under
@@ -243,12 +251,14 @@ module _ (m : Message) (id secret : List ℕ) (created : ℕ) (nonce : Option (L
   signed_one : (text : List ℕ) → is_signed (n digested_one id secret text created nonce no_input_in no_signature_in created_size id_text nonce_text) ≡ true
   signed_one text =
       let w = digested_one in
-      let digest : (not (has_body w) || has_field (codes "content-digest") (n w id secret text created nonce no_input_in no_signature_in created_size id_text nonce_text)) ≡ true =
+      let digest : (not (has_body w) || has_field (codes "content-digest")
+      (n w id secret text created nonce no_input_in no_signature_in created_size id_text nonce_text)) ≡ true =
       ap (λ (o : Option (List ℕ)). not (has_body w) || is_some o)
       (kept w id secret text created nonce no_input_in no_signature_in created_size id_text nonce_text (codes "content-digest") refl)
       ∙ digest_there (has_body w) (has_field (codes "content-digest") w) (digested m).there in
       ap (λ (r : Result SignatureFields SigFault). are_first_alone r
-      && (not (has_body w) || has_field (codes "content-digest") (n w id secret text created nonce no_input_in no_signature_in created_size id_text nonce_text)))
+      && (not (has_body w) || has_field (codes "content-digest")
+      (n w id secret text created nonce no_input_in no_signature_in created_size id_text nonce_text)))
       (fields_are w id secret text created nonce no_input_in no_signature_in created_size id_text nonce_text) ∙ digest
 
 pub signed_is_signed : SignedIsSigned
@@ -258,7 +268,8 @@ signed_is_signed m k base id secret created nonce is unsigned created_size id_te
     (signed_one m id secret created nonce unsigned created_size id_text nonce_text text.value)
 
 -- the signature that a message has with the first tag is the one that passed
-judged_first : (signed : Message) (first : Signature) (base : List ℕ) (ring : List (List ℕ × List ℕ)) (old : List ℕ) (now : ℕ) → verified signed base ring now first_tag ≡ Ok old
+judged_first : (signed : Message) (first : Signature) (base : List ℕ) (ring : List (List ℕ × List ℕ)) (old : List ℕ) (now : ℕ)
+    → verified signed base ring now first_tag ≡ Ok old
     → tagged signed first_tag ≡ Ok first → judged signed base ring now first ≡ Ok old
 unfolding verified
 judged_first signed first base ring old now e t =
@@ -276,10 +287,12 @@ both_pass m k x base ring old old_secret created nonce new new_secret moment now
     let first : Signature = one w old old_secret text.value created nonce no_input no_signature can.created_size can.id_text can.nonce_text in
     let signed_same : signed ≡ k = signed_is m k base params old_secret text.value text.is is in
     let passes : verified signed base ring now first_tag ≡ Ok old =
-    subst (λ (y : Message). verified y base ring now first_tag ≡ Ok old) (sym signed_same) (signed_passes m k base ring old old_secret created nonce first_tag now is can) in
+    subst (λ (y : Message). verified y base ring now first_tag ≡ Ok old) (sym signed_same)
+    (signed_passes m k base ring old old_secret created nonce first_tag now is can) in
     let first_passes : judged signed base ring now first ≡ Ok old = judged_first signed first base ring old now passes
     (tagged_is w old old_secret text.value created nonce no_input no_signature can.created_size can.id_text can.nonce_text) in
-    let new_text = there_is _ (based signed base new moment (signed_one m old old_secret created nonce can.unsigned can.created_size can.id_text can.nonce_text text.value)) in
+    let new_text = there_is _ (based signed base new moment
+    (signed_one m old old_secret created nonce can.unsigned can.created_size can.id_text can.nonce_text text.value)) in
     let again_signed : signed_rotation signed base new new_secret moment ≡ Some x =
     subst (λ (y : Message). signed_rotation y base new new_secret moment ≡ Some x) (sym signed_same) again in
     let whole = signed_again_is signed x base new new_secret moment new_text.value new_text.is again_signed in

@@ -46,8 +46,10 @@ by_both_is_rotated m base ring now keys a =
     let same : second.value ≡ first.value = same_value (signature_fields m) second.value first.value second.is first.is in
     let old = step_ok (tagged m first_tag) (judged m base ring now) keys.old a.old in
     let new = step_ok (tagged m second_tag) (judged_again m base ring now) keys.new a.new in
-    let old_is : judged m base ring now a.first ≡ Ok keys.old = ap (judged m base ring now) (same_value (tagged m first_tag) a.first old.value a.first_is old.is) ∙ old.rest in
-    let new_is : judged_again m base ring now a.second ≡ Ok keys.new = ap (judged_again m base ring now) (same_value (tagged m second_tag) a.second new.value a.second_is new.is) ∙ new.rest in
+    let old_is : judged m base ring now a.first
+    ≡ Ok keys.old = ap (judged m base ring now) (same_value (tagged m first_tag) a.first old.value a.first_is old.is) ∙ old.rest in
+    let new_is : judged_again m base ring now a.second
+    ≡ Ok keys.new = ap (judged_again m base ring now) (same_value (tagged m second_tag) a.second new.value a.second_is new.is) ∙ new.rest in
     let second_is : tagged_in second_tag first.value ≡ Ok a.second = ap (tagged_in second_tag) (sym same) ∙ second.rest in
     first_step (signature_fields m) _ first.value first.is
     ∙ first_step (tagged_in first_tag first.value) _ a.first first.rest

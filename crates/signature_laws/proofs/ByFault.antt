@@ -18,7 +18,8 @@ record FailsBehind {A B : Type 0} (r : Result A SigFault) (f : A → Result B Si
   fails : f value ≡ Err fault
 
 -- of two steps the first fails, or the second
-failed_at : {A B : Type 0} (r : Result A SigFault) (f : A → Result B SigFault) (fault : SigFault) → (r >>= f) ≡ Err fault → (r ≡ Err fault) ⊎ FailsBehind r f fault
+failed_at : {A B : Type 0} (r : Result A SigFault) (f : A → Result B SigFault) (fault : SigFault) → (r >>= f) ≡ Err fault
+    → (r ≡ Err fault) ⊎ FailsBehind r f fault
 failed_at (Ok x) f fault e = inr (record { value = x; is = refl; fails = e })
 failed_at (Err other) f fault e = let is : other ≡ fault = cc in inl (ap (λ (x : SigFault). Err x) is)
 
@@ -43,8 +44,10 @@ second_is_told m base ring now old fault first_passes e =
     ∙ first_step (tagged_in first_tag fields.value) _ one.value fields.rest
     ∙ first_step (judged m base ring now one.value) _ old one.rest
     ∙ elim (failed_at (tagged m second_tag) (judged_again m base ring now) fault e) [
-      | inl not_tagged ↦ second_failed (tagged_in second_tag fields.value) _ fault (sym (ap (λ (r : Result SignatureFields SigFault). r >>= tagged_in second_tag) fields.is) ∙ not_tagged)
-      | inr two ↦ second_step (tagged_in second_tag fields.value) _ two.value (sym (ap (λ (r : Result SignatureFields SigFault). r >>= tagged_in second_tag) fields.is) ∙ two.is)
+      | inl not_tagged ↦ second_failed (tagged_in second_tag fields.value) _ fault
+          (sym (ap (λ (r : Result SignatureFields SigFault). r >>= tagged_in second_tag) fields.is) ∙ not_tagged)
+      | inr two ↦ second_step (tagged_in second_tag fields.value) _ two.value
+          (sym (ap (λ (r : Result SignatureFields SigFault). r >>= tagged_in second_tag) fields.is) ∙ two.is)
           ∙ second_failed (judged_again m base ring now two.value) _ fault two.fails
     ]
 
@@ -57,6 +60,8 @@ not_chained_is_told m base ring now old new first second first_passes second_pas
     first_step (signature_fields m) _ fields.value fields.is
     ∙ first_step (tagged_in first_tag fields.value) _ first fields.rest
     ∙ first_step (judged m base ring now first) _ old (ap (judged m base ring now) (same_value (tagged m first_tag) first one.value first_is one.is) ∙ one.rest)
-    ∙ second_step (tagged_in second_tag fields.value) _ second (sym (ap (λ (r : Result SignatureFields SigFault). r >>= tagged_in second_tag) fields.is) ∙ second_is)
-    ∙ second_step (judged_again m base ring now second) _ new (ap (judged_again m base ring now) (same_value (tagged m second_tag) second two.value second_is two.is) ∙ two.rest)
+    ∙ second_step (tagged_in second_tag fields.value) _ second
+    (sym (ap (λ (r : Result SignatureFields SigFault). r >>= tagged_in second_tag) fields.is) ∙ second_is)
+    ∙ second_step (judged_again m base ring now second) _ new
+    (ap (judged_again m base ring now) (same_value (tagged m second_tag) second two.value second_is two.is) ∙ two.rest)
     ∙ chain_failed (is_chained first.label second.list) _ apart

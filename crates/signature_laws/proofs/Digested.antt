@@ -49,7 +49,8 @@ digested m = by (has_body m) (has_field digest_name m) refl refl
 
 -- other fields leave it as it is
 pub base_same : (m : Message) (fields : List Field) (base : List ℕ) (params : List (List ℕ × Bare)) (body token : Bool)
-    → field_value (codes "content-digest") fields ≡ field_value (codes "content-digest") m.fields → field_value (codes "authorization") fields ≡ field_value (codes "authorization") m.fields
+    → field_value (codes "content-digest") fields ≡ field_value (codes "content-digest") m.fields
+    → field_value (codes "authorization") fields ≡ field_value (codes "authorization") m.fields
     → signature_base (record m { fields = fields }) base (list_of body token params) ≡ signature_base m base (list_of body token params)
 unfolding signature_base base_lines component
 base_same m fields base params false false d t = refl
@@ -58,8 +59,11 @@ base_same m fields base params false true d t = rw t refl
 base_same m fields base params true true d t = rw (d, t) refl
 
 -- which fields a signed message has
-pub signed_is : (m n : Message) (base : List ℕ) (params : List (List ℕ × Bare)) (secret : List ℕ) (text : List ℕ) → signature_base (with_digest m) base (signature_input (with_digest m) params) ≡ Some text
-    → signed_under m base params secret ≡ Some n → with_fields (signature_lines (signature_input (with_digest m) params) (hmac_sha256 secret text)) (with_digest m) ≡ n
+pub signed_is : (m n : Message) (base : List ℕ) (params : List (List ℕ × Bare)) (secret : List ℕ) (text : List ℕ)
+    → signature_base (with_digest m) base (signature_input (with_digest m) params) ≡ Some text
+    → signed_under m base params secret ≡ Some n
+    → with_fields (signature_lines (signature_input (with_digest m) params) (hmac_sha256 secret text)) (with_digest m) ≡ n
 signed_is m n base params secret text base_is is =
     let w = with_digest m in
-    some_is _ _ (sym (signed_with m w base params secret (hmac_sha256 secret text) (signature_input w params) _ _ refl refl (ap (option_map (hmac_sha256 secret)) base_is) refl refl) ∙ is)
+    some_is _ _ (sym (signed_with m w base params secret (hmac_sha256 secret text) (signature_input w params) _ _ refl refl
+    (ap (option_map (hmac_sha256 secret)) base_is) refl refl) ∙ is)

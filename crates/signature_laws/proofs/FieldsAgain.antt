@@ -74,11 +74,16 @@ module _ (m : Message) (id : List ℕ) (created : ℕ) (nonce : Option (List ℕ
   input = under_label label (Inner (signature_input m (params_of id created nonce tag)))
 
   pub input_trimmed : trimmed (dictionary_text input) ≡ dictionary_text input
-  input_trimmed = trimmed_same (dictionary_text input) 34 (ends_nil (ends_more (codes "sig1=") (inner_ends (map component_item (covered m)) id created nonce tag))) refl refl
+  input_trimmed = trimmed_same (dictionary_text input) 34
+      (ends_nil (ends_more (codes "sig1=") (inner_ends (map component_item (covered m)) id created nonce tag))) refl refl
 
-  pub input_again : created < 10 ^ 15 → list_all is_string_byte id ≡ true → IfSome nonce (λ n. list_all is_string_byte n ≡ true) → list_all is_string_byte tag ≡ true
+  pub input_again : created < 10 ^ 15 → list_all is_string_byte id ≡ true → IfSome nonce (λ n. list_all is_string_byte n ≡ true)
+      → list_all is_string_byte tag ≡ true
       → dictionary_of (dictionary_text input) ≡ Some input
   input_again c i n t = dictionary_of_again (dictionary_text input) input (dictionary_text_is input (record {
-    entries = ((refl, record { items = names_range _ _; params = params_range id created nonce tag c i n t; distinct = params_distinct id created nonce tag }), tt);
+    entries = (
+      (refl, record { items = names_range _ _; params = params_range id created nonce tag c i n t; distinct = params_distinct id created nonce tag }),
+      tt,
+    );
     distinct = (refl, tt);
   }))

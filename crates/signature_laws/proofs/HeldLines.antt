@@ -81,7 +81,8 @@ item_is : (name label : List ℕ) (bare : Bare) (params : List (List ℕ × Bare
 item_is name label (Str n) params h =
     let both = and_parts (bytes_eq n name) (is_same_label (Some label) (label_in name params)) h in
     let label_is : label_in name params ≡ Some label = same_label label (label_in name params) both.1 in
-    let params_are : params ≡ key_param label = key_params params label (only_where (bytes_eq name (codes "signature") || bytes_eq name (codes "signature-input")) (key_in params) label label_is).1 in
+    let params_are : params ≡ key_param label = key_params params label
+    (only_where (bytes_eq name (codes "signature") || bytes_eq name (codes "signature-input")) (key_in params) label label_is).1 in
     rw ((bytes_eq-Decides n name).0 both.0, params_are) refl
 item_is name label (Integer n) params h = absurd cc
 item_is name label (Decimal n) params h = absurd cc
@@ -112,14 +113,16 @@ module _ (m : Message) (base : List ℕ) (fields : SignatureFields) where
       let name = behind (string_in item.bare) _ line e in
       is_line item _ line (unless (list_any (is_component name.value (label_in name.value item.params)) others) _ line name.rest)
 
-  module _ (name label : List ℕ) (members : List (List ℕ × Member)) (names : (bytes_eq name (codes "signature") || bytes_eq name (codes "signature-input")) ≡ true)
+  module _ (name label : List ℕ) (members : List (List ℕ × Member))
+      (names : (bytes_eq name (codes "signature") || bytes_eq name (codes "signature-input")) ≡ true)
       (picks : (if bytes_eq name (codes "signature") then fields.signatures else fields.inputs) ≡ members) where
     record IsLineOf (line : List ℕ) : Type 0 where
       member : Member
       is : value_at members label ≡ Some member
       line_is : line ≡ member_line name label member
 
-    member_found : (found : Option Member) (line : List ℕ) → value_at members label ≡ found → line_with (named name label) (option_map member_text found) ≡ Some line → IsLineOf line
+    member_found : (found : Option Member) (line : List ℕ) → value_at members label ≡ found
+        → line_with (named name label) (option_map member_text found) ≡ Some line → IsLineOf line
     member_found (Some member) line is e = record { member = member; is = is; line_is = sym (some_is _ line e) }
     member_found None line is e = absurd cc
 
@@ -168,7 +171,8 @@ module _ (m : Message) (base : List ℕ) (fields : SignatureFields) where
       split = ap (λ (t : List ℕ). t ++ more) l.line_is;
     }
 
-    lines_hold : (items : List Item) (text : List ℕ) → list_any (is_component name (Some label)) items ≡ true → rotation_lines m base fields items ≡ Some text → IsHeldIn text
+    lines_hold : (items : List Item) (text : List ℕ) → list_any (is_component name (Some label)) items ≡ true → rotation_lines m base fields items ≡ Some text
+        → IsHeldIn text
     unfolding rotation_lines
     lines_hold [] text c e = absurd cc
     lines_hold (item ∷ items) text c e =
@@ -182,7 +186,8 @@ module _ (m : Message) (base : List ℕ) (fields : SignatureFields) where
 
 -- ---- the whole base
 
-in_base : (m : Message) (base : List ℕ) (list : InnerList) (name label text : List ℕ) → (bytes_eq name (codes "signature") || bytes_eq name (codes "signature-input")) ≡ true
+in_base : (m : Message) (base : List ℕ) (list : InnerList) (name label text : List ℕ)
+    → (bytes_eq name (codes "signature") || bytes_eq name (codes "signature-input")) ≡ true
     → (if bytes_eq name (codes "signature") then (signature_members m).signatures else (signature_members m).inputs) ≡ members_of m name
     → covers_member name label list ≡ true → base_with m base (signature_members m) list ≡ Some text → HoldsMember m name label text
 unfolding base_with

@@ -47,7 +47,8 @@ pub params_have : (id : List ℕ) (created : ℕ) (nonce : Option (List ℕ)) (t
 params_have id created None tag = record { tag_is = refl; no_expires = refl; no_alg = refl }
 params_have id created (Some nonce) tag = record { tag_is = refl; no_expires = refl; no_alg = refl }
 
-well_formed : (w : Message) (id : List ℕ) (created : ℕ) (nonce : Option (List ℕ)) (tag : List ℕ) → is_well_formed (signature_input w (params_of id created nonce tag)) ≡ true
+well_formed : (w : Message) (id : List ℕ) (created : ℕ) (nonce : Option (List ℕ)) (tag : List ℕ)
+    → is_well_formed (signature_input w (params_of id created nonce tag)) ≡ true
 well_formed w id created nonce tag =
     let has = params_have id created nonce tag in
     rw (strings (names (has_body w) (has_field (codes "authorization") w)), has.no_expires, has.no_alg) refl
@@ -78,16 +79,20 @@ module _ (w : Message) (id : List ℕ) (created : ℕ) (nonce : Option (List ℕ
   value_kept : (name : List ℕ) → values_of name (signature_lines list bytes) ≡ [] → field_value name after.fields ≡ field_value name w.fields
   value_kept name none = value_beside name w.fields (signature_lines list bytes) none
 
-  input_value : has_field (codes "signature-input") w ≡ false → field_value (codes "signature-input") after.fields ≡ Some (dictionary_text (input w id created nonce tag))
-  input_value none = value_added (codes "signature-input") w.fields (signature_lines list bytes) _ (ap (λ (t : List ℕ). t ∷ []) (input_trimmed w id created nonce tag)) (none_is _ none)
+  input_value : has_field (codes "signature-input") w ≡ false
+      → field_value (codes "signature-input") after.fields ≡ Some (dictionary_text (input w id created nonce tag))
+  input_value none = value_added (codes "signature-input") w.fields (signature_lines list bytes) _
+      (ap (λ (t : List ℕ). t ∷ []) (input_trimmed w id created nonce tag)) (none_is _ none)
 
   signature_value : has_field (codes "signature") w ≡ false → field_value (codes "signature") after.fields ≡ Some (dictionary_text (signature bytes))
-  signature_value none = value_added (codes "signature") w.fields (signature_lines list bytes) _ (ap (λ (t : List ℕ). t ∷ []) (signature_trimmed bytes)) (none_is _ none)
+  signature_value none = value_added (codes "signature") w.fields (signature_lines list bytes) _ (ap (λ (t : List ℕ). t ∷ []) (signature_trimmed bytes))
+      (none_is _ none)
 
   covers : covers_enough after list ≡ true
   covers = rw (value_kept (codes "authorization") refl) (by (has_body w) (has_field (codes "authorization") w))
     where
-      by : (body token : Bool) → (is_named (codes "@method") (map component_item (names body token)) && is_named (codes "@target-uri") (map component_item (names body token))
+      by : (body token : Bool) → (is_named (codes "@method") (map component_item (names body token))
+          && is_named (codes "@target-uri") (map component_item (names body token))
           && (not body || is_named (codes "content-digest") (map component_item (names body token)))
           && (not token || is_named (codes "authorization") (map component_item (names body token)))) ≡ true
       by false false = refl
@@ -101,11 +106,14 @@ module _ (w : Message) (id : List ℕ) (created : ℕ) (nonce : Option (List ℕ
 -- ---- the checks
 
 -- a field other than the digest is as it was
-pub no_field : (m w : Message) (name : List ℕ) → IsDigested m w → bytes_eq (codes "content-digest") name ≡ false → has_field name m ≡ false → has_field name w ≡ false
+pub no_field : (m w : Message) (name : List ℕ) → IsDigested m w → bytes_eq (codes "content-digest") name ≡ false → has_field name m ≡ false
+    → has_field name w ≡ false
 no_field m w name is other none = ap is_some (is.beside name other) ∙ none
 
-module _ (m w : Message) (base : List ℕ) (ring : List (List ℕ × List ℕ)) (id secret : List ℕ) (created : ℕ) (nonce : Option (List ℕ)) (tag : List ℕ) (now : ℕ) (text : List ℕ)
-    (can : CanPass m ring id secret created nonce tag now) (is : IsDigested m w) (base_is : signature_base w base (signature_input w (params_of id created nonce tag)) ≡ Some text) where
+module _ (m w : Message) (base : List ℕ) (ring : List (List ℕ × List ℕ)) (id secret : List ℕ) (created : ℕ) (nonce : Option (List ℕ)) (tag : List ℕ) (now : ℕ)
+    (text : List ℕ)
+    (can : CanPass m ring id secret created nonce tag now) (is : IsDigested m w)
+    (base_is : signature_base w base (signature_input w (params_of id created nonce tag)) ≡ Some text) where
   abbrev bytes : List ℕ
   bytes = hmac_sha256 secret text
 
@@ -140,8 +148,18 @@ module _ (m w : Message) (base : List ℕ) (ring : List (List ℕ × List ℕ)) 
       let has = params_have id created nonce tag in
       let based : signature_base signed_one base signed_list ≡ Some text =
       base_same w signed_one.fields base _ (has_body w) (has_field (codes "authorization") w)
-      (value_kept w id created nonce tag bytes (codes "content-digest") refl) (value_kept w id created nonce tag bytes (codes "authorization") refl) ∙ base_is in
-      rw (based, covers w id created nonce tag bytes, in_window created now can.not_early can.not_late, has.no_expires, has.no_alg, can.key, same bytes, digest_passes w id created nonce tag bytes (is.fits can.digest) is.there) refl
+      (value_kept w id created nonce tag bytes (codes "content-digest") refl) (value_kept w id created nonce tag bytes (codes "authorization") refl)
+      ∙ base_is in
+      rw (
+        based,
+        covers w id created nonce tag bytes,
+        in_window created now can.not_early can.not_late,
+        has.no_expires,
+        has.no_alg,
+        can.key,
+        same bytes,
+        digest_passes w id created nonce tag bytes (is.fits can.digest) is.there,
+      ) refl
 
   verified_is : verified signed_one base ring now tag ≡ Ok id
   unfolding verified
@@ -178,5 +196,11 @@ signed_is_marked m n base id secret created nonce tag is none i fits t size =
     let text = there_is _ (always_based m base params) in
     let bytes = hmac_sha256 secret text.value in
     let no_input = no_field m w (codes "signature-input") (digested m) refl none in
-    subst (λ (k : Message). mark_in_found (lone_list k tag) ≡ Some (record { nonce = nonce; created = created })) (signed_is m n base params secret text.value text.is is)
-    (rw (input_value w id created (Some nonce) tag bytes no_input, input_again w id created (Some nonce) tag (written created size) i (nonce_letters nonce (is_nonce_parts nonce fits).1) t, same tag) (mark_of_list w id created nonce tag bytes fits size))
+    subst (λ (k : Message). mark_in_found (lone_list k tag) ≡ Some (record { nonce = nonce; created = created }))
+    (signed_is m n base params secret text.value text.is is)
+    (rw (
+      input_value w id created (Some nonce) tag bytes no_input,
+      input_again w id created (Some nonce) tag (written created size) i
+          (nonce_letters nonce (is_nonce_parts nonce fits).1) t,
+      same tag,
+    ) (mark_of_list w id created nonce tag bytes fits size))

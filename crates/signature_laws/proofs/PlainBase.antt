@@ -35,7 +35,8 @@ named_alone : (name : List ℕ) (items : List Item) → AllByRecursion IsPlain i
 named_alone name [] plain = refl
 named_alone name (item ∷ items) plain =
     ap (λ (b : Bool). b || list_any (is_component name None) items)
-    (ap (λ (label : Option (List ℕ)). is_string name item.bare && is_same_label None label) (ap (label_in name) plain.0 ∙ no_label name) ∙ with_true (is_string name item.bare))
+    (ap (λ (label : Option (List ℕ)). is_string name item.bare && is_same_label None label) (ap (label_in name) plain.0 ∙ no_label name)
+    ∙ with_true (is_string name item.bare))
     ∙ ap (λ (b : Bool). is_string name item.bare || b) (named_alone name items plain.1)
 
 string_line : (m : Message) (base : List ℕ) (fields : SignatureFields) (name : List ℕ) (others : List Item) → AllByRecursion IsPlain others
@@ -68,7 +69,8 @@ plain_line m base fields (Boolean b) others plain = refl
 plain_line m base fields (Date n) others plain = refl
 plain_line m base fields (Display t) others plain = refl
 
-plain_lines : (m : Message) (base : List ℕ) (fields : SignatureFields) (items : List Item) → AllByRecursion IsPlain items → rotation_lines m base fields items ≡ base_lines m base items
+plain_lines : (m : Message) (base : List ℕ) (fields : SignatureFields) (items : List Item) → AllByRecursion IsPlain items
+    → rotation_lines m base fields items ≡ base_lines m base items
 unfolding rotation_lines base_lines
 plain_lines m base fields [] plain = refl
 plain_lines m base fields (item ∷ items) plain =
@@ -77,4 +79,5 @@ plain_lines m base fields (item ∷ items) plain =
 
 pub plain_base : PlainBaseIsSame
 unfolding base_with signature_base
-plain_base m base list plain = ap (λ (lines : Option (List ℕ)). lines >>= λ ls. Some (ls ++ params_line list)) (plain_lines m base (signature_members m) list.items plain)
+plain_base m base list plain = ap (λ (lines : Option (List ℕ)). lines >>= λ ls. Some (ls ++ params_line list))
+    (plain_lines m base (signature_members m) list.items plain)

@@ -23,7 +23,8 @@ request = record {
   target = codes "/token";
   fields = field (codes "authorization") (codes "GNAP AAAAAAAAAAIAAAAAAAAAAAAAAAAAAAAA")
       ∷ field (codes "content-digest") (codes "sha-256=:pFiaIJZh9GLNTAoqcW+jrnQfACwNB4pusYF/q4pSj7I=:")
-      ∷ field (codes "signature-input") (codes "sig1=(\"@method\" \"@target-uri\" \"content-digest\" \"authorization\");created=1002;keyid=\"c1\";nonce=\"n7\";tag=\"gnap\"")
+      ∷ field (codes "signature-input")
+      (codes "sig1=(\"@method\" \"@target-uri\" \"content-digest\" \"authorization\");created=1002;keyid=\"c1\";nonce=\"n7\";tag=\"gnap\"")
       ∷ field (codes "signature") (codes "sig1=:QPMXrzu1re75AzYLirPUSq1++Kh5BuzFopiM093gt5k=:") ∷ [];
   body = codes "{\"key\":\"c2\"}";
   last = false;
@@ -31,7 +32,9 @@ request = record {
 
 pub second_base : rotation_base request (codes "https://as.example") (rotation_input request (codes "c2") 1002) ≡ Some (
     codes "\"@method\": POST\n\"@target-uri\": https://as.example/token\n\"content-digest\": sha-256=:pFiaIJZh9GLNTAoqcW+jrnQfACwNB4pusYF/q4pSj7I=:\n\"authorization\": GNAP AAAAAAAAAAIAAAAAAAAAAAAAAAAAAAAA\n\"signature\";key=\"sig1\": :QPMXrzu1re75AzYLirPUSq1++Kh5BuzFopiM093gt5k=:\n\"signature-input\";key=\"sig1\": (\"@method\" \"@target-uri\" \"content-digest\" \"authorization\");created=1002;keyid=\"c1\";nonce=\"n7\";tag=\"gnap\"\n\"@signature-params\": (\"@method\" \"@target-uri\" \"content-digest\" \"authorization\" \"signature\";key=\"sig1\" \"signature-input\";key=\"sig1\");created=1002;keyid=\"c2\";tag=\"gnap-rotate\"")
-unfolding base_with rotation_lines component field_value digits key_at decimal_at unsigned_at number_at string_rest decoded binary_rest bare_at value_of parameter_at params_from params_at item_at items_from items_at inner_at member_at entry_value_at entry_at next_at members_from members_of dictionary_of decoded_of groups_error scan_steps groups_bytes encode_symbols
+unfolding base_with rotation_lines component field_value digits key_at decimal_at unsigned_at number_at string_rest decoded binary_rest bare_at value_of
+    parameter_at params_from params_at item_at items_from items_at inner_at member_at entry_value_at entry_at next_at members_from members_of dictionary_of
+    decoded_of groups_error scan_steps groups_bytes encode_symbols
 second_base = refl
 
 -- ---- what covers the first signature
@@ -52,7 +55,11 @@ unfolding component field_value
 bytes_left_out = refl
 
 abbrev whole_fields : InnerList
-whole_fields = record { items = map component_item (covered request) ++ component_item (codes "signature") ∷ component_item (codes "signature-input") ∷ []; params = [] }
+whole_fields = record {
+  items = map component_item (covered request) ++ component_item (codes "signature") ∷ component_item (codes "signature-input")
+      ∷ [];
+  params = [];
+}
 
 pub whole_fields_alone : is_chained (codes "sig1") whole_fields ≡ false
 unfolding component field_value

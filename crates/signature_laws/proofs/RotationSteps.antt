@@ -33,10 +33,12 @@ pub chain_failed : {B : Type 0} (b : Bool) (f : Unit {0} → Result B RotationFa
 chain_failed b f e = ap (λ (c : Bool). must_chain c >>= f) e
 
 -- a step that fails is the answer
-pub first_failed : {A B : Type 0} (r : Result A SigFault) (f : A → Result B RotationFault) (fault : SigFault) → r ≡ Err fault → (in_first r >>= f) ≡ Err (First fault)
+pub first_failed : {A B : Type 0} (r : Result A SigFault) (f : A → Result B RotationFault) (fault : SigFault) → r ≡ Err fault
+    → (in_first r >>= f) ≡ Err (First fault)
 first_failed {A} r f fault e = ap (λ (y : Result A SigFault). in_first y >>= f) e
 
-pub second_failed : {A B : Type 0} (r : Result A SigFault) (f : A → Result B RotationFault) (fault : SigFault) → r ≡ Err fault → (in_second r >>= f) ≡ Err (Second fault)
+pub second_failed : {A B : Type 0} (r : Result A SigFault) (f : A → Result B RotationFault) (fault : SigFault) → r ≡ Err fault
+    → (in_second r >>= f) ≡ Err (Second fault)
 second_failed {A} r f fault e = ap (λ (y : Result A SigFault). in_second y >>= f) e
 
 pub chain_ok : {B : Type 0} (b : Bool) (f : Unit {0} → Result B RotationFault) (y : B) → (must_chain b >>= f) ≡ Ok y → (b ≡ true) × (f tt ≡ Ok y)

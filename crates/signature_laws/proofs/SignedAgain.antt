@@ -18,7 +18,8 @@ use Rattle.signature_laws.specs.Rotation.{IsAlwaysSignedAgain}
 
 -- other fields, and other members, leave it as it is
 pub base_same : (m : Message) (fields : List Field) (base : List ℕ) (old new : SignatureFields) (params : List (List ℕ × Bare)) (body token : Bool)
-    → field_value (codes "content-digest") fields ≡ field_value (codes "content-digest") m.fields → field_value (codes "authorization") fields ≡ field_value (codes "authorization") m.fields
+    → field_value (codes "content-digest") fields ≡ field_value (codes "content-digest") m.fields
+    → field_value (codes "authorization") fields ≡ field_value (codes "authorization") m.fields
     → value_at new.signatures label ≡ value_at old.signatures label → value_at new.inputs label ≡ value_at old.inputs label
     → base_with (record m { fields = fields }) base new (list_of body token params) ≡ base_with m base old (list_of body token params)
 unfolding base_with rotation_lines component
@@ -30,10 +31,12 @@ base_same m fields base old new params true true d t s i = rw (d, t, s, i) refl
 pub always_signed_again : IsAlwaysSignedAgain
 always_signed_again m base id secret created h =
     let text = there_is _ (based m base id created h) in
-    ap is_some (signed_with m base id secret (hmac_sha256 secret text.value) created (rotation_input m id created) _ _ refl (ap (option_map (hmac_sha256 secret)) text.is) refl refl)
+    ap is_some (signed_with m base id secret (hmac_sha256 secret text.value) created (rotation_input m id created) _ _ refl
+    (ap (option_map (hmac_sha256 secret)) text.is) refl refl)
 
 -- which fields the message has
 pub signed_again_is : (m r : Message) (base id secret : List ℕ) (created : ℕ) (text : List ℕ) → rotation_base m base (rotation_input m id created) ≡ Some text
     → signed_rotation m base id secret created ≡ Some r → with_fields (second_lines (rotation_input m id created) (hmac_sha256 secret text)) m ≡ r
 signed_again_is m r base id secret created text base_is is =
-    some_is _ _ (sym (signed_with m base id secret (hmac_sha256 secret text) created (rotation_input m id created) _ _ refl (ap (option_map (hmac_sha256 secret)) base_is) refl refl) ∙ is)
+    some_is _ _ (sym (signed_with m base id secret (hmac_sha256 secret text) created (rotation_input m id created) _ _ refl
+    (ap (option_map (hmac_sha256 secret)) base_is) refl refl) ∙ is)

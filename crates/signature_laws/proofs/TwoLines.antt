@@ -32,7 +32,8 @@ values_more name fields more =
     ∙ map-append (λ (f : Field). trimmed f.value) (filter (λ (f : Field). bytes_eq f.name name) fields) _
 
 -- two lines, of which no other has the name
-pub value_of_two : (name : List ℕ) (fields one two : List Field) (a b : List ℕ) → values_of name one ≡ a ∷ [] → values_of name two ≡ b ∷ [] → field_value name fields ≡ None
+pub value_of_two : (name : List ℕ) (fields one two : List Field) (a b : List ℕ) → values_of name one ≡ a ∷ [] → values_of name two ≡ b ∷ []
+    → field_value name fields ≡ None
     → field_value name ((fields ++ one) ++ two) ≡ Some (separated_text (44 ∷ 32 ∷ []) (λ v. v) (a ∷ b ∷ []))
 unfolding field_value
 value_of_two name fields one two a b p q none =
@@ -53,7 +54,8 @@ joined_text a b =
 -- ---- nothing to be trimmed
 
 pub input_trimmed : (m : Message) (id : List ℕ) (created : ℕ)
-    → trimmed (dictionary_text (under_label second_label (Inner (rotation_input m id created)))) ≡ dictionary_text (under_label second_label (Inner (rotation_input m id created)))
+    → trimmed (dictionary_text (under_label second_label (Inner (rotation_input m id created))))
+    ≡ dictionary_text (under_label second_label (Inner (rotation_input m id created)))
 input_trimmed m id created =
     trimmed_same (dictionary_text (under_label second_label (Inner (rotation_input m id created)))) 34
     (ends_nil (ends_more (codes "sig2=") (inner_ends (covered_again m) id created None second_tag))) refl refl
@@ -64,14 +66,16 @@ bytes_member bytes = Single (record { bare = Binary bytes; params = [] })
 
 pub signature_trimmed : (bytes : List ℕ)
     → trimmed (dictionary_text (under_label second_label (bytes_member bytes))) ≡ dictionary_text (under_label second_label (bytes_member bytes))
-signature_trimmed bytes = trimmed_same (dictionary_text (under_label second_label (bytes_member bytes))) 58 (ends_nil (ends_more (codes "sig2=") (ends_nil (binary_ends bytes)))) refl refl
+signature_trimmed bytes = trimmed_same (dictionary_text (under_label second_label (bytes_member bytes))) 58
+    (ends_nil (ends_more (codes "sig2=") (ends_nil (binary_ends bytes)))) refl refl
 
 -- ---- read again
 
 abbrev pub inputs_of : InnerList → InnerList → List (List ℕ × Member)
 inputs_of first second = (label, Inner first) ∷ (second_label, Inner second) ∷ []
 
-pub inputs_again : (first second : InnerList) → IsInnerInRange first → IsInnerInRange second → dictionary_of (dictionary_text (inputs_of first second)) ≡ Some (inputs_of first second)
+pub inputs_again : (first second : InnerList) → IsInnerInRange first → IsInnerInRange second
+    → dictionary_of (dictionary_text (inputs_of first second)) ≡ Some (inputs_of first second)
 inputs_again first second a b =
     let d = inputs_of first second in
     dictionary_of_again (dictionary_text d) d (dictionary_text_is d (record { entries = ((refl, a), ((refl, b), tt)); distinct = (refl, (refl, tt)) }))
@@ -80,10 +84,14 @@ abbrev pub signatures_of : List ℕ → List ℕ → List (List ℕ × Member)
 signatures_of first second = (label, bytes_member first) ∷ (second_label, bytes_member second) ∷ []
 
 pub signatures_again : (key text key' text' : List ℕ)
-    → dictionary_of (dictionary_text (signatures_of (hmac_sha256 key text) (hmac_sha256 key' text'))) ≡ Some (signatures_of (hmac_sha256 key text) (hmac_sha256 key' text'))
+    → dictionary_of (dictionary_text (signatures_of (hmac_sha256 key text) (hmac_sha256 key' text')))
+    ≡ Some (signatures_of (hmac_sha256 key text) (hmac_sha256 key' text'))
 signatures_again key text key' text' =
     let d = signatures_of (hmac_sha256 key text) (hmac_sha256 key' text') in
     dictionary_of_again (dictionary_text d) d (dictionary_text_is d (record {
-      entries = ((refl, record { bare = hmac_range key text; params = tt; distinct = tt }), ((refl, record { bare = hmac_range key' text'; params = tt; distinct = tt }), tt));
+      entries = (
+        (refl, record { bare = hmac_range key text; params = tt; distinct = tt }),
+        ((refl, record { bare = hmac_range key' text'; params = tt; distinct = tt }), tt),
+      );
       distinct = (refl, (refl, tt));
     }))

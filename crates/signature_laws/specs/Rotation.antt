@@ -22,11 +22,13 @@ use Rattle.signature_laws.specs.Signing.{CanPass}
 
 -- where no covered component has parameters, the base is that of any signature
 abbrev pub PlainBaseIsSame : Type 0
-PlainBaseIsSame = (m : Message) (base : List ℕ) (list : InnerList) → AllByRecursion (λ item. item.params ≡ []) list.items → rotation_base m base list ≡ signature_base m base list
+PlainBaseIsSame = (m : Message) (base : List ℕ) (list : InnerList) → AllByRecursion (λ item. item.params ≡ []) list.items
+    → rotation_base m base list ≡ signature_base m base list
 
 -- the line of a field's member under a label, as `"signature";key="sig1": :c2lnbmVk:`
 abbrev pub member_line : List ℕ → List ℕ → Member → List ℕ
-member_line name label member = item_text (record { bare = Str name; params = (codes "key", Str label) ∷ [] }) ++ (codes ": " ++ (member_text member ++ 10 ∷ []))
+member_line name label member = item_text (record { bare = Str name; params = (codes "key", Str label) ∷ [] })
+    ++ (codes ": " ++ (member_text member ++ 10 ∷ []))
 
 -- whole lines
 abbrev pub AreLines : List ℕ → Type 0
@@ -82,8 +84,10 @@ NotChainedIsTold = (m : Message) (base : List ℕ) (ring : List (List ℕ × Lis
 
 -- a message that was signed, with or without a nonce, can be signed again
 abbrev pub SignedIsSigned : Type 0
-SignedIsSigned = (m n : Message) (base id secret : List ℕ) (created : ℕ) (nonce : Option (List ℕ)) → signed_under m base (params_of id created nonce first_tag) secret ≡ Some n
-    → has_signature m ≡ false → created < 10 ^ 15 → list_all is_string_byte id ≡ true → IfSome nonce (λ n. list_all is_string_byte n ≡ true) → is_signed n ≡ true
+SignedIsSigned = (m n : Message) (base id secret : List ℕ) (created : ℕ) (nonce : Option (List ℕ))
+    → signed_under m base (params_of id created nonce first_tag) secret ≡ Some n
+    → has_signature m ≡ false → created < 10 ^ 15 → list_all is_string_byte id ≡ true → IfSome nonce (λ n. list_all is_string_byte n ≡ true)
+    → is_signed n ≡ true
 
 -- a message that can be signed again always is
 abbrev pub IsAlwaysSignedAgain : Type 0
@@ -99,7 +103,8 @@ pub record CanPassAgain (ring : List (List ℕ × List ℕ)) (id secret : List �
 
 -- a message that was signed, and signed again, gives both keys
 abbrev pub BothPass : Type 0
-BothPass = (m n r : Message) (base : List ℕ) (ring : List (List ℕ × List ℕ)) (old old_secret : List ℕ) (created : ℕ) (nonce : Option (List ℕ)) (new new_secret : List ℕ) (moment now : ℕ)
+BothPass = (m n r : Message) (base : List ℕ) (ring : List (List ℕ × List ℕ)) (old old_secret : List ℕ) (created : ℕ) (nonce : Option (List ℕ))
+    (new new_secret : List ℕ) (moment now : ℕ)
     → signed_under m base (params_of old created nonce first_tag) old_secret ≡ Some n → CanPass m ring old old_secret created nonce first_tag now
     → signed_rotation n base new new_secret moment ≡ Some r → CanPassAgain ring new new_secret moment now
     → rotated_keys r base ring now ≡ Ok (record { old = old; new = new })

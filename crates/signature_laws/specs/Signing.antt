@@ -16,26 +16,29 @@ abbrev pub IsAlwaysSigned : Type 0
 IsAlwaysSigned = (m : Message) (base : List ℕ) (params : List (List ℕ × Bare)) (secret : List ℕ) → IsSome (signed_under m base params secret)
 
 -- what it takes that the signature of a message, made under this id and secret, at this time, with or without a nonce, and with this tag, passes
-pub record CanPass (m : Message) (ring : List (List ℕ × List ℕ)) (id secret : List ℕ) (created : ℕ) (nonce : Option (List ℕ)) (tag : List ℕ) (now : ℕ) : Type 0 where
-  -- the message has no signature yet
-  pub unsigned : has_signature m ≡ false
-  -- a digest that is there already fits the body
-  pub digest : (field : List ℕ) → field_value (codes "content-digest") m.fields ≡ Some field → Fits field m.body
-  -- the one who verifies has the key
-  pub key : value_at ring id ≡ Some secret
-  -- the parameters can be written
-  pub id_text : list_all is_string_byte id ≡ true
-  pub nonce_text : IfSome nonce (λ n. list_all is_string_byte n ≡ true)
-  pub tag_text : list_all is_string_byte tag ≡ true
-  pub created_size : created < 10 ^ 15
-  -- it is verified at most 300 seconds before or after
-  pub not_early : created ≤ now + 300
-  pub not_late : now ≤ created + 300
+pub record CanPass (m : Message) (ring : List (List ℕ × List ℕ)) (id secret : List ℕ) (created : ℕ) (nonce : Option (List ℕ)) (tag : List ℕ) (now : ℕ) : Type 0
+  where
+    -- the message has no signature yet
+    pub unsigned : has_signature m ≡ false
+    -- a digest that is there already fits the body
+    pub digest : (field : List ℕ) → field_value (codes "content-digest") m.fields ≡ Some field → Fits field m.body
+    -- the one who verifies has the key
+    pub key : value_at ring id ≡ Some secret
+    -- the parameters can be written
+    pub id_text : list_all is_string_byte id ≡ true
+    pub nonce_text : IfSome nonce (λ n. list_all is_string_byte n ≡ true)
+    pub tag_text : list_all is_string_byte tag ≡ true
+    pub created_size : created < 10 ^ 15
+    -- it is verified at most 300 seconds before or after
+    pub not_early : created ≤ now + 300
+    pub not_late : now ≤ created + 300
 
 -- a message that was signed passes, and the answer is the key's id
 abbrev pub SignedPasses : Type 0
-SignedPasses = (m n : Message) (base : List ℕ) (ring : List (List ℕ × List ℕ)) (id secret : List ℕ) (created : ℕ) (nonce : Option (List ℕ)) (tag : List ℕ) (now : ℕ)
-    → signed_under m base (params_of id created nonce tag) secret ≡ Some n → CanPass m ring id secret created nonce tag now → verified n base ring now tag ≡ Ok id
+SignedPasses = (m n : Message) (base : List ℕ) (ring : List (List ℕ × List ℕ)) (id secret : List ℕ) (created : ℕ) (nonce : Option (List ℕ)) (tag : List ℕ)
+    (now : ℕ)
+    → signed_under m base (params_of id created nonce tag) secret ≡ Some n → CanPass m ring id secret created nonce tag now
+    → verified n base ring now tag ≡ Ok id
 
 -- a message that was signed with a nonce has the mark of that nonce and moment
 abbrev pub SignedIsMarked : Type 0

@@ -97,10 +97,12 @@ origin-alike (p ∷ ps) (b ∷ bs) manage alike =
     same_next (λ x xs. origin_of (x ∷ xs) manage) p b ps bs alike.0
     (ap (λ o. if list_any (has_manage manage) (handed_tokens b.reply) then origin_in b.call (length ps) (λ value. origin_of ps value) else o) rest
     ∙ ap (λ n. if list_any (has_manage manage) (handed_tokens b.reply) then origin_in b.call n (λ value. origin_of ps value) else origin_of bs manage) long
-    ∙ ap (λ o. if list_any (has_manage manage) (handed_tokens b.reply) then o else origin_of bs manage) (origin_in-alike b.call (length bs) (λ value. origin_of ps value) (λ value. origin_of bs value)
+    ∙ ap (λ o. if list_any (has_manage manage) (handed_tokens b.reply) then o else origin_of bs manage)
+    (origin_in-alike b.call (length bs) (λ value. origin_of ps value) (λ value. origin_of bs value)
     (λ value. origin-alike ps bs value alike.1)))
     (λ reply notes. rest
-    ∙ sym (ap (λ r. if list_any (has_manage manage) (handed_tokens r) then origin_in b.call (length bs) (λ value. origin_of bs value) else origin_of bs manage) reply))
+    ∙ sym (ap (λ r. if list_any (has_manage manage) (handed_tokens r) then origin_in b.call (length bs) (λ value. origin_of bs value) else origin_of bs manage)
+    reply))
 
 and_none : (b : Bool) → (b && false) ≡ false
 and_none true = refl
@@ -119,7 +121,8 @@ ended-alike manage origin place (p ∷ ps) (b ∷ bs) alike =
     let long = length-alike ps bs alike.1 in
     let doors = chain-alike origin ps bs alike.1 in
     let on : ℕ → List Text → Bool → Reply → Bool = λ n ds r reply.
-    (nat_lt place n && ((is_text manage (presented_manage b.call) && ends_token reply) || (is_among ds (presented_door b.call) && ends_tokens b.call reply))) || r in
+    (nat_lt place n && ((is_text manage (presented_manage b.call) && ends_token reply) || (is_among ds (presented_door b.call) && ends_tokens b.call reply)))
+    || r in
     same_next (λ x xs. is_ended manage origin place (x ∷ xs)) p b ps bs alike.0
     (ap (λ r. on (length ps) (chain_doors origin ps) r b.reply) rest
     ∙ ap (λ n. on n (chain_doors origin ps) (is_ended manage origin place bs) b.reply) long

@@ -53,10 +53,12 @@ accepted-entry : (fits : Call → Type 0) (signed_fits : Signed → Type 0) (rul
 accepted-entry fits signed_fits rules h k moment draw signed is =
     let made : Reply → List Note → Event = λ reply ns. record { number = k; moment = moment; draw = draw; call = signed.call; reply = reply; notes = ns } in
     let g : Answer Reply Note = gnap_answer rules (plain_notes (notes_of h)) (now h moment) draw signed.call in
-    ap (λ b. made (answered b rules (notes_of h) (now h moment) draw signed).reply (plain_notes (answered b rules (notes_of h) (now h moment) draw signed).notes)) is
+    ap (λ b. made (answered b rules (notes_of h) (now h moment) draw signed).reply
+    (plain_notes (answered b rules (notes_of h) (now h moment) draw signed).notes)) is
     ∙ ap (λ (ns : List Note). made g.reply ns) (plain-behind signed g)
     ∙ sym (ap (λ (ns : List Note). let a : Answer Reply Note = gnap_answer rules ns (now h moment) draw signed.call in made a.reply a.notes) (history_notes h))
-    ∙ sym (ap (λ n. let a : Answer Reply Note = gnap_answer rules (notes_of (plain_history h)) n draw signed.call in made a.reply a.notes) (history_now h moment))
+    ∙ sym (ap (λ n. let a : Answer Reply Note = gnap_answer rules (notes_of (plain_history h)) n draw signed.call in made a.reply a.notes)
+    (history_now h moment))
 
 -- where one more entry stands
 signed-next : (signed_fits : Signed → Type 0) (inner after : List Event → Type 0) (until next_until : Text → Text → Option ℕ) (many next_many : ℕ → ℕ)
@@ -74,7 +76,8 @@ signed-next signed_fits inner after until next_until many next_many rules latest
     let was : now h 0 ≡ latest = stands.latest_is in
     record {
       legal = subst (λ (x : SignedEvent). Legal law rules (h ++ x ∷ [])) (sym is)
-          (legal-append law rules h (entry_of law rules h k moment draw signed) stands.legal (record { fits = fit; in_time = time; reply = refl; notes = refl }));
+          (legal-append law rules h (entry_of law rules h k moment draw signed) stands.legal
+          (record { fits = fit; in_time = time; reply = refl; notes = refl }));
       within = subst after (sym (plain-append h e)) within;
       tells = subst (λ (ns : List SignedNote). TellsOf next_until next_many ns (max latest moment))
           (sym (notes-append h (e ∷ []) ∙ ap (λ x. notes_of h ++ x) (append-nil e.notes))) tells;
@@ -194,7 +197,8 @@ renumbered-plain (e ∷ past) (f ∷ other) same =
     let back = renumbered-reverse past other same.1 in
     let refused : is_refused other f ≡ is_refused past e
     = ap (λ (x : SignedEvent). is_refused other x) same.0
-    ∙ sym (ap (λ (ns : List SignedNote). refuses ns (now (reverse past) e.moment) (caller e.call.call) e.call.mark) (notes-renumbered (reverse past) (reverse other) back)
+    ∙ sym (ap (λ (ns : List SignedNote). refuses ns (now (reverse past) e.moment) (caller e.call.call) e.call.mark)
+    (notes-renumbered (reverse past) (reverse other) back)
     ∙ ap (λ n. refuses (notes_of (reverse other)) n (caller e.call.call) e.call.mark) (now-renumbered (reverse past) (reverse other) e.moment back)) in (
       ap (λ b. plain_entry b f) refused ∙ ap (λ (x : SignedEvent). plain_entry (is_refused past e) x) same.0,
       renumbered-plain past other same.1,

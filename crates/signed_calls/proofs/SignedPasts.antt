@@ -160,23 +160,27 @@ accepted_among rules (x ∷ past) e legal accepted h =
 pub few_before : (before : List SignedEvent) (e : SignedEvent) (after : List SignedEvent) → length (before ++ e ∷ after) ≤ 2 ^ 58 → length before ≤ 2 ^ 58
 few_before before e after few = let k = length-append before (e ∷ after) in omega arith
 
-refused_bound : (trail : List Note) (at : ℕ) (call : Call) (reply : Reply) (token : TokenOut) (key : Text) → reply ≡ Error InvalidClient → IsBoundTo trail at call reply token key
+refused_bound : (trail : List Note) (at : ℕ) (call : Call) (reply : Reply) (token : TokenOut) (key : Text) → reply ≡ Error InvalidClient
+    → IsBoundTo trail at call reply token key
 refused_bound trail at call reply token key is = record {
   told = λ server binding wanted asks. subst (λ (r : Reply). TellsKey r key) (sym is) tt;
   kept = λ presents other. ap ends_token is;
   refused = λ live found presents other. is;
 }
 
-pub signed_bound : (rules : Setup) (before : List SignedEvent) (e : SignedEvent) (after : List SignedEvent) (rotation : SignedEvent) (token : TokenOut) (key : Text) → RotatedKeysBind
+pub signed_bound : (rules : Setup) (before : List SignedEvent) (e : SignedEvent) (after : List SignedEvent) (rotation : SignedEvent) (token : TokenOut)
+    (key : Text) → RotatedKeysBind
     → Legal signed_law rules (before ++ e ∷ after) → length before ≤ 2 ^ 58 → Contains before rotation → RotatesTo rotation.call.call rotation.reply token key
     → IsBoundTo (reverse (plain_notes (notes_of before))) (now before e.moment) e.call.call e.reply token key
 signed_bound rules before e after rotation token key law legal few among rotates =
     let follows : Follows signed_law rules before e = legal before e after refl in
     let front = legal-front signed_law rules before (e ∷ after) legal in
     let plain_among : Contains (plain_history before) (plain_entry false rotation) = contains_turned (plain_entry false rotation) (plain_past (reverse before))
-    (accepted_among rules (reverse before) rotation (reversed_legal rules before front) (λ refused. let no = sym refused ∙ rotates.3 in cc no) (contains_turned rotation before among)) in
+    (accepted_among rules (reverse before) rotation (reversed_legal rules before front) (λ refused. let no = sym refused ∙ rotates.3 in cc no)
+    (contains_turned rotation before among)) in
     elim (cases_Bool (is_refused_after before e)) [
-      | inl is ↦ refused_bound (reverse (plain_notes (notes_of before))) (now before e.moment) e.call.call e.reply token key (is_answered SignedFewAsks rules before e true is follows).reply
+      | inl is ↦ refused_bound (reverse (plain_notes (notes_of before))) (now before e.moment) e.call.call e.reply token key
+          (is_answered SignedFewAsks rules before e true is follows).reply
       | inr is ↦ subst (λ n. IsBoundTo (reverse (plain_notes (notes_of before))) n e.call.call e.reply token key) (history_now before e.moment)
           (subst (λ (ns : List Note). IsBoundTo (reverse ns) (now (plain_history before) e.moment) e.call.call e.reply token key) (history_notes before)
           (law rules (plain_history before) (plain_entry false e) [] (plain_entry false rotation) token key (history_next rules before e after false is legal)

@@ -14,7 +14,8 @@ unsigned true u tells = let no = tells.1 refl in absurd cc
 unsigned false u tells = refl
 
 module _ (answers : Message → Result (List ℕ) (List ℕ) → Type 0) (text : List ℕ) where
-  pub of_message : (m : Message) (result : Result (List ℕ) FileFault) → IsMessageFile text (Ok m) → Gives (answers m) result → Gives (AnswersFile answers text) result
+  pub of_message : (m : Message) (result : Result (List ℕ) FileFault) → IsMessageFile text (Ok m) → Gives (answers m) result
+      → Gives (AnswersFile answers text) result
   of_message m (Ok answer) file is = to_message m (Ok answer) file is
   of_message m (Err (Refused name)) file is = to_message m (Err name.now) file is
   of_message m (Err ReadFault) file is = tt
@@ -25,10 +26,12 @@ module _ (answers : Message → Result (List ℕ) (List ℕ) → Type 0) (text :
   fails ReadFault file = tt
   fails OutOfMemory file = tt
 
-  pub of_none : (fault : FileFault) (result : Result (List ℕ) FileFault) → GivesMessage text (Err fault) → result ≡ Err fault → Gives (AnswersFile answers text) result
+  pub of_none : (fault : FileFault) (result : Result (List ℕ) FileFault) → GivesMessage text (Err fault) → result ≡ Err fault
+      → Gives (AnswersFile answers text) result
   of_none fault result file is = subst (λ (r : Result (List ℕ) FileFault). Gives (AnswersFile answers text) r) (sym is) (fails fault file)
 
-pub counts_none : (result : Result (List ℕ) FileFault) (faults faults_now : ℕ) → result ≢ Err ReadFault → faults_now ≡ faults → CountsReadFault result faults faults_now
+pub counts_none : (result : Result (List ℕ) FileFault) (faults faults_now : ℕ) → result ≢ Err ReadFault → faults_now ≡ faults
+    → CountsReadFault result faults faults_now
 counts_none (Ok text) faults faults_now unread same = same
 counts_none (Err (Refused name)) faults faults_now unread same = same
 counts_none (Err ReadFault) faults faults_now unread same = absurd (unread refl)

@@ -68,7 +68,8 @@ module _ (held held_now : List ℕ) (s s1 : Told) (none_held : held ≡ []) (fre
     behind (byte ∷ more) is some rest = followed m byte (more ++ rest) (stays s1.taken rest m (byte ∷ more) is)
 
     -- bytes were held behind it
-    pub held_behind : (empty_now : Bool) → IsTrue empty_now ↔ (held_now ≡ []) → empty_now ≡ false → (rest : List ℕ) → IsMessageFile (s1.taken ++ rest) (Err (codes "BadHead"))
+    pub held_behind : (empty_now : Bool) → IsTrue empty_now ↔ (held_now ≡ []) → empty_now ≡ false → (rest : List ℕ)
+        → IsMessageFile (s1.taken ++ rest) (Err (codes "BadHead"))
     held_behind empty_now tells is rest = behind held_now begins (λ none. let yes = tells.1 none in absurd cc) rest
 
     module _ (empty_now : Bool) (tells : IsTrue empty_now ↔ (held_now ≡ [])) (is : empty_now ≡ true) (s2 : Told) where
@@ -81,8 +82,10 @@ module _ (held held_now : List ℕ) (s s1 : Told) (none_held : held ≡ []) (fre
       came_behind more is_so has rest =
           let H : Bool → Type 0 = λ b. (let r : Result Bool Failed = Ok b in HasMore s1 s2 r) in
           let came = subst H is_so has in
-          let text : s2.taken ++ rest ≡ s1.taken ++ (came.0 ∷ (came.1 ++ rest)) = ap (λ t. t ++ rest) came.2.taken ∙ append_assoc s1.taken (came.0 ∷ came.1) rest in
-          subst (λ t. IsMessageFile t (Err (codes "BadHead"))) (sym text) (followed m came.0 (came.1 ++ rest) (stays s1.taken (came.0 ∷ (came.1 ++ rest)) m [] whole))
+          let text : s2.taken ++ rest ≡ s1.taken ++ (came.0 ∷ (came.1 ++ rest)) = ap (λ t. t ++ rest) came.2.taken
+          ∙ append_assoc s1.taken (came.0 ∷ came.1) rest in
+          subst (λ t. IsMessageFile t (Err (codes "BadHead"))) (sym text)
+          (followed m came.0 (came.1 ++ rest) (stays s1.taken (came.0 ∷ (came.1 ++ rest)) m [] whole))
 
       -- nothing follows it
       pub alone : (more : Bool) → more ≡ false → (let r : Result Bool Failed = Ok more in HasMore s1 s2 r) → (rest : List ℕ) → IsRest s2 rest

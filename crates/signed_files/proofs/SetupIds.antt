@@ -52,11 +52,13 @@ all_push : (keys : List KeyRow) (key : KeyRow) → AllByRecursion HasIdForm keys
 all_push [] key all one = (one, tt)
 all_push (first ∷ keys) key all one = (all.0, all_push keys key all.1 one)
 
-read_keys : (before : List KeyRow) (items : Items) (keys : List KeyRow) → AllByRecursion HasIdForm before → keys_from before items ≡ Ok keys → AllByRecursion HasIdForm keys
+read_keys : (before : List KeyRow) (items : Items) (keys : List KeyRow) → AllByRecursion HasIdForm before → keys_from before items ≡ Ok keys
+    → AllByRecursion HasIdForm keys
 read_keys before no_items keys all is = let same : before ≡ keys = cc in subst (AllByRecursion HasIdForm) same all
 read_keys before (item d ds) keys all is =
     let key = bind_ok (in_key (length before) (key_row_of before d)) _ keys is in
-    read_keys (before ++ key.0 ∷ []) ds keys (all_push before key.0 all (read_row before d key.0 (key_ok (length before) (key_row_of before d) key.0 key.1))) key.2
+    read_keys (before ++ key.0 ∷ []) ds keys (all_push before key.0 all (read_row before d key.0 (key_ok (length before) (key_row_of before d) key.0 key.1)))
+    key.2
 
 read_all : (d : Data) (keys : List KeyRow) → keys_of d ≡ Ok keys → AllByRecursion HasIdForm keys
 unfolding keys_of
@@ -78,12 +80,14 @@ setup_ids text s is =
 
 -- ---- the key that an id has
 
-one_found : (row : KeyRow) (rest : Option KeyRow) (id : List ℕ) (key : KeyRow) (b : Bool) → same_text row.id id ≡ b → HasIdForm row → (rest ≡ Some key → is_id id ≡ true)
+one_found : (row : KeyRow) (rest : Option KeyRow) (id : List ℕ) (key : KeyRow) (b : Bool) → same_text row.id id ≡ b → HasIdForm row
+    → (rest ≡ Some key → is_id id ≡ true)
     → option_or (some_if b row) rest ≡ Some key → is_id id ≡ true
 one_found row rest id key true same form later is = subst (λ x. is_id x ≡ true) ((bytes_eq-Decides row.id id).0 same) form
 one_found row rest id key false other form later is = later is
 
-found_id : (keys : List KeyRow) (id : List ℕ) (key : KeyRow) → AllByRecursion HasIdForm keys → first_of (λ (row : KeyRow). some_if (same_text row.id id) row) keys ≡ Some key → is_id id ≡ true
+found_id : (keys : List KeyRow) (id : List ℕ) (key : KeyRow) → AllByRecursion HasIdForm keys
+    → first_of (λ (row : KeyRow). some_if (same_text row.id id) row) keys ≡ Some key → is_id id ≡ true
 found_id [] id key all is = absurd cc
 found_id (row ∷ keys) id key all is =
     one_found row (first_of (λ (k : KeyRow). some_if (same_text k.id id) k) keys) id key (same_text row.id id) refl all.0 (found_id keys id key all.1) is

@@ -10,7 +10,7 @@ use message_signature::SigFault;
 use std::fmt;
 
 /// Why a file is not answered with a text.
-#[derive(Clone, Copy, Debug, PartialEq, Eq)]
+#[derive(Clone, Copy)]
 pub enum FileFault {
     /// The file is no whole message, or its message isn't signed, or its signature isn't accepted: the name of the fault.
     Refused(&'static [u8]),

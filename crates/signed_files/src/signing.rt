@@ -54,12 +54,12 @@ fn sign_message(
     id: &Bytes,
     created: u64,
     nonce: Option<&Bytes>,
-    mut message: Message,
+    message: &mut Message,
 ) -> Result<Bytes, FileFault>
     requires setup { IsSetup setup.now }
     requires created { created < 10 ^ 15 }
     requires nonce { IfSome (option_copied nonce) (λ n. is_nonce n ≡ true) }
-    ensures answer { Gives (SignsMessage setup.now id.now created (option_copied nonce.entry) message) result }
+    ensures answer { Gives (SignsMessage setup.now id.now created (option_copied nonce.entry) message.old) result }
     ensures unread { result ≢ Err FileFault.ReadFault }
 {
     let Some(key) = setup.key(id.as_slice()) else {
@@ -68,7 +68,7 @@ fn sign_message(
     let tag = Bytes::from_slice(alloc, GNAP_TAG)?;
     match sign_with(
         alloc,
-        &mut message,
+        message,
         &setup.base,
         id,
         &key.secret,
@@ -76,7 +76,7 @@ fn sign_message(
         nonce,
         &tag,
     ) {
-        Ok(()) => Ok(message_text(alloc, &message)?),
+        Ok(()) => Ok(message_text(alloc, message)?),
         Err(SignFault::HasSignature) => Err(FileFault::Refused(b"HasSignature")),
         Err(SignFault::OutOfMemory) => Err(FileFault::OutOfMemory),
     }
@@ -107,6 +107,6 @@ pub fn sign_file<S: Source>(
     ensures end { IsOk result → IsAtEnd (S.told source.new) }
     ensures counts { CountsReadFault result (S.faults source.old) (S.faults source.new) }
 {
-    let message = read_message(alloc, source)?;
-    sign_message(alloc, setup, id, created, nonce, message)
+    let mut message = read_message(alloc, source)?;
+    sign_message(alloc, setup, id, created, nonce, &mut message)
 }

@@ -1,7 +1,10 @@
 //! Verifying the message of a file.
 ghost use Rattle.std.specs.Prelude.{◌≡◌, ◌≢◌, Err, [], ◌++◌, IfOk, IsOk};
 ghost use Rattle.gnap_io.specs.Outside.{IsAtEnd, IsRest, Leaves};
+ghost use Rattle.message_signature.specs.Faults as signatures;
+ghost use Rattle.message_signature.specs.Verified.{verified};
 ghost use Rattle.signed_files.specs.MessageFiles.{Gives, CountsReadFault};
+ghost use Rattle.signed_files.specs.SignedText.{gnap_tag};
 ghost use Rattle.signed_files.specs.Verdicts.{ring_of, key_line, VerifiesMessage, VerifiesFile};
 
 use crate::fault::{FileFault, signature_fault};
@@ -13,7 +16,7 @@ use bytes_and_lists::message::Message;
 use gnap_io::device::Source;
 use gnap_model::objects::Setup;
 use hmac_key::Keyring;
-use message_signature::verify;
+use message_signature::{SigFault, verify};
 use std::alloc::Global;
 
 fn ring_of(alloc: Global, setup: &Setup) -> Result<Keyring, Mem>
@@ -35,6 +38,15 @@ fn key_line(alloc: Global, id: &Bytes) -> Result<Bytes, Mem>
     Ok(line)
 }
 
+// The id of the key by which a server with this setup accepts the message.
+fn signer_of(alloc: Global, setup: &Setup, now: u64, message: &Message) -> Result<Bytes, SigFault>
+    ensures { signatures.Gives (λ id. id) result (verified message.now setup.now.base (ring_of setup.now) now gnap_tag) }
+{
+    let ring = ring_of(alloc, setup)?;
+    let tag = Bytes::from_slice(alloc, GNAP_TAG)?;
+    verify(alloc, message, &setup.base, &ring, now, &tag)
+}
+
 fn verify_message(
     alloc: Global,
     setup: &Setup,
@@ -44,9 +56,7 @@ fn verify_message(
     ensures answer { Gives (VerifiesMessage setup.now now message.now) result }
     ensures unread { result ≢ Err FileFault.ReadFault }
 {
-    let ring = ring_of(alloc, setup)?;
-    let tag = Bytes::from_slice(alloc, GNAP_TAG)?;
-    match verify(alloc, message, &setup.base, &ring, now, &tag) {
+    match signer_of(alloc, setup, now, message) {
         Ok(id) => Ok(key_line(alloc, &id)?),
         Err(fault) => Err(signature_fault(fault)),
     }

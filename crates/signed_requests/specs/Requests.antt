@@ -68,4 +68,5 @@ signed_request base id secret now request = option_map request_bytes (signed (un
 
 -- The same, with this nonce in the signature.
 unfoldable pub marked_request : List ℕ → List ℕ → List ℕ → ℕ → List ℕ → UnsignedRequest → Option (List ℕ)
-marked_request base id secret now nonce request = option_map request_bytes (signed_marked (unsigned_message base request) base id secret now nonce (codes "gnap"))
+marked_request base id secret now nonce request = option_map request_bytes
+    (signed_marked (unsigned_message base request) base id secret now nonce (codes "gnap"))

@@ -79,7 +79,8 @@ bare_rest c t = cond (is_token_start c) (Some (Token (front is_token_byte (c ∷
 abbrev added_rest : ℕ → List ℕ → Option (Bare × List ℕ)
 added_rest c t = cond (c == 64) (date_at t) (cond (c == 37) (display_at t) (bare_rest c t))
 
-quoted_takes : (c : ℕ) (t : List ℕ) (x : Bare × List ℕ) → (c == 34) ≡ true → option_map (λ y. (Str y.0, y.1)) (string_rest false t) ≡ Some x → TakesBare (c ∷ t) x
+quoted_takes : (c : ℕ) (t : List ℕ) (x : Bare × List ℕ) → (c == 34) ≡ true → option_map (λ y. (Str y.0, y.1)) (string_rest false t) ≡ Some x
+    → TakesBare (c ∷ t) x
 quoted_takes c t x q e =
     let k : c ≡ 34 = grind (arith, nat_tests) in
     let m = mapped (λ (y : List ℕ × List ℕ). (Str y.0, y.1)) (string_rest false t) x e in
@@ -102,7 +103,8 @@ binary_takes c t x fits q e =
     let text = front is_not_colon t in
     subst (TakesBare (c ∷ t)) m.2 (record {
       text = 58 ∷ text ++ 58 ∷ [];
-      parts = ap (λ (b : ℕ). b ∷ t) k ∙ ap (λ (r : List ℕ). 58 ∷ r) (whole ∙ ap (λ (r : List ℕ). text ++ r) (begun 58 left g.0) ∙ sym (append_assoc text (58 ∷ []) (drop 1 left)));
+      parts = ap (λ (b : ℕ). b ∷ t) k
+          ∙ ap (λ (r : List ℕ). 58 ∷ r) (whole ∙ ap (λ (r : List ℕ). text ++ r) (begun 58 left g.0) ∙ sym (append_assoc text (58 ∷ []) (drop 1 left)));
       is = record { bytes = d.bytes; padded = d.padded; is = ap (λ (s : List ℕ). 58 ∷ s ++ 58 ∷ []) d.is };
     })
 
@@ -111,9 +113,11 @@ unfolding boolean_rest
 boolean_takes c t x q e =
     let k : c ≡ 63 = grind (arith, nat_tests) in
     elim (chosen (begins 48 t) (Some (Boolean false, drop 1 t)) (cond (begins 49 t) (Some (Boolean true, drop 1 t)) None) (Some x) e) [
-      | inl p ↦ subst (TakesBare (c ∷ t)) (some_is (Boolean false, drop 1 t) x p.1) (record { text = 63 ∷ 48 ∷ []; parts = ap (λ (b : ℕ). b ∷ t) k ∙ ap (λ (r : List ℕ). 63 ∷ r) (begun 48 t p.0); is = refl })
+      | inl p ↦ subst (TakesBare (c ∷ t)) (some_is (Boolean false, drop 1 t) x p.1)
+          (record { text = 63 ∷ 48 ∷ []; parts = ap (λ (b : ℕ). b ∷ t) k ∙ ap (λ (r : List ℕ). 63 ∷ r) (begun 48 t p.0); is = refl })
       | inr p ↦ let g = given (begins 49 t) (Some (Boolean true, drop 1 t)) x p.1 in
-          subst (TakesBare (c ∷ t)) (some_is (Boolean true, drop 1 t) x g.1) (record { text = 63 ∷ 49 ∷ []; parts = ap (λ (b : ℕ). b ∷ t) k ∙ ap (λ (r : List ℕ). 63 ∷ r) (begun 49 t g.0); is = refl })
+          subst (TakesBare (c ∷ t)) (some_is (Boolean true, drop 1 t) x g.1)
+          (record { text = 63 ∷ 49 ∷ []; parts = ap (λ (b : ℕ). b ∷ t) k ∙ ap (λ (r : List ℕ). 63 ∷ r) (begun 49 t g.0); is = refl })
     ]
 
 token_takes : (c : ℕ) (t : List ℕ) (x : Bare × List ℕ) → bare_rest c t ≡ Some x → TakesBare (c ∷ t) x
@@ -165,7 +169,10 @@ shown_takes c t x q e =
     let d = display_takes text m.0 m.1 in
     subst (TakesBare (c ∷ t)) m.2 (record {
       text = 37 ∷ 34 ∷ text ++ 34 ∷ [];
-      parts = ap (λ (b : ℕ). b ∷ t) k ∙ ap (λ (r : List ℕ). 37 ∷ r) (begun 34 t opened.0 ∙ ap (λ (r : List ℕ). 34 ∷ r) (parts is_not_quote inside ∙ ap (λ (r : List ℕ). text ++ r) (begun 34 left closed.0) ∙ sym (append_assoc text (34 ∷ []) (drop 1 left))));
+      parts = ap (λ (b : ℕ). b ∷ t) k
+          ∙ ap (λ (r : List ℕ). 37 ∷ r)
+          (begun 34 t opened.0 ∙ ap (λ (r : List ℕ). 34 ∷ r)
+          (parts is_not_quote inside ∙ ap (λ (r : List ℕ). text ++ r) (begun 34 left closed.0) ∙ sym (append_assoc text (34 ∷ []) (drop 1 left))));
       is = record { utf8 = d.0; body = text; shown = d.1; is = refl };
     })
 
@@ -173,7 +180,8 @@ pub bare_takes : (t : List ℕ) (x : Bare × List ℕ) → IsBytes t → bare_at
 unfolding bare_at
 bare_takes [] x fits e = absurd cc
 bare_takes (c ∷ t) x fits e =
-    elim (chosen (c == 34) (option_map (λ y. (Str y.0, y.1)) (string_rest false t)) (cond (c == 58) (binary_rest t) (cond (c == 63) (boolean_rest t) (added_rest c t))) (Some x) e) [
+    elim (chosen (c == 34) (option_map (λ y. (Str y.0, y.1)) (string_rest false t))
+    (cond (c == 58) (binary_rest t) (cond (c == 63) (boolean_rest t) (added_rest c t))) (Some x) e) [
       | inl p ↦ quoted_takes c t x p.0 p.1
       | inr p ↦ elim (chosen (c == 58) (binary_rest t) (cond (c == 63) (boolean_rest t) (added_rest c t)) (Some x) p.1) [
         | inl q ↦ binary_takes c t x (λ i. fits (suc i)) q.0 q.1
@@ -207,7 +215,8 @@ dispatch c t h =
 digit_or : (c : ℕ) → is_digit c ≡ true → (is_digit c || (c == 45)) ≡ true
 digit_or c h = rw h refl
 
-number_first : (negative : Bool) (digits tail : List ℕ) → 1 ≤ length digits → list_all is_digit digits ≡ true → bare_at (sign negative ++ (digits ++ tail)) ≡ number_at (sign negative ++ (digits ++ tail))
+number_first : (negative : Bool) (digits tail : List ℕ) → 1 ≤ length digits → list_all is_digit digits ≡ true
+    → bare_at (sign negative ++ (digits ++ tail)) ≡ number_at (sign negative ++ (digits ++ tail))
 number_first true digits tail len all = dispatch 45 (digits ++ tail) refl
 number_first false digits tail len all =
     let d = first_digit digits len all in
@@ -221,13 +230,16 @@ integer_text text n rest i e =
 decimal_text : (text : List ℕ) (n : ℤ) (rest : List ℕ) → IsDecimal text n → ends rest ≡ true → bare_at (text ++ rest) ≡ Some (Decimal n, rest)
 decimal_text text n rest d e =
     let tail : List ℕ = 46 ∷ (d.part ++ rest) in
-    let regrouped : text ++ rest ≡ sign d.negative ++ (d.whole ++ tail) = ap (λ (t : List ℕ). t ++ rest) d.is ∙ append_assoc (sign d.negative ++ d.whole) (46 ∷ d.part) rest ∙ append_assoc (sign d.negative) d.whole tail in
-    ap bare_at regrouped ∙ number_first d.negative d.whole tail d.whole_fits.least_len d.whole_fits.all ∙ ap number_at (sym regrouped) ∙ decimal_text_again text n rest d e
+    let regrouped : text ++ rest ≡ sign d.negative ++ (d.whole ++ tail) = ap (λ (t : List ℕ). t ++ rest) d.is
+    ∙ append_assoc (sign d.negative ++ d.whole) (46 ∷ d.part) rest ∙ append_assoc (sign d.negative) d.whole tail in
+    ap bare_at regrouped ∙ number_first d.negative d.whole tail d.whole_fits.least_len d.whole_fits.all ∙ ap number_at (sym regrouped)
+    ∙ decimal_text_again text n rest d e
 
 string_text : (text s rest : List ℕ) → IsString text s → bare_at (text ++ rest) ≡ Some (Str s, rest)
 unfolding bare_at
 string_text text s rest i =
-    let regrouped : text ++ rest ≡ 34 ∷ (flat_map in_string s ++ 34 ∷ rest) = ap (λ (t : List ℕ). t ++ rest) i.is ∙ ap (λ (t : List ℕ). 34 ∷ t) (append_assoc (flat_map in_string s) (34 ∷ []) rest) in
+    let regrouped : text ++ rest ≡ 34 ∷ (flat_map in_string s ++ 34 ∷ rest) = ap (λ (t : List ℕ). t ++ rest) i.is
+    ∙ ap (λ (t : List ℕ). 34 ∷ t) (append_assoc (flat_map in_string s) (34 ∷ []) rest) in
     ap bare_at regrouped ∙ ap (option_map (λ y. (Str y.0, y.1))) (string_again s rest i.all)
 
 token_chosen : (c : ℕ) (t : List ℕ) → is_token_start c ≡ true → bare_at (c ∷ t) ≡ Some (Token (front is_token_byte (c ∷ t)), behind is_token_byte (c ∷ t))
@@ -238,7 +250,8 @@ token_chosen c t start =
     let question : (c == 63) ≡ false = grind (arith, nat_tests) in
     let at_sign : (c == 64) ≡ false = grind (arith, nat_tests) in
     let percent_sign : (c == 37) ≡ false = grind (arith, nat_tests) in
-    ap (λ (k : Bool). cond k (option_map (λ y. (Str y.0, y.1)) (string_rest false t)) (cond (c == 58) (binary_rest t) (cond (c == 63) (boolean_rest t) (added_rest c t)))) quote
+    ap (λ (k : Bool). cond k (option_map (λ y. (Str y.0, y.1)) (string_rest false t))
+    (cond (c == 58) (binary_rest t) (cond (c == 63) (boolean_rest t) (added_rest c t)))) quote
     ∙ ap (λ (k : Bool). cond k (binary_rest t) (cond (c == 63) (boolean_rest t) (added_rest c t))) colon
     ∙ ap (λ (k : Bool). cond k (boolean_rest t) (added_rest c t)) question
     ∙ ap (λ (k : Bool). cond k (date_at t) (cond (c == 37) (display_at t) (bare_rest c t))) at_sign
@@ -263,7 +276,8 @@ binary_text : (text b rest : List ℕ) → IsBinary text b → bare_at (text ++ 
 unfolding bare_at binary_rest
 binary_text text b rest i =
     let s : List ℕ = encode_of (cond i.padded standard standard_no_pad) b in
-    let regrouped : text ++ rest ≡ 58 ∷ (s ++ (58 ∷ rest)) = ap (λ (t : List ℕ). t ++ rest) i.is ∙ ap (λ (t : List ℕ). 58 ∷ t) (append_assoc s (58 ∷ []) rest) in
+    let regrouped : text ++ rest ≡ 58 ∷ (s ++ (58 ∷ rest)) = ap (λ (t : List ℕ). t ++ rest) i.is
+    ∙ ap (λ (t : List ℕ). 58 ∷ t) (append_assoc s (58 ∷ []) rest) in
     let at : front is_not_colon (s ++ (58 ∷ rest)) ≡ s = front_again is_not_colon s (58 ∷ rest) (no_colon i.padded b) refl in
     let left : behind is_not_colon (s ++ (58 ∷ rest)) ≡ 58 ∷ rest = behind_again is_not_colon s (58 ∷ rest) (no_colon i.padded b) refl in
     ap bare_at regrouped ∙ rw (left, at, encoded_again i.padded b i.bytes) refl
@@ -276,12 +290,14 @@ boolean_text_again false rest = refl
 date_text : (text : List ℕ) (n : ℤ) (rest : List ℕ) → IsDate text n → ends rest ≡ true → bare_at (text ++ rest) ≡ Some (Date n, rest)
 unfolding bare_at date_at
 date_text text n rest i e =
-    ap (λ (t : List ℕ). bare_at (t ++ rest)) i.is ∙ ap (λ (o : Option (Bare × List ℕ)). o >>= λ x. as_date x.0 >>= λ date. Some (date, x.1)) (integer_again i.seconds n rest i.integer e)
+    ap (λ (t : List ℕ). bare_at (t ++ rest)) i.is
+    ∙ ap (λ (o : Option (Bare × List ℕ)). o >>= λ x. as_date x.0 >>= λ date. Some (date, x.1)) (integer_again i.seconds n rest i.integer e)
 
 display_text_again : (text s rest : List ℕ) → IsDisplay text s → bare_at (text ++ rest) ≡ Some (Display s, rest)
 unfolding bare_at display_at
 display_text_again text s rest i =
-    let regrouped : text ++ rest ≡ 37 ∷ 34 ∷ (i.body ++ (34 ∷ rest)) = ap (λ (t : List ℕ). t ++ rest) i.is ∙ ap (λ (t : List ℕ). 37 ∷ 34 ∷ t) (append_assoc i.body (34 ∷ []) rest) in
+    let regrouped : text ++ rest ≡ 37 ∷ 34 ∷ (i.body ++ (34 ∷ rest)) = ap (λ (t : List ℕ). t ++ rest) i.is
+    ∙ ap (λ (t : List ℕ). 37 ∷ 34 ∷ t) (append_assoc i.body (34 ∷ []) rest) in
     let none = display_no_quote s i.body i.utf8 i.shown in
     let at : front is_not_quote (i.body ++ (34 ∷ rest)) ≡ i.body = front_again is_not_quote i.body (34 ∷ rest) none refl in
     let left : behind is_not_quote (i.body ++ (34 ∷ rest)) ≡ 34 ∷ rest = behind_again is_not_quote i.body (34 ∷ rest) none refl in

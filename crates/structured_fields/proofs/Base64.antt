@@ -77,16 +77,23 @@ only_given (Some a) b e =
     let g = given (list_all is_byte a) (Some a) b e in
     (g.1, subst IsBytes (some_is a b g.1) (pass_bytes a g.0))
 
-pub decoded_takes : (s b : List ℕ) → IsBytes s → decoded s ≡ Some b → TakesBase64 s b
+decoded_given : (s b : List ℕ) → decoded s ≡ Some b
+    → (or_some (result_ok (decode_of standard s)) (result_ok (decode_of standard_no_pad s)) ≡ Some b) × IsBytes b
 unfolding decoded decoded_of
+decoded_given s b e = only_given (or_some (result_ok (decode_of standard s)) (result_ok (decode_of standard_no_pad s))) b e
+
+pub decoded_takes : (s b : List ℕ) → IsBytes s → decoded s ≡ Some b → TakesBase64 s b
 decoded_takes s b fits e =
-    let o = only_given (or_some (result_ok (decode_of standard s)) (result_ok (decode_of standard_no_pad s))) b e in
+    let o = decoded_given s b e in
     by (decode_of standard s) (decode_of standard_no_pad s) refl refl o.0 o.1
   where
-    by : (x y : Result (List ℕ) DecodeError) → decode_of standard s ≡ x → decode_of standard_no_pad s ≡ y → or_some (result_ok x) (result_ok y) ≡ Some b → IsBytes b → TakesBase64 s b
-    by (Ok a) y p q h bytes = record { bytes = bytes; padded = true; is = decode_of_strict standard s b (refl, refl) fits (p ∙ ap (λ (d : List ℕ). Ok d) (some_is a b h)) }
-    by (Err d) (Ok a) p q h bytes = record { bytes = bytes; padded = false; is = decode_of_strict standard_no_pad s b (refl, refl) fits (q ∙ ap (λ (d : List ℕ). Ok d) (some_is a b h)) }
-    by (Err d) (Err f) p q h bytes = absurd cc
+    by : (x y : Result (List ℕ) DecodeError) → decode_of standard s ≡ x → decode_of standard_no_pad s ≡ y → or_some (result_ok x) (result_ok y) ≡ Some b
+        → IsBytes b → TakesBase64 s b
+    by (Ok a) y p q h bytes = record
+        { bytes = bytes; padded = true; is = decode_of_strict standard s b (refl, refl) fits (p ∙ ap (λ (d : List ℕ). Ok d) (some_is a b h)) }
+    by (Err d) (Ok a) p q h bytes = record
+        { bytes = bytes; padded = false; is = decode_of_strict standard_no_pad s b (refl, refl) fits (q ∙ ap (λ (d : List ℕ). Ok d) (some_is a b h)) }
+    by (Err d) (Err f) _ _ h _ = absurd cc
 
 -- ---- no colon stands in base64
 
@@ -109,7 +116,11 @@ padding_passes (suc n) = padding_passes n
 pub no_colon : (padded : Bool) (b : List ℕ) → list_all is_not_colon (encode_of (cond padded standard standard_no_pad) b) ≡ true
 no_colon true b =
     list_all-append is_not_colon (encode_symbols standard.encode_table b) (replicate (padding_len (length b)) 61)
-    ∙ rw (symbols_pass is_not_colon standard.encode_table b (table_passes is_not_colon standard.encode_table refl refl), padding_passes (padding_len (length b))) refl
+    ∙ rw (
+      symbols_pass is_not_colon standard.encode_table b (table_passes is_not_colon standard.encode_table refl refl),
+      padding_passes
+          (padding_len (length b)),
+    ) refl
 no_colon false b =
     list_all-append is_not_colon (encode_symbols standard.encode_table b) []
     ∙ rw (symbols_pass is_not_colon standard.encode_table b (table_passes is_not_colon standard.encode_table refl refl)) refl

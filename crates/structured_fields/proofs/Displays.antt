@@ -34,7 +34,10 @@ encode_passes c s = by (nat_lt c 128) (nat_lt c 2048) (nat_lt c 65536) refl refl
     byte : (b : ℕ) → b < 256 → is_byte b ≡ true
     byte b h = grind (arith, nat_tests)
 
-    by : (x y z : Bool) → nat_lt c 128 ≡ x → nat_lt c 2048 ≡ y → nat_lt c 65536 ≡ z → list_all is_byte (cond x (c ∷ []) (cond y ((192 + c / 64) ∷ next c ∷ []) (cond z ((224 + c / 4096) ∷ next (c / 64) ∷ next c ∷ []) ((240 + c / 262144) ∷ next (c / 4096) ∷ next (c / 64) ∷ next c ∷ [])))) ≡ true
+    by : (x y z : Bool) → nat_lt c 128 ≡ x → nat_lt c 2048 ≡ y → nat_lt c 65536 ≡ z
+        → list_all is_byte (cond x (c ∷ [])
+        (cond y ((192 + c / 64) ∷ next c ∷ [])
+        (cond z ((224 + c / 4096) ∷ next (c / 64) ∷ next c ∷ []) ((240 + c / 262144) ∷ next (c / 4096) ∷ next (c / 64) ∷ next c ∷ [])))) ≡ true
     by true y z p q r =
         let small : c < 128 = grind (arith, nat_tests, p) in
         rw (byte c (omega arith)) refl
@@ -100,7 +103,8 @@ unfolding display_bytes
 shown_again [] text bytes are = rw are refl
 shown_again (b ∷ s) text bytes are = by are.0 are.1 (shown_again s are.0 (tail_bytes b s bytes) are.2)
   where
-    by : (rest : List ℕ) → ((is_shown b ≡ true) × (text ≡ b ∷ rest)) ⊎ (text ≡ percent b ++ rest) → display_bytes Character rest ≡ Some s → display_bytes Character text ≡ Some (b ∷ s)
+    by : (rest : List ℕ) → ((is_shown b ≡ true) × (text ≡ b ∷ rest)) ⊎ (text ≡ percent b ++ rest) → display_bytes Character rest ≡ Some s
+        → display_bytes Character text ≡ Some (b ∷ s)
     by rest (inl p) again = ap (display_bytes Character) p.1 ∙ rw (p.0, (plain_test b p.0).0, again) refl
     by rest (inr p) again = ap (display_bytes Character) p ∙ rw (byte_again b (bytes 0), again) refl
 
@@ -109,7 +113,8 @@ shown_no_quote : (s text : List ℕ) → IsBytes s → AreShown text s → list_
 shown_no_quote [] text bytes are = rw are refl
 shown_no_quote (b ∷ s) text bytes are = by are.0 are.1 (shown_no_quote s are.0 (tail_bytes b s bytes) are.2)
   where
-    by : (rest : List ℕ) → ((is_shown b ≡ true) × (text ≡ b ∷ rest)) ⊎ (text ≡ percent b ++ rest) → list_all is_not_quote rest ≡ true → list_all is_not_quote text ≡ true
+    by : (rest : List ℕ) → ((is_shown b ≡ true) × (text ≡ b ∷ rest)) ⊎ (text ≡ percent b ++ rest) → list_all is_not_quote rest ≡ true
+        → list_all is_not_quote text ≡ true
     by rest (inl p) again = ap (list_all is_not_quote) p.1 ∙ rw ((plain_test b p.0).1, again) refl
     by rest (inr p) again =
         let small : b < 256 = bytes 0 in
@@ -169,7 +174,8 @@ pub shown_are : (s : List ℕ) → AreShown (flat_map shown s) s
 shown_are [] = refl
 shown_are (b ∷ s) = (flat_map shown s, by (is_shown b) refl, shown_are s)
   where
-    by : (h : Bool) → is_shown b ≡ h → ((is_shown b ≡ true) × (flat_map shown (b ∷ s) ≡ b ∷ flat_map shown s)) ⊎ (flat_map shown (b ∷ s) ≡ percent b ++ flat_map shown s)
+    by : (h : Bool) → is_shown b ≡ h
+        → ((is_shown b ≡ true) × (flat_map shown (b ∷ s) ≡ b ∷ flat_map shown s)) ⊎ (flat_map shown (b ∷ s) ≡ percent b ++ flat_map shown s)
     by true h = inl (h, flat_map-cons shown b s ∙ rw h refl)
     by false h = inr (flat_map-cons shown b s ∙ rw h refl)
 
@@ -190,30 +196,36 @@ module _ (held text : List ℕ) (i : ℕ) (total : Option (List ℕ)) (within : 
   opened : (awaits : Awaits) → display_bytes awaits (drop i text) ≡ display_bytes awaits (get_or text i 0 ∷ drop (i + 1) text)
   opened awaits = ap (display_bytes awaits) (drop_more text i 0 within)
 
-  pub percent_next : with_bytes held (display_bytes Character (drop i text)) ≡ total → get_or text i 0 ≡ 37 → with_bytes held (display_bytes FirstDigit (drop (i + 1) text)) ≡ total
+  pub percent_next : with_bytes held (display_bytes Character (drop i text)) ≡ total → get_or text i 0 ≡ 37
+      → with_bytes held (display_bytes FirstDigit (drop (i + 1) text)) ≡ total
   unfolding display_bytes
   percent_next so_far is =
       let test : (get_or text i 0 == 37) ≡ true = grind (arith, nat_tests) in
       sym (ap (with_bytes held) (opened Character ∙ rw test refl)) ∙ so_far
 
-  pub shown_next : with_bytes held (display_bytes Character (drop i text)) ≡ total → is_shown (get_or text i 0) ≡ true → with_bytes (held ++ get_or text i 0 ∷ []) (display_bytes Character (drop (i + 1) text)) ≡ total
+  pub shown_next : with_bytes held (display_bytes Character (drop i text)) ≡ total → is_shown (get_or text i 0) ≡ true
+      → with_bytes (held ++ get_or text i 0 ∷ []) (display_bytes Character (drop (i + 1) text)) ≡ total
   unfolding display_bytes
   shown_next so_far is =
       let test : (get_or text i 0 == 37) ≡ false = (plain_test (get_or text i 0) is).0 in
-      sym (ap (with_bytes held) (opened Character ∙ rw (is, test) refl) ∙ with_more held (get_or text i 0) (display_bytes Character (drop (i + 1) text))) ∙ so_far
+      sym (ap (with_bytes held) (opened Character ∙ rw (is, test) refl) ∙ with_more held (get_or text i 0) (display_bytes Character (drop (i + 1) text)))
+      ∙ so_far
 
-  pub refused_next : with_bytes held (display_bytes Character (drop i text)) ≡ total → (get_or text i 0 ≡ 37 → ⊥) → is_shown (get_or text i 0) ≡ false → total ≡ None
+  pub refused_next : with_bytes held (display_bytes Character (drop i text)) ≡ total → (get_or text i 0 ≡ 37 → ⊥) → is_shown (get_or text i 0) ≡ false
+      → total ≡ None
   unfolding display_bytes
   refused_next so_far other is =
       let test : (get_or text i 0 == 37) ≡ false = grind (arith, nat_tests) in
       let none : display_bytes Character (drop i text) ≡ None = opened Character ∙ rw (is, test) refl in
       sym so_far ∙ ap (with_bytes held) none
 
-  pub first_next : with_bytes held (display_bytes FirstDigit (drop i text)) ≡ total → with_bytes held (display_bytes (SecondDigit (get_or text i 0)) (drop (i + 1) text)) ≡ total
+  pub first_next : with_bytes held (display_bytes FirstDigit (drop i text)) ≡ total
+      → with_bytes held (display_bytes (SecondDigit (get_or text i 0)) (drop (i + 1) text)) ≡ total
   unfolding display_bytes
   first_next so_far = sym (ap (with_bytes held) (opened FirstDigit)) ∙ so_far
 
-  pub second_next : (first b : ℕ) → with_bytes held (display_bytes (SecondDigit first) (drop i text)) ≡ total → byte_of first (get_or text i 0) ≡ Some b → with_bytes (held ++ b ∷ []) (display_bytes Character (drop (i + 1) text)) ≡ total
+  pub second_next : (first b : ℕ) → with_bytes held (display_bytes (SecondDigit first) (drop i text)) ≡ total → byte_of first (get_or text i 0) ≡ Some b
+      → with_bytes (held ++ b ∷ []) (display_bytes Character (drop (i + 1) text)) ≡ total
   unfolding display_bytes
   second_next first b so_far is =
       let read : display_bytes (SecondDigit first) (drop i text) ≡ option_map (λ s. b ∷ s) (display_bytes Character (drop (i + 1) text)) =

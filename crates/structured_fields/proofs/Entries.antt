@@ -19,7 +19,8 @@ module _ {V : Type 0} where
   value_after [] n v m apart = rw apart refl
   value_after (e ∷ es) n v m apart = by (bytes_eq n e.0) refl (value_after es n v m apart)
     where
-      by : (b : Bool) → bytes_eq n e.0 ≡ b → value_at (with_value es n v) m ≡ value_at es m → value_at (cond b ((e.0, v) ∷ es) (e ∷ with_value es n v)) m ≡ value_at (e ∷ es) m
+      by : (b : Bool) → bytes_eq n e.0 ≡ b → value_at (with_value es n v) m ≡ value_at es m
+          → value_at (cond b ((e.0, v) ∷ es) (e ∷ with_value es n v)) m ≡ value_at (e ∷ es) m
       by true t r = let other : bytes_eq m e.0 ≡ false = sym (ap (bytes_eq m) ((bytes_eq-Decides n e.0).0 t)) ∙ apart in rw other refl
       by false t r = ap (cond (bytes_eq m e.0) (Some e.1)) r
 
@@ -43,7 +44,8 @@ module _ {V : Type 0} where
   -- ---- entries of a list whose names are distinct
 
   -- a name that has no value isn't that of an entry
-  pub apart_at : (es : List (List ℕ × V)) (m : List ℕ) → value_at es m ≡ None → (i : ℕ) (n : List ℕ) (v : V) → slice_get es i ≡ Some (n, v) → bytes_eq m n ≡ false
+  pub apart_at : (es : List (List ℕ × V)) (m : List ℕ) → value_at es m ≡ None → (i : ℕ) (n : List ℕ) (v : V) → slice_get es i ≡ Some (n, v)
+      → bytes_eq m n ≡ false
   apart_at [] m none = λ i n v e. absurd cc
   apart_at (x ∷ es) m none = by (bytes_eq m x.0) refl none (apart_at es m)
     where
@@ -55,7 +57,8 @@ module _ {V : Type 0} where
       by false t h again (suc i) n v e = again h i n v e
 
   -- the next entry goes last
-  pub set_next : (es : List (List ℕ × V)) (i : ℕ) (n : List ℕ) (v : V) → IsDistinct es → slice_get es i ≡ Some (n, v) → with_value (take i es) n v ≡ take (i + 1) es
+  pub set_next : (es : List (List ℕ × V)) (i : ℕ) (n : List ℕ) (v : V) → IsDistinct es → slice_get es i ≡ Some (n, v)
+      → with_value (take i es) n v ≡ take (i + 1) es
   set_next [] i n v d e = absurd cc
   set_next (x ∷ es) zero n v d e = let same : x ≡ (n, v) = cc in ap (λ (y : List ℕ × V). y ∷ []) (sym same)
   set_next (x ∷ es) (suc i) n v d e =
@@ -70,7 +73,8 @@ module _ {V : Type 0} where
       by false p h = refl
   apart_if (q ∷ qs) n v ps m e = by (bytes_eq m q.0) e (apart_if qs n v ps m)
     where
-      by : (b : Bool) → cond b (Some q.1) (value_at (qs ++ (n, v) ∷ ps) m) ≡ None → (value_at (qs ++ (n, v) ∷ ps) m ≡ None → bytes_eq m n ≡ false) → bytes_eq m n ≡ false
+      by : (b : Bool) → cond b (Some q.1) (value_at (qs ++ (n, v) ∷ ps) m) ≡ None → (value_at (qs ++ (n, v) ∷ ps) m ≡ None → bytes_eq m n ≡ false)
+          → bytes_eq m n ≡ false
       by true h again = absurd cc
       by false h again = again h
 
@@ -83,7 +87,8 @@ module _ {V : Type 0} where
   goes_last [] n v e = refl
   goes_last (q ∷ qs) n v e = by (bytes_eq n q.0) e (goes_last qs n v)
     where
-      by : (b : Bool) → cond b (Some q.1) (value_at qs n) ≡ None → (value_at qs n ≡ None → with_value qs n v ≡ qs ++ (n, v) ∷ []) → cond b ((q.0, v) ∷ qs) (q ∷ with_value qs n v) ≡ q ∷ qs ++ (n, v) ∷ []
+      by : (b : Bool) → cond b (Some q.1) (value_at qs n) ≡ None → (value_at qs n ≡ None → with_value qs n v ≡ qs ++ (n, v) ∷ [])
+          → cond b ((q.0, v) ∷ qs) (q ∷ with_value qs n v) ≡ q ∷ qs ++ (n, v) ∷ []
       by true h again = absurd cc
       by false h again = ap (λ (r : List (List ℕ × V)). q ∷ r) (again h)
 

@@ -23,7 +23,8 @@ run_again p [] (c ∷ rest) all stop = by (p c) stop
     by false s = refl
 run_again p (c ∷ a) rest all stop = by (p c) (list_all p a) refl all (λ h. run_again p a rest h stop)
   where
-    by : (b r : Bool) → list_all p a ≡ r → (b && r) ≡ true → (list_all p a ≡ true → prefix_len p (a ++ rest) ≡ length a) → cond b (1 + prefix_len p (a ++ rest)) 0 ≡ suc (length a)
+    by : (b r : Bool) → list_all p a ≡ r → (b && r) ≡ true → (list_all p a ≡ true → prefix_len p (a ++ rest) ≡ length a)
+        → cond b (1 + prefix_len p (a ++ rest)) 0 ≡ suc (length a)
     by true true e h again = rw (again e) (omega arith)
     by true false e h again = absurd cc
     by false r e h again = absurd cc
@@ -83,10 +84,19 @@ pub digit_is_token : (c : ℕ) → is_token_byte c ≡ false → is_digit c ≡ 
 digit_is_token c h = (or_parts (is_letter c) (is_digit c) (or_parts (is_letter c || is_digit c) (list_any (λ k. c == k) (codes "!#$%&'*+-.^_`|~:/")) h).0).1
 
 pub lower_is_token : (c : ℕ) → is_token_byte c ≡ false → is_lower c ≡ false
-lower_is_token c h = (or_parts (is_lower c) (nat_le 65 c && nat_le c 90) (or_parts (is_letter c) (is_digit c) (or_parts (is_letter c || is_digit c) (list_any (λ k. c == k) (codes "!#$%&'*+-.^_`|~:/")) h).0).0).0
+lower_is_token c h = (or_parts (is_lower c) (nat_le 65 c && nat_le c 90)
+    (or_parts (is_letter c) (is_digit c) (or_parts (is_letter c || is_digit c) (list_any (λ k. c == k) (codes "!#$%&'*+-.^_`|~:/")) h).0).0).0
 
 pub key_is_token : (c : ℕ) → is_token_byte c ≡ false → is_key_byte c ≡ false
-key_is_token c h = rw (lower_is_token c h, digit_is_token c h, apart is_token_byte c 42 h refl, apart is_token_byte c 95 h refl, apart is_token_byte c 45 h refl, apart is_token_byte c 46 h refl) refl
+key_is_token c h = rw (
+  lower_is_token c h,
+  digit_is_token c h,
+  apart is_token_byte c 42 h refl,
+  apart is_token_byte c 95 h refl,
+  apart is_token_byte c 45 h
+      refl,
+  apart is_token_byte c 46 h refl,
+) refl
 
 pub ends_digit : (rest : List ℕ) → ends rest ≡ true → stops is_digit rest ≡ true
 ends_digit [] h = refl

@@ -47,7 +47,8 @@ module _ (held : List Item) (t rest : List ℕ) (b : ℕ) (x : Item) (y : List I
     after = before + after;
     text = first;
     items = x ∷ [];
-    parts = whole ∙ ap (λ (u : List ℕ). spaces b ++ (first ++ u)) (parts ∙ ap (λ (u : List ℕ). spaces before ++ (u ++ (spaces after ++ 41 ∷ y.1))) are ∙ spaces_more before after (41 ∷ y.1));
+    parts = whole ∙ ap (λ (u : List ℕ). spaces b ++ (first ++ u))
+        (parts ∙ ap (λ (u : List ℕ). spaces before ++ (u ++ (spaces after ++ 41 ∷ y.1))) are ∙ spaces_more before after (41 ∷ y.1));
     are = (first, [], sym (append-nil first), is, refl);
     value = value ∙ append_assoc held (x ∷ []) [];
   }
@@ -62,8 +63,15 @@ module _ (held : List Item) (t rest : List ℕ) (b : ℕ) (x : Item) (y : List I
         after = after;
         text = first ++ (spaces (suc k) ++ text);
         items = x ∷ z ∷ items;
-        parts = whole ∙ ap (λ (u : List ℕ). spaces b ++ u) (ap (λ (u : List ℕ). first ++ u) (parts ∙ sym (append_assoc (spaces (suc k)) text q)) ∙ sym (append_assoc first (spaces (suc k) ++ text) q));
-        are = (first, spaces (suc k) ++ text, refl, is, (spaces (suc k), are.0, are.1, ap (λ (u : List ℕ). spaces (suc k) ++ u) are.2, (k, refl), are.3, are.4));
+        parts = whole ∙ ap (λ (u : List ℕ). spaces b ++ u)
+            (ap (λ (u : List ℕ). first ++ u) (parts ∙ sym (append_assoc (spaces (suc k)) text q)) ∙ sym (append_assoc first (spaces (suc k) ++ text) q));
+        are = (
+          first,
+          spaces (suc k) ++ text,
+          refl,
+          is,
+          (spaces (suc k), are.0, are.1, ap (λ (u : List ℕ). spaces (suc k) ++ u) are.2, (k, refl), are.3, are.4),
+        );
         value = value ∙ append_assoc held (x ∷ []) (z ∷ items);
       }
 
@@ -100,11 +108,13 @@ pub record TakesInner (t : List ℕ) (x : InnerList × List ℕ) : Type 0 where
 
 tail_bytes : (before after : ℕ) (text rest : List ℕ) → IsBytes (spaces before ++ (text ++ (spaces after ++ 41 ∷ rest))) → IsBytes rest
 tail_bytes before after text rest fits =
-    rest_bytes (41 ∷ []) rest (rest_bytes (spaces after) (41 ∷ rest) (rest_bytes text (spaces after ++ 41 ∷ rest) (rest_bytes (spaces before) (text ++ (spaces after ++ 41 ∷ rest)) fits)))
+    rest_bytes (41 ∷ []) rest (rest_bytes (spaces after) (41 ∷ rest)
+    (rest_bytes text (spaces after ++ 41 ∷ rest) (rest_bytes (spaces before) (text ++ (spaces after ++ 41 ∷ rest)) fits)))
 
 -- what stands before the parameters moves into the text
 regrouped : (a b c d e : List ℕ) → a ++ (b ++ (c ++ 41 ∷ (d ++ e))) ≡ (a ++ (b ++ (c ++ 41 ∷ d))) ++ e
-regrouped a b c d e = sym (append_assoc a (b ++ (c ++ 41 ∷ d)) e ∙ ap (λ (u : List ℕ). a ++ u) (append_assoc b (c ++ 41 ∷ d) e ∙ ap (λ (u : List ℕ). b ++ u) (append_assoc c (41 ∷ d) e)))
+regrouped a b c d e = sym (append_assoc a (b ++ (c ++ 41 ∷ d)) e
+    ∙ ap (λ (u : List ℕ). a ++ u) (append_assoc b (c ++ 41 ∷ d) e ∙ ap (λ (u : List ℕ). b ++ u) (append_assoc c (41 ∷ d) e)))
 
 pub inner_takes : (t : List ℕ) (x : InnerList × List ℕ) → IsBytes t → inner_at t ≡ Some x → TakesInner t x
 unfolding inner_at items_at
@@ -116,8 +126,19 @@ inner_takes t x fits e =
     let made : InnerList × List ℕ = (record { items = a.0.0; params = b.0.0 }, b.0.1) in
     subst (TakesInner t) (some_is made x b.2) (record {
       text = 40 ∷ spaces i.before ++ (i.text ++ (spaces i.after ++ 41 ∷ p.text));
-      parts = ap (λ (u : List ℕ). 40 ∷ u) (i.parts ∙ ap (λ (u : List ℕ). spaces i.before ++ (i.text ++ (spaces i.after ++ 41 ∷ u))) p.parts ∙ regrouped (spaces i.before) i.text (spaces i.after) p.text b.0.1);
-      is = record { before = i.before; after = i.after; items_text = i.text; params_text = p.text; is = refl; items = subst (AreSeparated SeparatesItems IsItem i.text) (sym i.value) i.are; params = p.are };
+      parts = ap (λ (u : List ℕ). 40 ∷ u)
+          (i.parts ∙ ap (λ (u : List ℕ). spaces i.before ++ (i.text ++ (spaces i.after ++ 41 ∷ u))) p.parts
+          ∙ regrouped (spaces i.before) i.text (spaces i.after) p.text b.0.1);
+      is = record {
+        before = i.before;
+        after = i.after;
+        items_text = i.text;
+        params_text = p.text;
+        is = refl;
+        items = subst
+            (AreSeparated SeparatesItems IsItem i.text) (sym i.value) i.are;
+        params = p.are;
+      };
     })
 
 -- ---- what is written is read
@@ -127,7 +148,9 @@ item_step : (n : ℕ) (held : List Item) (before : ℕ) (first w : List ℕ) (x 
 unfolding items_from
 item_step n held before first w x is close end =
     let o = opens_more is_plain first w (item_opens first x is) in
-    let left : behind is_space (spaces before ++ (first ++ w)) ≡ first ++ w = behind_again is_space (spaces before) (first ++ w) (are_spaces before) (opens_stops is_space (first ++ w) (opens_to is_plain (λ c. not (is_space c)) (first ++ w) plain_no_space o)) in
+    let left : behind is_space (spaces before ++ (first ++ w)) ≡ first
+    ++ w = behind_again is_space (spaces before) (first ++ w) (are_spaces before)
+    (opens_stops is_space (first ++ w) (opens_to is_plain (λ c. not (is_space c)) (first ++ w) plain_no_space o)) in
     let none : begins 41 (first ++ w) ≡ false = opens_begins is_plain 41 (first ++ w) o refl in
     rw (left, none, item_again first w x is close, end) refl
 
@@ -139,21 +162,26 @@ ends_end : (n : ℕ) (q : List ℕ) → is_item_end (spaces n ++ 41 ∷ q) ≡ t
 ends_end zero q = refl
 ends_end (suc n) q = refl
 
-items_end : (n : ℕ) (held : List Item) (before after : ℕ) (rest : List ℕ) → items_from (suc n) held (spaces before ++ (spaces after ++ 41 ∷ rest)) ≡ Some (held, rest)
+items_end : (n : ℕ) (held : List Item) (before after : ℕ) (rest : List ℕ)
+    → items_from (suc n) held (spaces before ++ (spaces after ++ 41 ∷ rest)) ≡ Some (held, rest)
 unfolding items_from
 items_end n held before after rest =
-    let left : behind is_space (spaces before ++ (spaces after ++ 41 ∷ rest)) ≡ 41 ∷ rest = ap (behind is_space) (spaces_more before after (41 ∷ rest)) ∙ behind_again is_space (spaces (before + after)) (41 ∷ rest) (are_spaces (before + after)) refl in
+    let left : behind is_space (spaces before ++ (spaces after ++ 41 ∷ rest)) ≡ 41 ∷ rest = ap (behind is_space) (spaces_more before after (41 ∷ rest))
+    ∙ behind_again is_space (spaces (before + after)) (41 ∷ rest) (are_spaces (before + after)) refl in
     rw left refl
 
-items_again : (items : List Item) (n : ℕ) (held : List Item) (before after : ℕ) (text rest : List ℕ) → AreSeparated SeparatesItems IsItem text items → length items < n
+items_again : (items : List Item) (n : ℕ) (held : List Item) (before after : ℕ) (text rest : List ℕ) → AreSeparated SeparatesItems IsItem text items
+    → length items < n
     → items_from n held (spaces before ++ (text ++ (spaces after ++ 41 ∷ rest))) ≡ Some (held ++ items, rest)
 items_again items zero held before after text rest are lt = absurd (omega arith)
 items_again [] (suc n) held before after text rest are lt =
-    ap (λ (u : List ℕ). items_from (suc n) held (spaces before ++ (u ++ (spaces after ++ 41 ∷ rest)))) are ∙ items_end n held before after rest ∙ ap (λ (h : List Item). Some (h, rest)) (sym (append-nil held))
+    ap (λ (u : List ℕ). items_from (suc n) held (spaces before ++ (u ++ (spaces after ++ 41 ∷ rest)))) are ∙ items_end n held before after rest
+    ∙ ap (λ (h : List Item). Some (h, rest)) (sym (append-nil held))
 items_again (x ∷ []) (suc n) held before after text rest are lt =
     let q : List ℕ = spaces after ++ 41 ∷ rest in
     let whole : text ≡ are.0 = are.2 ∙ ap (λ (u : List ℕ). are.0 ++ u) are.4 ∙ append-nil are.0 in
-    ap (λ (u : List ℕ). items_from (suc n) held (spaces before ++ (u ++ q))) whole ∙ item_step n held before are.0 q x are.3 (ends_close after rest) (ends_end after rest)
+    ap (λ (u : List ℕ). items_from (suc n) held (spaces before ++ (u ++ q))) whole
+    ∙ item_step n held before are.0 q x are.3 (ends_close after rest) (ends_end after rest)
     ∙ items_again [] n (held ++ x ∷ []) 0 after [] rest refl (omega arith) ∙ ap (λ (h : List Item). Some (h, rest)) (append_assoc held (x ∷ []) [])
 items_again (x ∷ z ∷ items) (suc n) held before after text rest are lt =
     let q : List ℕ = spaces after ++ 41 ∷ rest in
@@ -161,21 +189,28 @@ items_again (x ∷ z ∷ items) (suc n) held before after text rest are lt =
     let k : ℕ = further.4.0 in
     let body : List ℕ = further.1 ++ further.2 in
     let w : List ℕ = spaces (suc k) ++ (body ++ q) in
-    let whole : text ++ q ≡ are.0 ++ w = ap (λ (u : List ℕ). u ++ q) (are.2 ∙ ap (λ (u : List ℕ). are.0 ++ u) (further.3 ∙ ap (λ (u : List ℕ). u ++ body) further.4.1)) ∙ append_assoc are.0 (spaces (suc k) ++ body) q ∙ ap (λ (u : List ℕ). are.0 ++ u) (append_assoc (spaces (suc k)) body q) in
+    let whole : text ++ q ≡ are.0 ++ w = ap (λ (u : List ℕ). u ++ q)
+    (are.2 ∙ ap (λ (u : List ℕ). are.0 ++ u) (further.3 ∙ ap (λ (u : List ℕ). u ++ body) further.4.1)) ∙ append_assoc are.0 (spaces (suc k) ++ body) q
+    ∙ ap (λ (u : List ℕ). are.0 ++ u) (append_assoc (spaces (suc k)) body q) in
     ap (λ (u : List ℕ). items_from (suc n) held (spaces before ++ u)) whole ∙ item_step n held before are.0 w x are.3 refl refl
     ∙ items_again (z ∷ items) n (held ++ x ∷ []) (suc k) after body rest (further.1, further.2, refl, further.5, further.6) (omega arith)
     ∙ ap (λ (h : List Item). Some (h, rest)) (append_assoc held (x ∷ []) (z ∷ items))
 
-pub inner_again : (text rest : List ℕ) (v : InnerList) → IsInner text v → first_is is_close rest ≡ true → (t : List ℕ) × (text ++ rest ≡ 40 ∷ t) × (inner_at t ≡ Some (v, rest))
+pub inner_again : (text rest : List ℕ) (v : InnerList) → IsInner text v → first_is is_close rest ≡ true
+    → (t : List ℕ) × (text ++ rest ≡ 40 ∷ t) × (inner_at t ≡ Some (v, rest))
 unfolding inner_at items_at
 inner_again text rest v i h =
     let q : List ℕ = i.params_text ++ rest in
     let tail : List ℕ = spaces i.after ++ 41 ∷ q in
     let t : List ℕ = spaces i.before ++ (i.items_text ++ tail) in
-    let whole : text ++ rest ≡ 40 ∷ t = ap (λ (u : List ℕ). u ++ rest) i.is ∙ ap (λ (u : List ℕ). 40 ∷ u) (sym (regrouped (spaces i.before) i.items_text (spaces i.after) i.params_text rest)) in
-    let few : length v.items ≤ length i.items_text = count_separated SeparatesItems IsItem (λ text x is. opens_some is_plain text (item_opens text x is)) v.items i.items_text i.items in
+    let whole : text ++ rest ≡ 40 ∷ t = ap (λ (u : List ℕ). u ++ rest) i.is
+    ∙ ap (λ (u : List ℕ). 40 ∷ u) (sym (regrouped (spaces i.before) i.items_text (spaces i.after) i.params_text rest)) in
+    let few : length v.items ≤ length i.items_text = count_separated SeparatesItems IsItem (λ text x is. opens_some is_plain text (item_opens text x is))
+    v.items i.items_text i.items in
     let long : length t ≡ length (spaces i.before) + (length i.items_text + (length (spaces i.after) + suc (length q))) =
-    length-append (spaces i.before) (i.items_text ++ tail) ∙ ap (λ (n : ℕ). length (spaces i.before) + n) (length-append i.items_text tail ∙ ap (λ (n : ℕ). length i.items_text + n) (length-append (spaces i.after) (41 ∷ q))) in
+    length-append (spaces i.before) (i.items_text ++ tail)
+    ∙ ap (λ (n : ℕ). length (spaces i.before) + n)
+    (length-append i.items_text tail ∙ ap (λ (n : ℕ). length i.items_text + n) (length-append (spaces i.after) (41 ∷ q))) in
     let items : items_at t ≡ Some (v.items, q) = items_again v.items (length t) [] i.before i.after i.items_text q i.items (omega arith) in
     let params : params_at q ≡ Some (v.params, rest) = params_at_again i.params_text rest v.params i.params h in (
       t,

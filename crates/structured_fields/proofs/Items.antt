@@ -33,7 +33,8 @@ are_spaces (suc n) = are_spaces n
 -- the spaces in front
 pub spaced : (t : List ℕ) → t ≡ replicate (prefix_len is_space t) 32 ++ behind is_space t
 spaced t =
-    let fronts : front is_space t ≡ replicate (prefix_len is_space t) 32 = spaces_are (front is_space t) (front_all is_space t) ∙ ap (λ (n : ℕ). replicate n 32) (length-prefix_len is_space t) in
+    let fronts : front is_space t ≡ replicate (prefix_len is_space t) 32 = spaces_are (front is_space t) (front_all is_space t)
+    ∙ ap (λ (n : ℕ). replicate n 32) (length-prefix_len is_space t) in
     parts is_space t ∙ ap (λ (f : List ℕ). f ++ behind is_space t) fronts
 
 -- ---- what may follow
@@ -96,7 +97,8 @@ value_again : (text rest : List ℕ) (v : Bare) → IsValue text v → first_is 
 unfolding value_of
 value_again [] rest v is h = rw (follows_no_value rest h) (ap (λ (w : Bare). Some (w, rest)) (sym is))
 value_again (c ∷ text) rest v is h =
-    ap (λ (d : ℕ). cond (d == 61) (bare_at (text ++ rest)) (Some (Boolean true, d ∷ (text ++ rest)))) is.0 ∙ bare_text_again text v rest is.1 (follows_ends rest h)
+    ap (λ (d : ℕ). cond (d == 61) (bare_at (text ++ rest)) (Some (Boolean true, d ∷ (text ++ rest)))) is.0
+    ∙ bare_text_again text v rest is.1 (follows_ends rest h)
 
 pub record TakesParameter (t : List ℕ) (x : (List ℕ × Bare) × List ℕ) : Type 0 where
   pub text : List ℕ
@@ -125,7 +127,8 @@ parameter_takes t x fits e =
 -- a key begins with no space
 key_no_space : (name rest : List ℕ) → is_key name ≡ true → stops is_space (name ++ rest) ≡ true
 key_no_space [] rest key = absurd cc
-key_no_space (c ∷ name) rest key = let h = (and_parts (is_key_start c) (list_all is_key_byte name) key).0 in not_from_false (c == 32) (grind (arith, nat_tests, h))
+key_no_space (c ∷ name) rest key = let h = (and_parts (is_key_start c) (list_all is_key_byte name) key).0 in not_from_false (c == 32)
+    (grind (arith, nat_tests, h))
 
 -- what stands behind a key is no byte of a key
 value_ends : (text rest : List ℕ) (v : Bare) → IsValue text v → first_is is_end rest ≡ true → stops is_key_byte (text ++ rest) ≡ true
@@ -139,12 +142,15 @@ parameter_again text name v rest g h =
     let spaces : List ℕ = replicate g.spaces 32 in
     let tail : List ℕ = name ++ (g.rest ++ rest) in
     let t : List ℕ = spaces ++ tail in
-    let regrouped : text ++ rest ≡ 59 ∷ t = ap (λ (u : List ℕ). u ++ rest) g.is ∙ ap (λ (u : List ℕ). 59 ∷ u) (append_assoc (spaces ++ name) g.rest rest ∙ append_assoc spaces name (g.rest ++ rest)) in
+    let regrouped : text ++ rest ≡ 59 ∷ t = ap (λ (u : List ℕ). u ++ rest) g.is
+    ∙ ap (λ (u : List ℕ). 59 ∷ u) (append_assoc (spaces ++ name) g.rest rest ∙ append_assoc spaces name (g.rest ++ rest)) in
     let left : behind is_space t ≡ tail = behind_again is_space spaces tail (are_spaces g.spaces) (key_no_space name (g.rest ++ rest) g.key) in
-    let key : key_at (behind is_space t) ≡ Some (name, g.rest ++ rest) = ap key_at left ∙ key_again name (g.rest ++ rest) g.key (value_ends g.rest rest v g.value h) in
+    let key : key_at (behind is_space t) ≡ Some (name, g.rest ++ rest) = ap key_at left
+    ∙ key_again name (g.rest ++ rest) g.key (value_ends g.rest rest v g.value h) in
     let value : value_of (g.rest ++ rest) ≡ Some (v, rest) = value_again g.rest rest v g.value h in
     let read : parameter_at t ≡ Some ((name, v), rest) =
-    ap (λ (o : Option (List ℕ × List ℕ)). o >>= λ k. value_of k.1 >>= λ w. Some ((k.0, w.0), w.1)) key ∙ ap (λ (o : Option (Bare × List ℕ)). o >>= λ w. Some ((name, w.0), w.1)) value in
+    ap (λ (o : Option (List ℕ × List ℕ)). o >>= λ k. value_of k.1 >>= λ w. Some ((k.0, w.0), w.1)) key
+    ∙ ap (λ (o : Option (Bare × List ℕ)). o >>= λ w. Some ((name, w.0), w.1)) value in
     (t, regrouped, read)
 
 -- ---- parameters
@@ -156,7 +162,8 @@ pub record TakesParameters (ps : List (List ℕ × Bare)) (t : List ℕ) (x : Li
   pub are : ListsParameters text listed
   pub value : x.0 ≡ over ps listed
 
-params_take : (n : ℕ) (ps : List (List ℕ × Bare)) (t : List ℕ) (x : List (List ℕ × Bare) × List ℕ) → IsBytes t → params_from n ps t ≡ Some x → TakesParameters ps t x
+params_take : (n : ℕ) (ps : List (List ℕ × Bare)) (t : List ℕ) (x : List (List ℕ × Bare) × List ℕ) → IsBytes t → params_from n ps t ≡ Some x
+    → TakesParameters ps t x
 unfolding params_from
 params_take zero ps t x fits e = subst (TakesParameters ps t) (some_is (ps, t) x e) (record { text = []; listed = []; parts = refl; are = refl; value = refl })
 params_take (suc n) ps t x fits e =
@@ -179,13 +186,15 @@ params_take (suc n) ps t x fits e =
     ]
 
 -- parameters begin with `;`
-parameters_follow : (gs : List (List ℕ × Bare)) (text rest : List ℕ) → ListsParameters text gs → first_is is_end rest ≡ true → first_is is_end (text ++ rest) ≡ true
+parameters_follow : (gs : List (List ℕ × Bare)) (text rest : List ℕ) → ListsParameters text gs → first_is is_end rest ≡ true
+    → first_is is_end (text ++ rest) ≡ true
 parameters_follow [] text rest are h = rw are h
 parameters_follow (g ∷ gs) text rest are h =
     let first = parameter_again are.0 g.0 g.1 rest are.3 h in
     rw (are.2, are.3.is) refl
 
-params_again : (gs : List (List ℕ × Bare)) (n : ℕ) (ps : List (List ℕ × Bare)) (text rest : List ℕ) → ListsParameters text gs → first_is is_close rest ≡ true → length text ≤ n
+params_again : (gs : List (List ℕ × Bare)) (n : ℕ) (ps : List (List ℕ × Bare)) (text rest : List ℕ) → ListsParameters text gs → first_is is_close rest ≡ true
+    → length text ≤ n
     → params_from n ps (text ++ rest) ≡ Some (over ps gs, rest)
 unfolding params_from
 params_again [] zero ps text rest are h le = rw are refl
@@ -201,7 +210,8 @@ params_again (g ∷ gs) (suc n) ps text rest are h le =
     let short : length are.0 ≡ suc (length (replicate are.3.spaces 32 ++ g.0 ++ are.3.rest)) = ap length are.3.is in
     let again = params_again gs n (with_value ps g.0 g.1) are.1 rest are.4 h (omega arith) in
     let regrouped : text ++ rest ≡ 59 ∷ first.0 = ap (λ (u : List ℕ). u ++ rest) are.2 ∙ append_assoc are.0 are.1 rest ∙ first.1 in
-    ap (params_from (suc n) ps) regrouped ∙ ap (λ (o : Option ((List ℕ × Bare) × List ℕ)). o >>= λ k. params_from n (with_value ps k.0.0 k.0.1) k.1) first.2 ∙ again
+    ap (params_from (suc n) ps) regrouped ∙ ap (λ (o : Option ((List ℕ × Bare) × List ℕ)). o >>= λ k. params_from n (with_value ps k.0.0 k.0.1) k.1) first.2
+    ∙ again
 
 pub record TakesParams (t : List ℕ) (x : List (List ℕ × Bare) × List ℕ) : Type 0 where
   pub text : List ℕ
@@ -212,10 +222,12 @@ pub params_at_takes : (t : List ℕ) (x : List (List ℕ × Bare) × List ℕ) �
 unfolding params_at
 params_at_takes t x fits e = let p = params_take (length t) [] t x fits e in record { text = p.text; parts = p.parts; are = (p.listed, p.are, p.value) }
 
-pub params_at_again : (text rest : List ℕ) (ps : List (List ℕ × Bare)) → AreParams text ps → first_is is_close rest ≡ true → params_at (text ++ rest) ≡ Some (ps, rest)
+pub params_at_again : (text rest : List ℕ) (ps : List (List ℕ × Bare)) → AreParams text ps → first_is is_close rest ≡ true
+    → params_at (text ++ rest) ≡ Some (ps, rest)
 unfolding params_at
 params_at_again text rest ps are h =
-    params_again are.0 (length (text ++ rest)) [] text rest are.1 h (omega (arith, length-append text rest)) ∙ ap (λ (qs : List (List ℕ × Bare)). Some (qs, rest)) (sym are.2)
+    params_again are.0 (length (text ++ rest)) [] text rest are.1 h (omega (arith, length-append text rest))
+    ∙ ap (λ (qs : List (List ℕ × Bare)). Some (qs, rest)) (sym are.2)
 
 -- ---- items
 
@@ -245,7 +257,8 @@ pub item_again : (text rest : List ℕ) (v : Item) → IsItem text v → first_i
 unfolding item_at
 item_again text rest v i h =
     let regrouped : text ++ rest ≡ i.bare_text ++ (i.params_text ++ rest) = ap (λ (u : List ℕ). u ++ rest) i.is ∙ append_assoc i.bare_text i.params_text rest in
-    let first = bare_text_again i.bare_text v.bare (i.params_text ++ rest) i.bare (follows_ends (i.params_text ++ rest) (params_follow i.params_text rest v.params i.params h)) in
+    let first = bare_text_again i.bare_text v.bare (i.params_text ++ rest) i.bare
+    (follows_ends (i.params_text ++ rest) (params_follow i.params_text rest v.params i.params h)) in
     let second = params_at_again i.params_text rest v.params i.params h in
     ap item_at regrouped ∙ ap (λ (o : Option (Bare × List ℕ)). o >>= λ b. params_at b.1 >>= λ p. Some (record { bare = b.0; params = p.0 }, p.1)) first
     ∙ ap (λ (o : Option (List (List ℕ × Bare) × List ℕ)). o >>= λ p. Some (record { bare = v.bare; params = p.0 }, p.1)) second

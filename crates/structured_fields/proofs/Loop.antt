@@ -12,16 +12,19 @@ pub start : (t : List ℕ) → params_from (length t - 0) [] t ≡ params_at t
 unfolding params_at
 start t = let e : length t - 0 ≡ length t = omega arith in rw e refl
 
-pub stopped : (n : ℕ) (ps : List (List ℕ × Bare)) (t : List ℕ) (total : Option (List (List ℕ × Bare) × List ℕ)) → begins 59 t ≡ false → params_from n ps t ≡ total → total ≡ Some (ps, t)
+pub stopped : (n : ℕ) (ps : List (List ℕ × Bare)) (t : List ℕ) (total : Option (List (List ℕ × Bare) × List ℕ)) → begins 59 t ≡ false
+    → params_from n ps t ≡ total → total ≡ Some (ps, t)
 unfolding params_from
 stopped zero ps t total h e = sym e
 stopped (suc n) ps t total h e = sym (rw h at e)
 
-pub spent : (n : ℕ) (ps : List (List ℕ × Bare)) (t : List ℕ) (total : Option (List (List ℕ × Bare) × List ℕ)) → n ≡ 0 → params_from n ps t ≡ total → total ≡ Some (ps, t)
+pub spent : (n : ℕ) (ps : List (List ℕ × Bare)) (t : List ℕ) (total : Option (List (List ℕ × Bare) × List ℕ)) → n ≡ 0 → params_from n ps t ≡ total
+    → total ≡ Some (ps, t)
 unfolding params_from
 spent n ps t total z e = sym (rw z at e)
 
-pub more : (len i : ℕ) (ps : List (List ℕ × Bare)) (t : List ℕ) (name : List ℕ) (v : Bare) (rest : List ℕ) (total : Option (List (List ℕ × Bare) × List ℕ)) → i < len → begins 59 t ≡ true
+pub more : (len i : ℕ) (ps : List (List ℕ × Bare)) (t : List ℕ) (name : List ℕ) (v : Bare) (rest : List ℕ) (total : Option (List (List ℕ × Bare) × List ℕ))
+    → i < len → begins 59 t ≡ true
     → parameter_at (drop 1 t) ≡ Some ((name, v), rest) → params_from (len - i) ps t ≡ total → params_from (len - (i + 1)) (with_value ps name v) rest ≡ total
 unfolding params_from
 more len i ps t name v rest total lt h g e =
@@ -29,7 +32,8 @@ more len i ps t name v rest total lt h g e =
     let one : params_from (len - i) ps t ≡ params_from (len - (i + 1)) (with_value ps name v) rest = rw (k, h, g) refl in
     sym one ∙ e
 
-pub failed : (e : FieldFault) (len i : ℕ) (ps : List (List ℕ × Bare)) (t : List ℕ) (total : Option (List (List ℕ × Bare) × List ℕ)) → i < len → begins 59 t ≡ true
+pub failed : (e : FieldFault) (len i : ℕ) (ps : List (List ℕ × Bare)) (t : List ℕ) (total : Option (List (List ℕ × Bare) × List ℕ)) → i < len
+    → begins 59 t ≡ true
     → Fails e (parameter_at (drop 1 t)) → params_from (len - i) ps t ≡ total → Fails e total
 unfolding params_from
 failed OutOfMemory len i ps t total lt h g e = tt
@@ -47,7 +51,8 @@ pub items_start : (t : List ℕ) → items_from (length t - 0) [] t ≡ items_at
 unfolding items_at
 items_start t = let e : length t - 0 ≡ length t = omega arith in rw e refl
 
-module _ (len i : ℕ) (held : List Item) (t u : List ℕ) (total : Items) (is : u ≡ behind is_space t) (so_far : items_from (len - i) held t ≡ total) (lt : i < len) where
+module _ (len i : ℕ) (held : List Item) (t u : List ℕ) (total : Items) (is : u ≡ behind is_space t) (so_far : items_from (len - i) held t ≡ total)
+    (lt : i < len) where
   pub items_stopped : begins 41 u ≡ true → total ≡ Some (held, drop 1 u)
   unfolding items_from
   items_stopped h =
@@ -56,7 +61,8 @@ module _ (len i : ℕ) (held : List Item) (t u : List ℕ) (total : Items) (is :
       sym so_far ∙ one
 
   module _ (h : begins 41 u ≡ false) where
-    pub items_more : (x : Item) (rest : List ℕ) → item_at u ≡ Some (x, rest) → is_item_end rest ≡ true → items_from (len - (i + 1)) (held ++ x ∷ []) rest ≡ total
+    pub items_more : (x : Item) (rest : List ℕ) → item_at u ≡ Some (x, rest) → is_item_end rest ≡ true
+        → items_from (len - (i + 1)) (held ++ x ∷ []) rest ≡ total
     unfolding items_from
     items_more x rest g e =
         let k : len - i ≡ suc (len - (i + 1)) = omega arith in

@@ -68,14 +68,21 @@ entry_value_takes t x fits e =
       | inl p ↦
           let whole = begun 61 t p.0 in
           let m = member_takes (drop 1 t) x (rest_bytes (61 ∷ []) (drop 1 t) (subst IsBytes whole fits)) p.1 in
-          record { text = 61 ∷ m.text; parts = whole ∙ ap (λ (r : List ℕ). 61 ∷ r) m.parts; is = inl (record { member_text = m.text; is = refl; member = m.is }) }
+          record {
+            text = 61 ∷ m.text;
+            parts = whole
+                ∙ ap (λ (r : List ℕ). 61 ∷ r) m.parts;
+            is = inl (record { member_text = m.text; is = refl; member = m.is });
+          }
       | inr p ↦
           let m = mapped (λ (y : List (List ℕ × Bare) × List ℕ). (Single (record { bare = Boolean true; params = y.0 }), y.1)) (params_at t) x p.1 in
           let q = params_at_takes t m.0 fits m.1 in
-          subst (TakesMember (λ text m. IsGiven text m ⊎ IsBareTrue text m) t) m.2 (record { text = q.text; parts = q.parts; is = inr (record { params = m.0.0; is = q.are; value = refl }) })
+          subst (TakesMember (λ text m. IsGiven text m ⊎ IsBareTrue text m) t) m.2
+          (record { text = q.text; parts = q.parts; is = inr (record { params = m.0.0; is = q.are; value = refl }) })
     ]
 
-entry_value_again : (text rest : List ℕ) (m : Member) → IsGiven text m ⊎ IsBareTrue text m → first_is is_close rest ≡ true → entry_value_at (text ++ rest) ≡ Some (m, rest)
+entry_value_again : (text rest : List ℕ) (m : Member) → IsGiven text m ⊎ IsBareTrue text m → first_is is_close rest ≡ true
+    → entry_value_at (text ++ rest) ≡ Some (m, rest)
 unfolding entry_value_at
 entry_value_again text rest m (inl g) h = ap (λ (u : List ℕ). entry_value_at (u ++ rest)) g.is ∙ member_again g.member_text rest m g.member h
 entry_value_again text rest m (inr g) h =
@@ -105,9 +112,11 @@ pub entry_again : (text rest : List ℕ) (e : List ℕ × Member) → IsEntry te
 unfolding entry_at
 entry_again text rest e i h =
     let whole : text ++ rest ≡ e.0 ++ (i.rest ++ rest) = ap (λ (u : List ℕ). u ++ rest) i.is ∙ append_assoc e.0 i.rest rest in
-    let key : key_at (text ++ rest) ≡ Some (e.0, i.rest ++ rest) = ap key_at whole ∙ key_again e.0 (i.rest ++ rest) i.key (value_stops i.rest rest e.1 i.member h) in
+    let key : key_at (text ++ rest) ≡ Some (e.0, i.rest ++ rest) = ap key_at whole
+    ∙ key_again e.0 (i.rest ++ rest) i.key (value_stops i.rest rest e.1 i.member h) in
     let value = entry_value_again i.rest rest e.1 i.member h in
-    ap (λ (o : Option (List ℕ × List ℕ)). o >>= λ k. entry_value_at k.1 >>= λ m. Some ((k.0, m.0), m.1)) key ∙ ap (λ (o : Option (Member × List ℕ)). o >>= λ m. Some ((e.0, m.0), m.1)) value
+    ap (λ (o : Option (List ℕ × List ℕ)). o >>= λ k. entry_value_at k.1 >>= λ m. Some ((k.0, m.0), m.1)) key
+    ∙ ap (λ (o : Option (Member × List ℕ)). o >>= λ m. Some ((e.0, m.0), m.1)) value
 
 key_no_ows : (c : ℕ) → is_key_start c ≡ true → not (is_ows c) ≡ true
 key_no_ows c h = grind (arith, nat_tests)
@@ -138,7 +147,8 @@ no_next tail h =
     let none : behind is_ows tail ≡ [] = ap (behind is_ows) (sym (append-nil tail)) ∙ behind_again is_ows tail [] h refl in
     rw none refl
 
-next_again : (before after u : List ℕ) → list_all is_ows before ≡ true → list_all is_ows after ≡ true → stops is_ows u ≡ true → next_at (before ++ 44 ∷ (after ++ u)) ≡ Some (Some u)
+next_again : (before after u : List ℕ) → list_all is_ows before ≡ true → list_all is_ows after ≡ true → stops is_ows u ≡ true
+    → next_at (before ++ 44 ∷ (after ++ u)) ≡ Some (Some u)
 unfolding next_at
 next_again before after u b a stop =
     let left : behind is_ows (before ++ 44 ∷ (after ++ u)) ≡ 44 ∷ (after ++ u) = behind_again is_ows before (44 ∷ (after ++ u)) b refl in
@@ -173,7 +183,8 @@ next_takes t next e =
             sym (some_is (Some u) next g.1),
             record {
               between = before ++ 44 ∷ after;
-              parts = split ∙ ap (λ (r : List ℕ). before ++ r) (begun 44 left g.0 ∙ ap (λ (r : List ℕ). 44 ∷ r) (parts is_ows (drop 1 left))) ∙ sym (append_assoc before (44 ∷ after) u);
+              parts = split ∙ ap (λ (r : List ℕ). before ++ r) (begun 44 left g.0 ∙ ap (λ (r : List ℕ). 44 ∷ r) (parts is_ows (drop 1 left)))
+                  ∙ sym (append_assoc before (44 ∷ after) u);
               is = record { before = before; after = after; is = refl; before_ows = front_all is_ows t; after_ows = front_all is_ows (drop 1 left) };
             },
           )
@@ -197,17 +208,30 @@ module _ {H M : Type 0} (read : List ℕ → Option (M × List ℕ)) (add : H �
     unfolding members_from
     members_take zero held t h fits e = absurd cc
     members_take (suc n) held t h fits e =
-        let a = bind_some (read t) (λ x. next_at x.1 >>= λ next. option_map_or (λ u. members_from read add n (add held x.0) u) next (Some (add held x.0))) h e in
+        let a = bind_some (read t) (λ x. next_at x.1 >>= λ next. option_map_or (λ u. members_from read add n (add held x.0) u) next (Some (add held x.0))) h
+        e in
         let x : M = a.0.0 in
         let rest : List ℕ = a.0.1 in
         let b = bind_some (next_at rest) (λ next. option_map_or (λ u. members_from read add n (add held x) u) next (Some (add held x))) h a.2 in
         let m = takes t a.0 fits a.1 in
         elim (next_takes rest b.0 b.1) [
           | inl p ↦
-              let e : Some (add held x) ≡ Some h = subst (λ (o : Option (List ℕ)). option_map_or (λ u. members_from read add n (add held x) u) o (Some (add held x)) ≡ Some h) p.0 b.2 in
-              record { head = x; others = []; body = m.text; tail = rest; parts = m.parts; ows = p.1; are = (m.text, [], sym (append-nil m.text), m.is, refl); value = sym (some_is (add held x) h e) }
+              let e : Some (add held x) ≡ Some h = subst
+              (λ (o : Option (List ℕ)). option_map_or (λ u. members_from read add n (add held x) u) o (Some (add held x)) ≡ Some h) p.0 b.2 in
+              record {
+                head = x;
+                others = [];
+                body = m.text;
+                tail = rest;
+                parts = m.parts;
+                ows = p.1;
+                are = (m.text, [], sym (append-nil m.text), m.is, refl);
+                value = sym (some_is (add held x) h e);
+              }
           | inr p ↦
-              let e : members_from read add n (add held x) p.0 ≡ Some h = subst (λ (o : Option (List ℕ)). option_map_or (λ u. members_from read add n (add held x) u) o (Some (add held x)) ≡ Some h) p.1 b.2 in
+              let e : members_from read add n (add held x) p.0
+              ≡ Some h = subst (λ (o : Option (List ℕ)). option_map_or (λ u. members_from read add n (add held x) u) o (Some (add held x)) ≡ Some h) p.1
+              b.2 in
               let k = p.2 in
               let fits_rest = rest_bytes m.text rest (subst IsBytes m.parts fits) in
               let r = members_take n (add held x) p.0 h (rest_bytes k.between p.0 (subst IsBytes k.parts fits_rest)) e in
@@ -216,16 +240,25 @@ module _ {H M : Type 0} (read : List ℕ → Option (M × List ℕ)) (add : H �
                 others = r.head ∷ r.others;
                 body = m.text ++ (k.between ++ r.body);
                 tail = r.tail;
-                parts = m.parts ∙ ap (λ (u : List ℕ). m.text ++ u) (k.parts ∙ ap (λ (u : List ℕ). k.between ++ u) r.parts ∙ sym (append_assoc k.between r.body r.tail)) ∙ sym (append_assoc m.text (k.between ++ r.body) r.tail);
+                parts = m.parts ∙ ap (λ (u : List ℕ). m.text ++ u)
+                    (k.parts ∙ ap (λ (u : List ℕ). k.between ++ u) r.parts ∙ sym (append_assoc k.between r.body r.tail))
+                    ∙ sym (append_assoc m.text (k.between ++ r.body) r.tail);
                 ows = r.ows;
-                are = (m.text, k.between ++ r.body, refl, m.is, (k.between, r.are.0, r.are.1, ap (λ (u : List ℕ). k.between ++ u) r.are.2, k.is, r.are.3, r.are.4));
+                are = (
+                  m.text,
+                  k.between ++ r.body,
+                  refl,
+                  m.is,
+                  (k.between, r.are.0, r.are.1, ap (λ (u : List ℕ). k.between ++ u) r.are.2, k.is, r.are.3, r.are.4),
+                );
                 value = r.value;
               }
         ]
 
   module _ (again : (text rest : List ℕ) (m : M) → Is text m → first_is is_close rest ≡ true → read (text ++ rest) ≡ Some (m, rest))
       (opens : (text : List ℕ) (m : M) → Is text m → Opens (λ c. not (is_ows c)) text) where
-    pub members_again : (ms : List M) (n : ℕ) (held : H) (m : M) (text tail : List ℕ) → AreSeparated SeparatesMembers Is text (m ∷ ms) → list_all is_ows tail ≡ true → length ms < n
+    pub members_again : (ms : List M) (n : ℕ) (held : H) (m : M) (text tail : List ℕ) → AreSeparated SeparatesMembers Is text (m ∷ ms)
+        → list_all is_ows tail ≡ true → length ms < n
         → members_from read add n held (text ++ tail) ≡ Some (fold add held (m ∷ ms))
     unfolding members_from
     members_again ms zero held m text tail are h lt = absurd (omega arith)
@@ -239,10 +272,12 @@ module _ {H M : Type 0} (read : List ℕ → Option (M × List ℕ)) (add : H �
         let next : List ℕ = body ++ tail in
         let rest : List ℕ = c.before ++ 44 ∷ (c.after ++ next) in
         let whole : text ++ tail ≡ are.0 ++ rest =
-        ap (λ (u : List ℕ). u ++ tail) (are.2 ∙ ap (λ (u : List ℕ). are.0 ++ u) (f.3 ∙ ap (λ (u : List ℕ). u ++ body) c.is)) ∙ append_assoc are.0 ((c.before ++ 44 ∷ c.after) ++ body) tail
+        ap (λ (u : List ℕ). u ++ tail) (are.2 ∙ ap (λ (u : List ℕ). are.0 ++ u) (f.3 ∙ ap (λ (u : List ℕ). u ++ body) c.is))
+        ∙ append_assoc are.0 ((c.before ++ 44 ∷ c.after) ++ body) tail
         ∙ ap (λ (u : List ℕ). are.0 ++ u) (append_assoc (c.before ++ 44 ∷ c.after) body tail ∙ append_assoc c.before (44 ∷ c.after) next) in
         let one = again are.0 rest m are.3 (comma_closes c.before (c.after ++ next) c.before_ows) in
-        let starts : stops is_ows next ≡ true = opens_stops is_ows next (subst (Opens (λ c. not (is_ows c))) (sym (append_assoc f.1 f.2 tail)) (opens_more (λ c. not (is_ows c)) f.1 (f.2 ++ tail) (opens f.1 k f.5))) in
+        let starts : stops is_ows next ≡ true = opens_stops is_ows next
+        (subst (Opens (λ c. not (is_ows c))) (sym (append_assoc f.1 f.2 tail)) (opens_more (λ c. not (is_ows c)) f.1 (f.2 ++ tail) (opens f.1 k f.5))) in
         let comma = next_again c.before c.after next c.before_ows c.after_ows starts in
         let others = members_again ms n (add held m) k body tail (f.1, f.2, refl, f.5, f.6) h (omega arith) in
         ap (members_from read add (suc n) held) whole ∙ rw (one, comma, others) refl

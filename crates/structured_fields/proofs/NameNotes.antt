@@ -57,8 +57,10 @@ absent_before m n stays name none = by (noted m name) refl
 
 -- ---- four steps
 
-pub four_steps : (cells : List ℕ) (node b first second third fourth : ℕ) → noted_at cells (cell_of node (b / 64)) ≡ Some first → noted_at cells (cell_of first (b / 16 % 4)) ≡ Some second
-    → noted_at cells (cell_of second (b / 4 % 4)) ≡ Some third → noted_at cells (cell_of third (b % 4)) ≡ Some fourth → steps cells node (digits b) ≡ Some fourth
+pub four_steps : (cells : List ℕ) (node b first second third fourth : ℕ) → noted_at cells (cell_of node (b / 64)) ≡ Some first
+    → noted_at cells (cell_of first (b / 16 % 4)) ≡ Some second
+    → noted_at cells (cell_of second (b / 4 % 4)) ≡ Some third → noted_at cells (cell_of third (b % 4)) ≡ Some fourth
+    → steps cells node (digits b) ≡ Some fourth
 unfolding steps
 four_steps cells node b first second third fourth p q r s = rw (p, q, r, s) refl
 
@@ -77,9 +79,12 @@ module _ (cells : List ℕ) (name : List ℕ) (i node : ℕ) (whole : Option ℕ
   unfolding walk
   walk_done le = sym (ap (walk cells node) (drop_all i name le)) ∙ so_far
 
-pub is_noted : (cells name : List ℕ) (i node n : ℕ) → length name ≤ i → walk cells node (drop i name) ≡ noted cells name → noted_at cells (cell_of node ends) ≡ Some n → IsSome (noted cells name)
+pub is_noted : (cells name : List ℕ) (i node n : ℕ) → length name ≤ i → walk cells node (drop i name) ≡ noted cells name
+    → noted_at cells (cell_of node ends) ≡ Some n → IsSome (noted cells name)
 is_noted cells name i node n le so_far at = subst (λ (o : Option ℕ). IsSome o) (sym at ∙ walk_done cells name i node (noted cells name) so_far le) refl
 
 -- where nothing was noted last, nothing was noted before
-pub none_before : (old cells name : List ℕ) (i node : ℕ) → Extends old cells → walk cells node (drop i name) ≡ noted cells name → length name ≤ i → noted_at cells (cell_of node ends) ≡ None → noted old name ≡ None
-none_before old cells name i node extends so_far le none = absent_before old cells extends name (sym (walk_done cells name i node (noted cells name) so_far le) ∙ none)
+pub none_before : (old cells name : List ℕ) (i node : ℕ) → Extends old cells → walk cells node (drop i name) ≡ noted cells name → length name ≤ i
+    → noted_at cells (cell_of node ends) ≡ None → noted old name ≡ None
+none_before old cells name i node extends so_far le none = absent_before old cells extends name
+    (sym (walk_done cells name i node (noted cells name) so_far le) ∙ none)

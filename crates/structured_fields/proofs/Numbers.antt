@@ -62,7 +62,8 @@ pub record TakesPart (negative : Bool) (whole t : List ℕ) (x : Bare × List �
   pub part_fits : AreDigits 1 3 part
   pub is : x.0 ≡ Decimal (signed negative (thousandths whole part))
 
-decimal_takes : (negative : Bool) (whole t : List ℕ) (x : Bare × List ℕ) → list_all is_digit whole ≡ true → decimal_at negative whole t ≡ Some x → TakesPart negative whole t x
+decimal_takes : (negative : Bool) (whole t : List ℕ) (x : Bare × List ℕ) → list_all is_digit whole ≡ true → decimal_at negative whole t ≡ Some x
+    → TakesPart negative whole t x
 unfolding decimal_at
 decimal_takes negative whole t x all e =
     let y : Bare × List ℕ = (Decimal (signed negative (thousandths whole (front is_digit t))), behind is_digit t) in
@@ -94,7 +95,8 @@ unsigned_takes negative t x e =
     elim (chosen (begins 46 left) (decimal_at negative whole (drop 1 left)) (cond (within (prefix_len is_digit t) 15) (Some y) None) (Some x) e) [
       | inl p ↦
           let d = decimal_takes negative whole (drop 1 left) x (digits_all t) p.1 in
-          let apart : t ≡ whole ++ (46 ∷ (d.part ++ x.1)) = parts is_digit t ∙ ap (λ (r : List ℕ). whole ++ r) (begun 46 left p.0 ∙ ap (λ (r : List ℕ). 46 ∷ r) d.parts) in
+          let apart : t ≡ whole ++ (46 ∷ (d.part ++ x.1)) = parts is_digit t
+          ∙ ap (λ (r : List ℕ). whole ++ r) (begun 46 left p.0 ∙ ap (λ (r : List ℕ). 46 ∷ r) d.parts) in
           record {
             text = whole ++ 46 ∷ d.part;
             parts = apart ∙ sym (append_assoc whole (46 ∷ d.part) x.1);
@@ -158,10 +160,13 @@ signed_again false digits tail y len all e = rw (digit_no_sign digits tail len a
 pub integer_again : (text : List ℕ) (n : ℤ) (rest : List ℕ) → IsInteger text n → ends rest ≡ true → number_at (text ++ rest) ≡ Some (Integer n, rest)
 integer_again text n rest i e =
     let regrouped : text ++ rest ≡ sign i.negative ++ (i.digits ++ rest) = ap (λ (t : List ℕ). t ++ rest) i.is ∙ append_assoc (sign i.negative) i.digits rest in
-    ap number_at regrouped ∙ signed_again i.negative i.digits rest _ i.fits.least_len i.fits.all (unsigned_again i.negative i.digits rest i.fits e) ∙ ap (λ (m : ℤ). Some (Integer m, rest)) (sym i.value)
+    ap number_at regrouped ∙ signed_again i.negative i.digits rest _ i.fits.least_len i.fits.all (unsigned_again i.negative i.digits rest i.fits e)
+    ∙ ap (λ (m : ℤ). Some (Integer m, rest)) (sym i.value)
 
 pub decimal_text_again : (text : List ℕ) (n : ℤ) (rest : List ℕ) → IsDecimal text n → ends rest ≡ true → number_at (text ++ rest) ≡ Some (Decimal n, rest)
 decimal_text_again text n rest d e =
     let tail : List ℕ = 46 ∷ (d.part ++ rest) in
-    let regrouped : text ++ rest ≡ sign d.negative ++ (d.whole ++ tail) = ap (λ (t : List ℕ). t ++ rest) d.is ∙ append_assoc (sign d.negative ++ d.whole) (46 ∷ d.part) rest ∙ append_assoc (sign d.negative) d.whole tail in
-    ap number_at regrouped ∙ signed_again d.negative d.whole tail _ d.whole_fits.least_len d.whole_fits.all (pointed_again d.negative d.whole d.part rest d.whole_fits d.part_fits e) ∙ ap (λ (m : ℤ). Some (Decimal m, rest)) (sym d.value)
+    let regrouped : text ++ rest ≡ sign d.negative ++ (d.whole ++ tail) = ap (λ (t : List ℕ). t ++ rest) d.is
+    ∙ append_assoc (sign d.negative ++ d.whole) (46 ∷ d.part) rest ∙ append_assoc (sign d.negative) d.whole tail in
+    ap number_at regrouped ∙ signed_again d.negative d.whole tail _ d.whole_fits.least_len d.whole_fits.all
+    (pointed_again d.negative d.whole d.part rest d.whole_fits d.part_fits e) ∙ ap (λ (m : ℤ). Some (Decimal m, rest)) (sym d.value)

@@ -53,7 +53,8 @@ opens_to p q text h o = record { first = o.first; others = o.others; is = o.is; 
 pub bare_opens : (text : List ℕ) (v : Bare) → IsBare text v → Opens is_plain text
 unfolding bare_at number_at unsigned_at
 bare_opens [] v is = let e = bare_text_again [] v [] is refl in absurd cc
-bare_opens (c ∷ t) v is = record { first = c; others = t; is = refl; passes = by (list_any (λ k. c == k) (32 ∷ 9 ∷ 40 ∷ 41 ∷ [])) refl (bare_text_again (c ∷ t) v [] is refl) }
+bare_opens (c ∷ t) v is = record
+    { first = c; others = t; is = refl; passes = by (list_any (λ k. c == k) (32 ∷ 9 ∷ 40 ∷ 41 ∷ [])) refl (bare_text_again (c ∷ t) v [] is refl) }
   where
     by : (b : Bool) → list_any (λ k. c == k) (32 ∷ 9 ∷ 40 ∷ 41 ∷ []) ≡ b → bare_at (c ∷ (t ++ [])) ≡ Some (v, []) → not b ≡ true
     by false h e = refl
@@ -71,7 +72,8 @@ module _ {M : Type 0} (IsBetween : List ℕ → Type 0) (Is : List ℕ → M →
   count_further (m ∷ ms) text are =
       let one = some are.1 m are.5 in
       let rest = count_further ms are.2 are.6 in
-      let long : length text ≡ length are.0 + (length are.1 + length are.2) = ap length are.3 ∙ length-append are.0 (are.1 ++ are.2) ∙ ap (λ (n : ℕ). length are.0 + n) (length-append are.1 are.2) in
+      let long : length text ≡ length are.0 + (length are.1 + length are.2) = ap length are.3 ∙ length-append are.0 (are.1 ++ are.2)
+      ∙ ap (λ (n : ℕ). length are.0 + n) (length-append are.1 are.2) in
       omega arith
 
   pub count_separated : (ms : List M) (text : List ℕ) → AreSeparated IsBetween Is text ms → length ms ≤ length text

@@ -91,7 +91,12 @@ params_distinct : (text : List ℕ) (ps : List (List ℕ × Bare)) → AreParams
 params_distinct text ps are = subst IsDistinct (sym are.2) (distinct_over [] are.0 tt)
 
 item_range : (text : List ℕ) (v : Item) → IsItem text v → IsItemInRange v
-item_range text v i = record { bare = bare_range i.bare_text v.bare i.bare; params = params_range i.params_text v.params i.params; distinct = params_distinct i.params_text v.params i.params }
+item_range text v i = record {
+  bare = bare_range i.bare_text v.bare i.bare;
+  params = params_range i.params_text v.params i.params;
+  distinct = params_distinct
+      i.params_text v.params i.params;
+}
 
 -- ---- members
 
@@ -117,7 +122,8 @@ member_range text (Inner v) is = inner_range text v is
 
 entry_value_range : (text : List ℕ) (m : Member) → IsGiven text m ⊎ IsBareTrue text m → IsMemberInRange m
 entry_value_range text m (inl g) = member_range g.member_text m g.member
-entry_value_range text m (inr g) = subst IsMemberInRange (sym g.value) (record { bare = tt; params = params_range text g.params g.is; distinct = params_distinct text g.params g.is })
+entry_value_range text m (inr g) = subst IsMemberInRange (sym g.value)
+    (record { bare = tt; params = params_range text g.params g.is; distinct = params_distinct text g.params g.is })
 
 abbrev Entered : List ℕ × Member → Type 0
 Entered e = (is_key e.0 ≡ true) × IsMemberInRange e.1

@@ -15,7 +15,9 @@ string_again [] rest all = refl
 string_again (c ∷ s) rest all =
     let a = and_parts (is_string_byte c) (list_all is_string_byte s) all in
     let again = string_again s rest a.1 in
-    let whole : flat_map in_string (c ∷ s) ++ 34 ∷ rest ≡ in_string c ++ (flat_map in_string s ++ 34 ∷ rest) = ap (λ (t : List ℕ). t ++ 34 ∷ rest) (flat_map-cons in_string c s) ∙ append_assoc (in_string c) (flat_map in_string s) (34 ∷ rest) in
+    let whole : flat_map in_string (c ∷ s) ++ 34 ∷ rest ≡ in_string c
+    ++ (flat_map in_string s ++ 34 ∷ rest) = ap (λ (t : List ℕ). t ++ 34 ∷ rest) (flat_map-cons in_string c s)
+    ∙ append_assoc (in_string c) (flat_map in_string s) (34 ∷ rest) in
     ap (string_rest false) whole ∙ by (is_quoted c) refl a.0 again
   where
     by : (b : Bool) → is_quoted c ≡ b → is_string_byte c ≡ true → string_rest false (flat_map in_string s ++ 34 ∷ rest) ≡ Some (s, rest)
@@ -24,7 +26,8 @@ string_again (c ∷ s) rest all =
     by false q plain again = let n = or_parts (c == 34) (c == 92) q in rw (n.0, n.1, plain, again) refl
 
 -- what with_byte gives
-pub byte_given : (c : ℕ) (r : Option (List ℕ × List ℕ)) (x : List ℕ × List ℕ) → with_byte c r ≡ Some x → (y : List ℕ × List ℕ) × (r ≡ Some y) × (x ≡ (c ∷ y.0, y.1))
+pub byte_given : (c : ℕ) (r : Option (List ℕ × List ℕ)) (x : List ℕ × List ℕ) → with_byte c r ≡ Some x
+    → (y : List ℕ × List ℕ) × (r ≡ Some y) × (x ≡ (c ∷ y.0, y.1))
 byte_given c None x e = absurd cc
 byte_given c (Some y) x e = (y, refl, sym (some_is (c ∷ y.0, y.1) x e))
 
@@ -51,7 +54,8 @@ string_takes true (c ∷ t) x e =
     let r = string_takes false t b.0 b.1 in
     let one : in_string c ≡ 92 ∷ c ∷ [] = rw g.0 refl in
     subst (TakesString true (c ∷ t)) (sym b.2) (record {
-      parts = ap (λ (u : List ℕ). 92 ∷ c ∷ u) r.parts ∙ sym (ap (λ (u : List ℕ). u ++ 34 ∷ b.0.1) (flat_map-cons in_string c b.0.0 ∙ ap (λ (u : List ℕ). u ++ flat_map in_string b.0.0) one));
+      parts = ap (λ (u : List ℕ). 92 ∷ c ∷ u) r.parts
+          ∙ sym (ap (λ (u : List ℕ). u ++ 34 ∷ b.0.1) (flat_map-cons in_string c b.0.0 ∙ ap (λ (u : List ℕ). u ++ flat_map in_string b.0.0) one));
       all = all_more is_string_byte c b.0.0 (quoted_plain c g.0) r.all;
     })
 string_takes false (c ∷ t) x e =
@@ -70,7 +74,8 @@ string_takes false (c ∷ t) x e =
             let r = string_takes false t b.0 b.1 in
             let one : in_string c ≡ c ∷ [] = rw (p.0, q.0) refl in
             subst (TakesString false (c ∷ t)) (sym b.2) (record {
-              parts = ap (λ (u : List ℕ). c ∷ u) r.parts ∙ sym (ap (λ (u : List ℕ). u ++ 34 ∷ b.0.1) (flat_map-cons in_string c b.0.0 ∙ ap (λ (u : List ℕ). u ++ flat_map in_string b.0.0) one));
+              parts = ap (λ (u : List ℕ). c ∷ u) r.parts
+                  ∙ sym (ap (λ (u : List ℕ). u ++ 34 ∷ b.0.1) (flat_map-cons in_string c b.0.0 ∙ ap (λ (u : List ℕ). u ++ flat_map in_string b.0.0) one));
               all = all_more is_string_byte c b.0.0 g.0 r.all;
             })
       ]

@@ -31,7 +31,8 @@ item_of_takes t v fits e =
     let g = given (length (behind is_space a.0.1) == 0) (Some a.0.0) v a.2 in
     let i = item_takes left a.0 (rest_bytes (replicate (prefix_len is_space t) 32) left (subst IsBytes s fits)) a.1 in
     let nothing : behind is_space a.0.1 ≡ [] = nil_from_length (behind is_space a.0.1) (eqb-true _ _ g.0) in
-    let tail : a.0.1 ≡ replicate (prefix_len is_space a.0.1) 32 = spaced a.0.1 ∙ ap (λ (u : List ℕ). replicate (prefix_len is_space a.0.1) 32 ++ u) nothing ∙ append-nil (replicate (prefix_len is_space a.0.1) 32) in
+    let tail : a.0.1 ≡ replicate (prefix_len is_space a.0.1) 32 = spaced a.0.1 ∙ ap (λ (u : List ℕ). replicate (prefix_len is_space a.0.1) 32 ++ u) nothing
+    ∙ append-nil (replicate (prefix_len is_space a.0.1) 32) in
     subst (IsItemText t) (some_is a.0.0 v g.1) (record {
       before = prefix_len is_space t;
       after = prefix_len is_space a.0.1;
@@ -44,11 +45,16 @@ pub item_of_again : (t : List ℕ) (v : Item) → IsItemText t v → item_of t �
 unfolding item_of
 item_of_again t v i =
     let tail : List ℕ = replicate i.after 32 in
-    let stop : stops is_space (i.body ++ tail) ≡ true = opens_stops is_space (i.body ++ tail) (opens_to is_plain (λ c. not (is_space c)) (i.body ++ tail) plain_no_space (opens_more is_plain i.body tail (item_opens i.body v i.item))) in
-    let left : behind is_space (replicate i.before 32 ++ (i.body ++ tail)) ≡ i.body ++ tail = behind_again is_space (replicate i.before 32) (i.body ++ tail) (are_spaces i.before) stop in
-    let read : item_at (behind is_space t) ≡ Some (v, tail) = ap (λ (u : List ℕ). item_at (behind is_space u)) i.is ∙ ap item_at left ∙ item_again i.body tail v i.item (spaces_close i.after) in
+    let stop : stops is_space (i.body ++ tail)
+    ≡ true = opens_stops is_space (i.body ++ tail)
+    (opens_to is_plain (λ c. not (is_space c)) (i.body ++ tail) plain_no_space (opens_more is_plain i.body tail (item_opens i.body v i.item))) in
+    let left : behind is_space (replicate i.before 32 ++ (i.body ++ tail)) ≡ i.body
+    ++ tail = behind_again is_space (replicate i.before 32) (i.body ++ tail) (are_spaces i.before) stop in
+    let read : item_at (behind is_space t) ≡ Some (v, tail) = ap (λ (u : List ℕ). item_at (behind is_space u)) i.is ∙ ap item_at left
+    ∙ item_again i.body tail v i.item (spaces_close i.after) in
     let none : behind is_space tail ≡ [] = ap (behind is_space) (sym (append-nil tail)) ∙ behind_again is_space tail [] (are_spaces i.after) refl in
-    ap (λ (o : Option (Item × List ℕ)). o >>= λ x. cond (length (behind is_space x.1) == 0) (Some x.0) None) read ∙ ap (λ (u : List ℕ). cond (length u == 0) (Some v) None) none
+    ap (λ (o : Option (Item × List ℕ)). o >>= λ x. cond (length (behind is_space x.1) == 0) (Some x.0) None) read
+    ∙ ap (λ (u : List ℕ). cond (length u == 0) (Some v) None) none
 
 -- ---- members
 
@@ -71,10 +77,22 @@ module _ {H M : Type 0} (read : List ℕ → Option (M × List ℕ)) (add : H �
       elim (chosen (length u == 0) (Some none) (members_from read add (length u) none u) (Some h) e) [
         | inl p ↦
             let nothing : u ≡ [] = nil_from_length u (eqb-true (length u) 0 p.0) in
-            record { members = []; are = record { before = b; body = []; after = []; is = s ∙ ap (λ (r : List ℕ). replicate b 32 ++ r) nothing; members = refl; end = refl }; value = sym (some_is none h p.1) }
+            record {
+              members = [];
+              are = record
+                  { before = b; body = []; after = []; is = s ∙ ap (λ (r : List ℕ). replicate b 32 ++ r) nothing; members = refl; end = refl };
+              value = sym
+                  (some_is none h p.1);
+            }
         | inr p ↦
             let m = members_take read add Is takes (length u) none u h (rest_bytes (replicate b 32) u (subst IsBytes s fits)) p.1 in
-            record { members = m.head ∷ m.others; are = record { before = b; body = m.body; after = m.tail; is = s ∙ ap (λ (r : List ℕ). replicate b 32 ++ r) m.parts; members = m.are; end = m.ows }; value = m.value }
+            record {
+              members = m.head ∷ m.others;
+              are = record
+                  { before = b; body = m.body; after = m.tail; is = s ∙ ap (λ (r : List ℕ). replicate b 32 ++ r) m.parts; members = m.are; end = m.ows };
+              value =
+                  m.value;
+            }
       ]
 
   members_of_again : ((text rest : List ℕ) (m : M) → Is text m → first_is is_close rest ≡ true → read (text ++ rest) ≡ Some (m, rest))
@@ -82,22 +100,29 @@ module _ {H M : Type 0} (read : List ℕ → Option (M × List ℕ)) (add : H �
       → (none : H) (t : List ℕ) (ms : List M) → AreMembersText Is t ms → members_of read add none (behind is_space t) ≡ Some (fold add none ms)
   unfolding members_of
   members_of_again again opens none t [] i =
-      let whole : t ≡ replicate i.before 32 = i.is ∙ ap (λ (u : List ℕ). replicate i.before 32 ++ (u ++ i.after)) i.members ∙ ap (λ (u : List ℕ). replicate i.before 32 ++ u) i.end ∙ append-nil (replicate i.before 32) in
-      let left : behind is_space t ≡ [] = ap (behind is_space) (whole ∙ sym (append-nil (replicate i.before 32))) ∙ behind_again is_space (replicate i.before 32) [] (are_spaces i.before) refl in
+      let whole : t ≡ replicate i.before 32 = i.is ∙ ap (λ (u : List ℕ). replicate i.before 32 ++ (u ++ i.after)) i.members
+      ∙ ap (λ (u : List ℕ). replicate i.before 32 ++ u) i.end ∙ append-nil (replicate i.before 32) in
+      let left : behind is_space t ≡ [] = ap (behind is_space) (whole ∙ sym (append-nil (replicate i.before 32)))
+      ∙ behind_again is_space (replicate i.before 32) [] (are_spaces i.before) refl in
       rw left refl
   members_of_again again opens none t (m ∷ ms) i =
       let u : List ℕ = i.body ++ i.after in
       let are = i.members in
       let o = opens are.0 m are.3 in
       let whole : u ≡ are.0 ++ (are.1 ++ i.after) = ap (λ (r : List ℕ). r ++ i.after) are.2 ∙ append_assoc are.0 are.1 i.after in
-      let start : Opens (λ c. not (is_ows c)) u = subst (Opens (λ c. not (is_ows c))) (sym whole) (opens_more (λ c. not (is_ows c)) are.0 (are.1 ++ i.after) o) in
-      let left : behind is_space t ≡ u = ap (behind is_space) i.is ∙ behind_again is_space (replicate i.before 32) u (are_spaces i.before) (opens_stops is_space u (opens_to (λ c. not (is_ows c)) (λ c. not (is_space c)) u ows_no_space start)) in
+      let start : Opens (λ c. not (is_ows c)) u = subst (Opens (λ c. not (is_ows c))) (sym whole)
+      (opens_more (λ c. not (is_ows c)) are.0 (are.1 ++ i.after) o) in
+      let left : behind is_space t ≡ u = ap (behind is_space) i.is
+      ∙ behind_again is_space (replicate i.before 32) u (are_spaces i.before)
+      (opens_stops is_space u (opens_to (λ c. not (is_ows c)) (λ c. not (is_space c)) u ows_no_space start)) in
       let long : 1 ≤ length u = opens_some (λ c. not (is_ows c)) u start in
       let some : (length u == 0) ≡ false = grind (arith, nat_tests, long) in
-      let few : length (m ∷ ms) ≤ length i.body = count_separated SeparatesMembers Is (λ text m is. opens_some (λ c. not (is_ows c)) text (opens text m is)) (m ∷ ms) i.body are in
+      let few : length (m ∷ ms) ≤ length i.body = count_separated SeparatesMembers Is (λ text m is. opens_some (λ c. not (is_ows c)) text (opens text m is))
+      (m ∷ ms) i.body are in
       let lt : length ms < length u = let sum = length-append i.body i.after in omega arith in
       ap (λ (r : List ℕ). cond (length r == 0) (Some none) (members_from read add (length r) none r)) left
-      ∙ ap (λ (b : Bool). cond b (Some none) (members_from read add (length u) none u)) some ∙ members_again read add Is again opens ms (length u) none m i.body i.after are i.end lt
+      ∙ ap (λ (b : Bool). cond b (Some none) (members_from read add (length u) none u)) some
+      ∙ members_again read add Is again opens ms (length u) none m i.body i.after are i.end lt
 
 -- members one after the other, each last
 fold_last : (held ms : List Member) → fold with_last held ms ≡ held ++ ms
@@ -122,4 +147,5 @@ dictionary_of_takes t v fits e =
 
 pub dictionary_of_again : (t : List ℕ) (v : List (List ℕ × Member)) → IsDictionaryText t v → dictionary_of t ≡ Some v
 unfolding dictionary_of
-dictionary_of_again t v i = members_of_again entry_at with_entry IsEntry entry_again entry_opens [] t i.entries i.is ∙ ap (λ (es : List (List ℕ × Member)). Some es) (sym i.value)
+dictionary_of_again t v i = members_of_again entry_at with_entry IsEntry entry_again entry_opens [] t i.entries i.is
+    ∙ ap (λ (es : List (List ℕ × Member)). Some es) (sym i.value)

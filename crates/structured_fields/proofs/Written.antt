@@ -23,14 +23,16 @@ use Rattle.structured_fields.proofs.Entries.{stays}
 
 -- ---- one more entry written
 
-pub params_more : (ps : List (List ℕ × Bare)) (i : ℕ) (name : List ℕ) (v : Bare) → slice_get ps i ≡ Some (name, v) → params_text (take (i + 1) ps) ≡ params_text (take i ps) ++ (59 ∷ name ++ value_text v)
+pub params_more : (ps : List (List ℕ × Bare)) (i : ℕ) (name : List ℕ) (v : Bare) → slice_get ps i ≡ Some (name, v)
+    → params_text (take (i + 1) ps) ≡ params_text (take i ps) ++ (59 ∷ name ++ value_text v)
 params_more [] i name v e = absurd cc
 params_more (p ∷ ps) zero name v e =
     let same : p ≡ (name, v) = cc in
     ap (λ (q : List ℕ × Bare). (59 ∷ q.0 ++ value_text q.1) ++ []) same ∙ append-nil (59 ∷ name ++ value_text v)
 params_more (p ∷ ps) (suc i) name v e =
     let k : suc i + 1 ≡ suc (i + 1) = omega arith in
-    rw k (ap (λ (t : List ℕ). (59 ∷ p.0 ++ value_text p.1) ++ t) (params_more ps i name v e) ∙ sym (append_assoc (59 ∷ p.0 ++ value_text p.1) (params_text (take i ps)) (59 ∷ name ++ value_text v)))
+    rw k (ap (λ (t : List ℕ). (59 ∷ p.0 ++ value_text p.1) ++ t) (params_more ps i name v e)
+    ∙ sym (append_assoc (59 ∷ p.0 ++ value_text p.1) (params_text (take i ps)) (59 ∷ name ++ value_text v)))
 
 -- ---- numbers
 
@@ -38,14 +40,29 @@ own : IsNumeralModel (λ ds. list_all is_digit ds ≡ true) number
 own = numerals_by_fold _ (search rules) number_after (search rules)
 
 number_digits : (most n : ℕ) → 0 < most → n < 10 ^ most → n < 2 ^ 64 → AreDigits 1 most (decimal n)
-number_digits most n pos_most h wide = record { all = digits_decimal own n wide; least_len = decimal_nonempty n wide; most_len = length-decimal-le most n pos_most h wide }
+number_digits most n pos_most h wide = record
+    { all = digits_decimal own n wide; least_len = decimal_nonempty n wide; most_len = length-decimal-le most n pos_most h wide }
 
 number_back : (n : ℕ) → n < 2 ^ 64 → number (decimal n) ≡ n
 number_back n h = digits_value-decimal own n h
 
 integer_is : (n : ℤ) → IsInRange (Integer n) → IsInteger (integer_text n) n
-integer_is (pos n) h = record { negative = false; digits = decimal n; fits = number_digits 15 n (omega arith) h (omega arith); is = refl; value = ap pos (sym (number_back n (omega arith))) }
-integer_is (negsuc n) h = record { negative = true; digits = decimal (suc n); fits = number_digits 15 (suc n) (omega arith) h (omega arith); is = refl; value = ap (λ (m : ℕ). neg_ℤ (pos m)) (sym (number_back (suc n) (omega arith))) }
+integer_is (pos n) h = record {
+  negative = false;
+  digits = decimal n;
+  fits = number_digits 15 n (omega arith) h (omega arith);
+  is = refl;
+  value = ap pos
+      (sym (number_back n (omega arith)));
+}
+integer_is (negsuc n) h = record {
+  negative = true;
+  digits = decimal (suc n);
+  fits = number_digits 15 (suc n) (omega arith) h (omega arith);
+  is = refl;
+  value = ap (λ (m : ℕ). neg_ℤ (pos m))
+      (sym (number_back (suc n) (omega arith)));
+}
 
 digit_is : (a : ℕ) → a < 10 → is_digit (48 + a) ≡ true
 digit_is a h = grind (arith, nat_tests)
@@ -64,9 +81,24 @@ part_is m h = by (m % 100 == 0) (m % 10 == 0) refl refl
         record { fits = record { all = rw (digit_is (m / 100) (omega arith)) refl; least_len = omega arith; most_len = omega arith }; value = omega arith }
     by false true p q =
         let k : m % 10 ≡ 0 = eqb-true (m % 10) 0 q in
-        record { fits = record { all = rw (digit_is (m / 100) (omega arith), digit_is (m / 10 % 10) (omega arith)) refl; least_len = omega arith; most_len = omega arith }; value = omega arith }
+        record {
+          fits = record {
+            all = rw (digit_is (m / 100) (omega arith), digit_is (m / 10 % 10) (omega arith)) refl;
+            least_len = omega arith;
+            most_len =
+                omega arith;
+          };
+          value = omega arith;
+        }
     by false false p q =
-        record { fits = record { all = rw (digit_is (m / 100) (omega arith), digit_is (m / 10 % 10) (omega arith), digit_is (m % 10) (omega arith)) refl; least_len = omega arith; most_len = omega arith }; value = omega arith }
+        record {
+          fits = record {
+            all = rw (digit_is (m / 100) (omega arith), digit_is (m / 10 % 10) (omega arith), digit_is (m % 10) (omega arith)) refl;
+            least_len = omega arith;
+            most_len = omega arith;
+          };
+          value = omega arith;
+        }
 
 -- a number of thousandths, whichever its sign
 thousandths_are : (negative : Bool) (n : ℕ) → n < 10 ^ 15 → IsDecimal (sign negative ++ thousandths_text n) (signed negative n)
@@ -74,7 +106,8 @@ thousandths_are negative n h =
     let p = part_is (n % 1000) (omega arith) in
     let whole : number (decimal (n / 1000)) ≡ n / 1000 = number_back (n / 1000) (omega arith) in
     let low : number (part_text (n % 1000)) * 10 ^ (3 - length (part_text (n % 1000))) ≡ n % 1000 = p.value in
-    let sum : number (decimal (n / 1000)) * 1000 + number (part_text (n % 1000)) * 10 ^ (3 - length (part_text (n % 1000))) ≡ n = rw (whole, low) (omega arith) in
+    let sum : number (decimal (n / 1000)) * 1000 + number (part_text (n % 1000)) * 10 ^ (3 - length (part_text (n % 1000)))
+    ≡ n = rw (whole, low) (omega arith) in
     record {
       negative = negative;
       whole = decimal (n / 1000);
@@ -111,13 +144,28 @@ value_is (Display s) h = (refl, bare_is (Display s) h)
 
 parameters_listed : (ps : List (List ℕ × Bare)) → AreInRange ps → ListsParameters (params_text ps) ps
 parameters_listed [] h = refl
-parameters_listed (p ∷ ps) h = (59 ∷ p.0 ++ value_text p.1, params_text ps, refl, record { spaces = 0; rest = value_text p.1; key = h.0.0; is = refl; value = value_is p.1 h.0.1 }, parameters_listed ps h.1)
+parameters_listed (p ∷ ps) h = (
+  59 ∷ p.0
+      ++ value_text p.1,
+  params_text ps,
+  refl,
+  record { spaces = 0; rest = value_text p.1; key = h.0.0; is = refl; value = value_is p.1 h.0.1 },
+  parameters_listed
+      ps h.1,
+)
 
 params_are : (ps : List (List ℕ × Bare)) → AreInRange ps → IsDistinct ps → AreParams (params_text ps) ps
 params_are ps h d = (ps, parameters_listed ps h, sym (stays [] ps d))
 
 item_is : (v : Item) → IsItemInRange v → IsItem (item_text v) v
-item_is v h = record { bare_text = bare_text v.bare; params_text = params_text v.params; is = refl; bare = bare_is v.bare h.bare; params = params_are v.params h.params h.distinct }
+item_is v h = record {
+  bare_text = bare_text v.bare;
+  params_text = params_text v.params;
+  is = refl;
+  bare = bare_is v.bare h.bare;
+  params = params_are v.params
+      h.params h.distinct;
+}
 
 -- ---- members
 
@@ -139,14 +187,18 @@ separated_more between text (k ∷ ms) zero m e = let same : k ≡ m = cc in ap 
 separated_more {M} between text (k ∷ ms) (suc i) m e =
     let one : suc i + 1 ≡ suc (i + 1) = omega arith in
     let test : (suc i == 0) ≡ false = grind (arith, nat_tests) in
-    rw (one, test) (ap (λ (t : List ℕ). text k ++ t) (more ms i e) ∙ sym (append_assoc (text k) (further_text between text (take i ms)) (between ++ text m)) ∙ sym (append_assoc (text k ++ further_text between text (take i ms)) between (text m)))
+    rw (one, test) (ap (λ (t : List ℕ). text k ++ t) (more ms i e) ∙ sym (append_assoc (text k) (further_text between text (take i ms)) (between ++ text m))
+    ∙ sym (append_assoc (text k ++ further_text between text (take i ms)) between (text m)))
   where
-    more : (ms : List M) (i : ℕ) → slice_get ms i ≡ Some m → further_text between text (take (i + 1) ms) ≡ further_text between text (take i ms) ++ (between ++ text m)
+    more : (ms : List M) (i : ℕ) → slice_get ms i ≡ Some m
+        → further_text between text (take (i + 1) ms) ≡ further_text between text (take i ms) ++ (between ++ text m)
     more [] i e = absurd cc
     more (k ∷ ms) zero e = let same : k ≡ m = cc in ap (λ (n : M). between ++ (text n ++ [])) same ∙ ap (λ (t : List ℕ). between ++ t) (append-nil (text m))
     more (k ∷ ms) (suc i) e =
         let one : suc i + 1 ≡ suc (i + 1) = omega arith in
-        rw one (ap (λ (t : List ℕ). between ++ (text k ++ t)) (more ms i e) ∙ sym (append_assoc between (text k ++ further_text between text (take i ms)) (between ++ text m) ∙ ap (λ (t : List ℕ). between ++ t) (append_assoc (text k) (further_text between text (take i ms)) (between ++ text m))))
+        rw one (ap (λ (t : List ℕ). between ++ (text k ++ t)) (more ms i e)
+        ∙ sym (append_assoc between (text k ++ further_text between text (take i ms)) (between ++ text m)
+        ∙ ap (λ (t : List ℕ). between ++ t) (append_assoc (text k) (further_text between text (take i ms)) (between ++ text m))))
 
 pub inner_is : (v : InnerList) → IsInnerInRange v → IsInner (inner_text v) v
 inner_is v h = record {
@@ -169,10 +221,17 @@ comma_is = record { before = []; after = 32 ∷ []; is = refl; before_ows = refl
 abbrev single : Bare → List (List ℕ × Bare) → Member
 single v ps = Single (record { bare = v; params = ps })
 
-given_is : (v : Bare) (ps : List (List ℕ × Bare)) → IsItemInRange (record { bare = v; params = ps }) → value_text v ≡ 61 ∷ bare_text v → IsGiven (single_text v ps) (single v ps)
-given_is v ps h e = record { member_text = bare_text v ++ params_text ps; is = ap (λ (t : List ℕ). t ++ params_text ps) e; member = item_is (record { bare = v; params = ps }) h }
+given_is : (v : Bare) (ps : List (List ℕ × Bare)) → IsItemInRange (record { bare = v; params = ps }) → value_text v ≡ 61 ∷ bare_text v
+    → IsGiven (single_text v ps) (single v ps)
+given_is v ps h e = record {
+  member_text = bare_text v
+      ++ params_text ps;
+  is = ap (λ (t : List ℕ). t ++ params_text ps) e;
+  member = item_is (record { bare = v; params = ps }) h;
+}
 
-single_is : (v : Bare) (ps : List (List ℕ × Bare)) → IsItemInRange (record { bare = v; params = ps }) → IsGiven (single_text v ps) (single v ps) ⊎ IsBareTrue (single_text v ps) (single v ps)
+single_is : (v : Bare) (ps : List (List ℕ × Bare)) → IsItemInRange (record { bare = v; params = ps })
+    → IsGiven (single_text v ps) (single v ps) ⊎ IsBareTrue (single_text v ps) (single v ps)
 single_is (Integer n) ps h = inl (given_is (Integer n) ps h refl)
 single_is (Decimal n) ps h = inl (given_is (Decimal n) ps h refl)
 single_is (Str s) ps h = inl (given_is (Str s) ps h refl)
@@ -185,7 +244,8 @@ single_is (Display s) ps h = inl (given_is (Display s) ps h refl)
 
 entry_is : (e : List ℕ × Member) → (is_key e.0 ≡ true) × IsMemberInRange e.1 → IsEntry (entry_text e) e
 entry_is (name, Single v) h = record { rest = single_text v.bare v.params; key = h.0; is = refl; member = single_is v.bare v.params h.1 }
-entry_is (name, Inner v) h = record { rest = 61 ∷ inner_text v; key = h.0; is = refl; member = inl (record { member_text = inner_text v; is = refl; member = inner_is v h.1 }) }
+entry_is (name, Inner v) h = record
+    { rest = 61 ∷ inner_text v; key = h.0; is = refl; member = inl (record { member_text = inner_text v; is = refl; member = inner_is v h.1 }) }
 
 -- ---- whole texts
 
@@ -211,4 +271,9 @@ pub list_text_is : (v : List Member) → IsListInRange v → IsListText (list_te
 list_text_is v h = members_are IsMember IsMemberInRange member_text member_is v h
 
 pub dictionary_text_is : (v : List (List ℕ × Member)) → IsDictionaryInRange v → IsDictionaryText (dictionary_text v) v
-dictionary_text_is v h = record { entries = v; is = members_are IsEntry (λ e. (is_key e.0 ≡ true) × IsMemberInRange e.1) entry_text entry_is v h.entries; value = sym (stays [] v h.distinct) }
+dictionary_text_is v h = record {
+  entries = v;
+  is = members_are IsEntry (λ e. (is_key e.0 ≡ true) × IsMemberInRange e.1) entry_text entry_is v h.entries;
+  value = sym
+      (stays [] v h.distinct);
+}

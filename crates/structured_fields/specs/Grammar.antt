@@ -1,5 +1,6 @@
 -- The grammar of structured fields (RFC 9651), one definition for each production, as relations between whole texts and values.
--- Bytes stand by their numbers: 9 HTAB, 32 SP, 34 `"`, 37 `%`, 40 `(`, 41 `)`, 44 `,`, 45 `-`, 46 `.`, 48 `0`, 49 `1`, 58 `:`, 59 `;`, 61 `=`, 63 `?`, 64 `@`, 92 `\`.
+-- Bytes stand by their numbers: 9 HTAB, 32 SP, 34 `"`, 37 `%`, 40 `(`, 41 `)`, 44 `,`, 45 `-`, 46 `.`, 48 `0`, 49 `1`, 58 `:`, 59 `;`, 61 `=`, 63 `?`, 64 `@`,
+-- 92 `\`.
 use Rattle.std.specs.Prelude.{◌≡◌, ℕ, suc, ◌+◌, ◌-◌, ◌*◌, ◌/◌, ◌%◌, ◌^◌, ◌≤◌, ◌⊎◌, Bool, true, if◌then◌else◌, List, [], ◌∷◌, ◌++◌, length, replicate, fold, ℤ, IsUtf8}
 use Rattle.std.specs.List.{flat_map, list_all}
 use Rattle.std.specs.Char.{digit_char}

@@ -1,4 +1,5 @@
--- Notes on which names are there: a tree in cells, five of each node. Four have the numbers of its children, one a number for the name that ends there. In a cell 0 is none.
+-- Notes on which names are there: a tree in cells, five of each node. Four have the numbers of its children, one a number for the name that ends there. In a
+-- cell 0 is none.
 use Rattle.std.specs.Prelude.{◌≡◌, ℕ, ◌+◌, ◌*◌, ◌/◌, ◌%◌, ◌==◌, if◌then◌else◌, List, [], ◌∷◌, slice_index, Option, Some, None, option_and_then}
 
 abbrev pub positive : ℕ → Option ℕ

@@ -71,7 +71,7 @@ fn bytes_of(alloc: Global, text: &[u8]) -> Result<Bytes, FieldFault>
     }
 }
 
-#[tactic(auto, using(crate::proofs::Displays::valid_utf8, crate::proofs::Displays::invalid_utf8))]
+#[tactic(auto, using(crate::proofs::Displays::valid_utf8))]
 fn is_utf8(bytes: &[u8]) -> bool
     ensures { result ≡ is_utf8 bytes.now }
 {

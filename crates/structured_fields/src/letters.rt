@@ -1,5 +1,5 @@
 //! The classes of bytes, and how far they run at the front of a text.
-ghost use Rattle.std.specs.Prelude.{◌≡◌, ◌≤◌, Bool, true, false, length, take, drop, reverse, MatchOption};
+ghost use Rattle.std.specs.Prelude.{◌≡◌, ◌<◌, ◌≤◌, ℕ, Bool, true, false, length, take, drop, reverse, MatchOption};
 ghost use Rattle.std.specs.List.{prefix_len, list_all};
 ghost use Rattle.structured_fields.specs.Letters.{is_space, is_ows, is_digit, is_key_start, is_key_byte, is_token_start, is_token_byte, is_string_byte, is_quoted, is_unquoted, is_plain, is_shown};
 ghost use Rattle.structured_fields.specs.Reading.{front, behind, begins, is_not_colon, is_not_quote, trimmed};
@@ -58,53 +58,103 @@ pub(crate) fn is_shown(c: u8) -> bool
     is_string_byte(c) && c != b'"' && c != b'%'
 }
 
+fn is_unquoted(c: u8) -> bool
+    ensures { result ≡ is_unquoted c }
+{
+    !is_quoted(c)
+}
+
+fn is_not_colon(c: u8) -> bool
+    ensures { result ≡ is_not_colon c }
+{
+    c != b':'
+}
+
+fn is_not_quote(c: u8) -> bool
+    ensures { result ≡ is_not_quote c }
+{
+    c != b'"'
+}
+
+fn is_digit(c: u8) -> bool
+    ensures { result ≡ is_digit c }
+{
+    c.is_ascii_digit()
+}
+
+fn is_space(c: u8) -> bool
+    ensures { result ≡ is_space c }
+{
+    c == b' '
+}
+
+fn is_ows(c: u8) -> bool
+    ensures { result ≡ is_ows c }
+{
+    c == b' ' || c == b'\t'
+}
+
+// How far the bytes at the front are of a class.
+fn run<F: Fn(u8) -> bool>(is_of_class: F, bytes: &[u8]) -> usize
+    requires { F.IsAlwaysCallable is_of_class }
+    ensures len { (test : ℕ → Bool) → ((c : ℕ) (b : Bool) → c < 256 → F.post is_of_class c b → b ≡ test c) → result ≡ prefix_len test bytes.now }
+    ensures within { result ≤ length bytes.now }
+{
+    for (i, c) in bytes.iter().enumerate() {
+        if !is_of_class(*c) {
+            return i;
+        }
+    }
+    bytes.len()
+}
+
 pub(crate) fn unquoted_run(bytes: &[u8]) -> usize
     ensures len { result ≡ prefix_len is_unquoted bytes.now }
     ensures within { result ≤ length bytes.now }
 {
-    bytes.iter().take_while(|b| !is_quoted(**b)).count()
+    run(is_unquoted, bytes)
 }
 
 pub fn plain_run(bytes: &[u8]) -> usize
     ensures len { result ≡ prefix_len is_plain bytes.now }
     ensures within { result ≤ length bytes.now }
 {
-    bytes.iter().take_while(|b| is_plain(**b)).count()
+    run(is_plain, bytes)
 }
 
 pub fn key_run(bytes: &[u8]) -> usize
     ensures len { result ≡ prefix_len is_key_byte bytes.now }
     ensures within { result ≤ length bytes.now }
 {
-    bytes.iter().take_while(|b| is_key_byte(**b)).count()
+    run(is_key_byte, bytes)
 }
 
 pub fn token_run(bytes: &[u8]) -> usize
     ensures len { result ≡ prefix_len is_token_byte bytes.now }
     ensures within { result ≤ length bytes.now }
 {
-    bytes.iter().take_while(|b| is_token_byte(**b)).count()
+    run(is_token_byte, bytes)
 }
 
 pub(crate) fn colon_run(bytes: &[u8]) -> usize
     ensures len { result ≡ prefix_len is_not_colon bytes.now }
     ensures within { result ≤ length bytes.now }
 {
-    bytes.iter().take_while(|b| **b != b':').count()
+    run(is_not_colon, bytes)
 }
 
 pub(crate) fn not_quote_run(bytes: &[u8]) -> usize
     ensures len { result ≡ prefix_len is_not_quote bytes.now }
     ensures within { result ≤ length bytes.now }
 {
-    bytes.iter().take_while(|b| **b != b'"').count()
+    run(is_not_quote, bytes)
 }
 
 fn digit_run(bytes: &[u8]) -> usize
     ensures len { result ≡ prefix_len is_digit bytes.now }
     ensures within { result ≤ length bytes.now }
 {
-    bytes.iter().take_while(|b| b.is_ascii_digit()).count()
+    run(is_digit, bytes)
 }
 
 // The digits at the front, and the rest.
@@ -122,7 +172,7 @@ fn space_run(bytes: &[u8]) -> usize
     ensures len { result ≡ prefix_len is_space bytes.now }
     ensures within { result ≤ length bytes.now }
 {
-    bytes.iter().take_while(|b| **b == b' ').count()
+    run(is_space, bytes)
 }
 
 pub fn without_spaces(bytes: &[u8]) -> &[u8]
@@ -136,10 +186,7 @@ fn ows_run(bytes: &[u8]) -> usize
     ensures len { result ≡ prefix_len is_ows bytes.now }
     ensures within { result ≤ length bytes.now }
 {
-    bytes
-        .iter()
-        .take_while(|b| **b == b' ' || **b == b'\t')
-        .count()
+    run(is_ows, bytes)
 }
 
 pub(crate) fn without_ows(bytes: &[u8]) -> &[u8]
@@ -154,11 +201,7 @@ fn ows_run_back(bytes: &[u8]) -> usize
     ensures len { result ≡ prefix_len is_ows (reverse bytes.now) }
     ensures within { result ≤ length bytes.now }
 {
-    bytes
-        .iter()
-        .rev()
-        .take_while(|b| **b == b' ' || **b == b'\t')
-        .count()
+    bytes.iter().rev().take_while(|b| is_ows(**b)).count()
 }
 
 #[tactic(auto, using(crate::proofs::Fronts::dropped_back))]

@@ -1,11 +1,15 @@
 //! Structured fields of HTTP (RFC 9651): items, lists and dictionaries, read from texts and written in their canonical form.
 //!
-//! The contracts speak of a relation between whole texts and values, with one definition for each production of the RFC (`specs/Grammar.antt`), and of one canonical text for each value in range (`specs/Canonical.antt`).
-//! A reader answers v exactly where the text is a text of v, and `NotInGrammar` exactly where it is a text of no value; a text has one value at most. A writer gives the canonical text of a value in range, which every reader's value is, and reading it gives that value again (`field_laws`).
+//! The contracts speak of a relation between whole texts and values, with one definition for each production of the RFC (`specs/Grammar.antt`), and of one
+//! canonical text for each value in range (`specs/Canonical.antt`).
+//! A reader answers v exactly where the text is a text of v, and `NotInGrammar` exactly where it is a text of no value; a text has one value at most. A writer
+//! gives the canonical text of a value in range, which every reader's value is, and reading it gives that value again (`field_laws`).
 //! `item_of`, `list_of` and `dictionary_of` (`specs/Reading.antt`) say the same as functions, for contracts that compute with what a text holds.
 //!
-//! Two rules are this project's own: a byte sequence may stand without its padding, and one whose unused last bits aren't zero is refused. Want of memory is `OutOfMemory` or `Mem`, and changes nothing.
-//! Reading and writing take time in proportion to the text. Up to eight names are compared one by one; of more, a tree of four steps for each byte of a name tells where it stands, so that no choice of names makes reading slow.
+//! Two rules are this project's own: a byte sequence may stand without its padding, and one whose unused last bits aren't zero is refused. Want of memory is
+//! `OutOfMemory` or `Mem`, and changes nothing.
+//! Reading and writing take time in proportion to the text. Up to eight names are compared one by one; of more, a tree of four steps for each byte of a name
+//! tells where it stands, so that no choice of names makes reading slow.
 #![tactic(auto)]
 
 mod bare;

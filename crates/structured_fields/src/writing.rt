@@ -264,9 +264,7 @@ pub fn write_item(alloc: Global, v: &Item) -> Result<Bytes, Mem>
     ensures canonical { IfOk result (λ b. b ≡ item_text v.now) }
     ensures text { IfOk result (λ b. IsItemText b v.now) }
 {
-    let mut out = Bytes::new(alloc);
-    put_item(alloc, &mut out, v)?;
-    Ok(out)
+    append_item(alloc, Bytes::new(alloc), v)
 }
 
 /// The canonical text of an inner list (RFC 9651, section 4.1.1.1).
@@ -275,9 +273,7 @@ pub fn write_inner(alloc: Global, v: &InnerList) -> Result<Bytes, Mem>
     ensures canonical { IfOk result (λ b. b ≡ inner_text v.now) }
     ensures text { IfOk result (λ b. IsInner b v.now) }
 {
-    let mut out = Bytes::new(alloc);
-    put_inner(alloc, &mut out, v)?;
-    Ok(out)
+    append_inner(alloc, Bytes::new(alloc), v)
 }
 
 /// The canonical text of a list (RFC 9651, section 4.1.1). That of an empty one is empty.

@@ -32,7 +32,8 @@ past_pending rules [] legal = λ t r h e. absurd h
 past_pending rules (e ∷ past) legal =
     let why = chosen rules past e legal.0 in
     subst (λ (ns : List Note). PendingRetires (reverse ns ++ trail_of past)) (sym why.notes)
-    (pending_after (supply_at past e.moment e.draw) (trail_of past) e.call why.action (past_sound rules past legal.1) (past_pending rules past legal.1) why.cause)
+    (pending_after (supply_at past e.moment e.draw) (trail_of past) e.call why.action (past_sound rules past legal.1) (past_pending rules past legal.1)
+    why.cause)
 
 -- a token of a grant that goes on is retired, or its grant is approved
 retired_or_approved : (trail : List Note) (now : ℕ) (t : TokenNote) → PendingRetires trail → HasNote trail (Issued t) → is_managed trail now t ≡ true
@@ -50,7 +51,8 @@ retired_or_approved trail now t pending issued managed = by (grant_state trail t
     by : (s : GrantState) → grant_state trail t.grant now ≡ s → (list_any (is_retirement t.serial) trail || is_approved s) ≡ true
     by IsApproved e = approved (list_any (is_retirement t.serial) trail)
     by (IsPending r) e = rw (pending t r issued (round_change trail t.grant now r e)) refl
-    by IsFinalized e = absurd (ended (not (list_any (is_replacement t.serial) trail)) (subst (λ (s : GrantState). (not (list_any (is_replacement t.serial) trail) && not (is_finalized s)) ≡ true) e managed))
+    by IsFinalized e = absurd (ended (not (list_any (is_replacement t.serial) trail))
+        (subst (λ (s : GrantState). (not (list_any (is_replacement t.serial) trail) && not (is_finalized s)) ≡ true) e managed))
 
 -- the row is that of a token which can be managed
 abbrev IsRowOf : List Note → ℕ → List Note → TokenRow → Type 0
@@ -79,5 +81,6 @@ pub of_approved : (trail : List Note) (now : ℕ) → PendingRetires trail → H
 of_approved trail now pending whole = list_all-from_AllPass (is_of_approved (grant_rows trail now)) (token_rows trail now) (λ k d inside.
     let row = get_or (token_rows trail now) k d in
     let f = row_managed trail now trail row (item-reverse (filter_map (token_row_in trail now) trail) row (item_in (token_rows trail now) k d inside)) in
-    let same : is_approved_grant f.0.grant (grant_rows trail now) ≡ is_approved (grant_state trail f.0.grant now) = approved_is trail now f.0.grant (whole f.0 f.1) in
+    let same : is_approved_grant f.0.grant (grant_rows trail now)
+    ≡ is_approved (grant_state trail f.0.grant now) = approved_is trail now f.0.grant (whole f.0 f.1) in
     subst (λ (r : TokenRow). is_of_approved (grant_rows trail now) r ≡ true) (sym f.3) (rw same (retired_or_approved trail now f.0 pending f.1 f.2)))

@@ -28,12 +28,14 @@ row_whole test now row = by row.round refl
     by None e = refl
     by (Some round) e = at (is_open_round now round) (test (round_of row.number round)) refl
       where
-        at : (a b : Bool) → test (round_of row.number round) ≡ b → passing test row (some_if a (round_of row.number round)) ≡ whole (passing test row (some_if a (round_of row.number round)))
+        at : (a b : Bool) → test (round_of row.number round) ≡ b
+            → passing test row (some_if a (round_of row.number round)) ≡ whole (passing test row (some_if a (round_of row.number round)))
         at false b f = refl
         at true false f = rw f refl
         at true true f = rw (f, e) refl
 
-rows_whole : (test : RoundNote → Bool) (now : ℕ) (rows : List GrantRow) → first_of (interaction_where test now) rows ≡ whole (first_of (interaction_where test now) rows)
+rows_whole : (test : RoundNote → Bool) (now : ℕ) (rows : List GrantRow)
+    → first_of (interaction_where test now) rows ≡ whole (first_of (interaction_where test now) rows)
 rows_whole test now [] = refl
 rows_whole test now (row ∷ rows) = at (interaction_where test now row) (row_whole test now row) (rows_whole test now rows)
   where
@@ -43,6 +45,7 @@ rows_whole test now (row ∷ rows) = at (interaction_where test now row) (row_wh
     at (Some i) e rest = e
 
 -- what was found, from the row that a search gave
-pub found_from : (test : RoundNote → Bool) (now : ℕ) (rows : List GrantRow) (row : Option GrantRow) → row ≡ option_map (λ (i : Interaction). i.row) (newest (interaction_where test now) rows)
+pub found_from : (test : RoundNote → Bool) (now : ℕ) (rows : List GrantRow) (row : Option GrantRow)
+    → row ≡ option_map (λ (i : Interaction). i.row) (newest (interaction_where test now) rows)
     → option_and_then interaction_of row ≡ newest (interaction_where test now) rows
 found_from test now rows row is = ap (option_and_then interaction_of) is ∙ sym (rows_whole test now (reverse rows))

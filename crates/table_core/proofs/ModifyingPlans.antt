@@ -42,14 +42,26 @@ one_serial rows are a b ha hb same = one_key (λ (row : TokenRow). row.serial) r
 abbrev old_tokens : Entering → GrantRow → List TokenNote
 old_tokens entering row = map token_of (rows_of_grant row.number (tables entering).tokens)
 
-pub granted_anew : (entering : Entering) (row : GrantRow) (request : GrantRequest) (count : ℕ) (reply : Reply) (terms : TermsNote) (consent : List Right) (door : Text) (boxes : List (Box TokenRow))
-    → AreTokenRows (tables entering).tokens → count ≡ length request.asks → length request.asks ≤ 8 → entering.supply.first < 2 ^ 63 → terms ≡ terms_for (opening_of row) request → consent ≡ row.consent
+pub granted_anew : (entering : Entering) (row : GrantRow) (request : GrantRequest) (count : ℕ) (reply : Reply) (terms : TermsNote) (consent : List Right)
+    (door : Text) (boxes : List (Box TokenRow))
+    → AreTokenRows (tables entering).tokens → count ≡ length request.asks → length request.asks ≤ 8 → entering.supply.first < 2 ^ 63
+    → terms ≡ terms_for (opening_of row) request → consent ≡ row.consent
     → reply ≡ (outcome_of (supply entering) (ModifyAtOnce (opening_of row) row.consent (old_tokens entering row) request)).reply
     → door ≡ drawn_value (supply entering) (2 * count) → rows_in boxes ≡ map new_token (tokens_for (supply entering) (opening_of row) request.asks 0)
     → Plans entering (ModifyAtOnce (opening_of row) row.consent (old_tokens entering row) request) (record {
       reply = reply;
       drawn = 2 * count + 1;
-      change = Renew (record { number = row.number; retires = true; terms = Some terms; consent = Some consent; door = door; serial = entering.supply.first + 2 * count; earliest = entering.supply.moment + wait; tokens = boxes });
+      change = Renew (record {
+        number = row.number;
+        retires = true;
+        terms = Some terms;
+        consent = Some consent;
+        door = door;
+        serial = entering.supply.first
+            + 2 * count;
+        earliest = entering.supply.moment + wait;
+        tokens = boxes;
+      });
     })
 granted_anew entering row request count reply terms consent door boxes are counted few small termed agreed says drawn rows =
     let s : Supply = supply entering in
@@ -60,23 +72,34 @@ granted_anew entering row request count reply terms consent door boxes are count
     let v : Text = drawn_value s (2 * length request.asks) in
     let at : door ≡ v = drawn ∙ ap (λ n. drawn_value s (2 * n)) counted in
     let last : List Note = Door row.number v (entering.supply.moment + wait) ∷ [] in
-    let approved : List GrantRow = change_grant row.number (with_approval row.consent) (change_grant row.number (with_terms (terms_for o request)) (tables entering).grants) in
+    let approved : List GrantRow = change_grant row.number (with_approval row.consent)
+    (change_grant row.number (with_terms (terms_for o request)) (tables entering).grants) in
     let dropped : List TokenRow = drop_tokens_of row.number (tables entering).tokens in
     record {
       reply = says;
-      change = rw (at, termed, agreed) (ap (λ (ts : List TokenRow). tables_in (change_grant row.number (with_door v (entering.supply.moment + wait)) approved) (dropped ++ ts)) rows
+      change = rw (at, termed, agreed)
+          (ap (λ (ts : List TokenRow). tables_in (change_grant row.number (with_door v (entering.supply.moment + wait)) approved) (dropped ++ ts)) rows
           ∙ sym (all_issued made last approved dropped)
-          ∙ sym (grant_dropped row.number (after ++ (map Issued made ++ last)) (tables entering).grants (tables entering).tokens (one_serial (tables entering).tokens are))
-          ∙ ap (λ (ns : List Note). after_notes ns (tables entering)) (sym (append_assoc (retire old ++ after) (map Issued made) last ∙ append_assoc (retire old) after (map Issued made ++ last))));
+          ∙ sym (grant_dropped row.number (after ++ (map Issued made ++ last)) (tables entering).grants (tables entering).tokens
+          (one_serial (tables entering).tokens are))
+          ∙ ap (λ (ns : List Note). after_notes ns (tables entering))
+          (sym (append_assoc (retire old ++ after) (map Issued made) last ∙ append_assoc (retire old) after (map Issued made ++ last))));
       opened = sym (grant_skipped is_opening s o (retire old ++ after) request.asks request.single None None skips ∙ retire_skipped is_opening old after skips);
-      drawn = (let e = values_granted s o (retire old ++ after) request.asks request.single None None (outcome_of s (ModifyAtOnce o row.consent old request)).notes (retired_none old after)
+      drawn = (let e = values_granted s o (retire old ++ after) request.asks request.single None None
+          (outcome_of s (ModifyAtOnce o row.consent old request)).notes (retired_none old after)
           (grant_values s o (retire old ++ after) request.asks request.single None None (retired_none old after)) in omega (arith, e, counted));
       few = omega arith;
-      can = (drawn_at entering (2 * count) (entering.supply.first + 2 * count) (2 * count + 1) door drawn refl (omega arith), subst (RiseFrom entering.supply.first) (sym rows) (tokens_rise s o request.asks 0 entering.supply.first small (omega arith) (omega arith)));
+      can = (
+        drawn_at entering (2 * count) (entering.supply.first + 2 * count) (2 * count + 1) door drawn refl (omega arith),
+        subst
+            (RiseFrom entering.supply.first) (sym rows) (tokens_rise s o request.asks 0 entering.supply.first small (omega arith) (omega arith)),
+      );
     }
 
-pub asked_anew : (entering : Entering) (row : GrantRow) (request : GrantRequest) (modes : Modes) (reply : Reply) (count : ℕ) (terms : TermsNote) (round : Round) (door : Text)
-    → AreTokenRows (tables entering).tokens → terms ≡ terms_for (opening_of row) request → round ≡ round_row 0 None (begun_round entering row.number row.end modes)
+pub asked_anew : (entering : Entering) (row : GrantRow) (request : GrantRequest) (modes : Modes) (reply : Reply) (count : ℕ) (terms : TermsNote) (round : Round)
+    (door : Text)
+    → AreTokenRows (tables entering).tokens → terms ≡ terms_for (opening_of row) request
+    → round ≡ round_row 0 None (begun_round entering row.number row.end modes)
     → reply ≡ asking_reply entering (begun_round entering row.number row.end modes) None → count ≡ asking_values modes → door ≡ drawn_value (supply entering) 0
     → Plans entering (ModifyAsking (opening_of row) (old_tokens entering row) request modes)
     (record { reply = reply; drawn = count; change = Pend terms round door entering.supply.first (entering.supply.moment + wait) })
@@ -89,10 +112,12 @@ asked_anew entering row request modes reply count terms round door are termed be
     let few = asking_few modes in
     record {
       reply = says;
-      change = rw (drawn, termed, begun) (sym (grant_dropped row.number (after ++ last) (tables entering).grants (tables entering).tokens (one_serial (tables entering).tokens are))
+      change = rw (drawn, termed, begun)
+          (sym (grant_dropped row.number (after ++ last) (tables entering).grants (tables entering).tokens (one_serial (tables entering).tokens are))
           ∙ ap (λ (ns : List Note). after_notes ns (tables entering)) (sym (append_assoc (retire old) after last)));
       opened = sym (pend_skipped is_opening s o (retire old ++ after) modes None skips ∙ retire_skipped is_opening old after skips);
-      drawn = counted ∙ sym (values_asked s modes (outcome_of s (ModifyAsking o old request modes)).notes (pend_values s o (retire old ++ after) modes None (retired_none old after)));
+      drawn = counted ∙ sym (values_asked s modes (outcome_of s (ModifyAsking o old request modes)).notes
+          (pend_values s o (retire old ++ after) modes None (retired_none old after)));
       few = subst (λ n. n ≤ 17) (sym counted) few.1;
       can = drawn_at entering 0 entering.supply.first count door drawn (omega arith) (let low = few.0 in omega (arith, low, counted));
     }

@@ -43,8 +43,10 @@ next_free number (r ∷ rs) below =
 abbrev pub opened_row : OpeningNote → GrantRequest → Text → ℕ → GrantRow
 opened_row o request door earliest = with_door door earliest (with_terms (terms_for o request) (new_grant o))
 
-pub at_once_is : (entering : Entering) (o : OpeningNote) (request : GrantRequest) (count : ℕ) (reply : Reply) (row : Box GrantRow) (door : Text) (boxes : List (Box TokenRow))
-    → o.grant ≡ entering.next → All (λ (r : GrantRow). r.number < entering.next) (tables entering).grants → count ≡ length request.asks → length request.asks ≤ 8 → entering.supply.first < 2 ^ 63
+pub at_once_is : (entering : Entering) (o : OpeningNote) (request : GrantRequest) (count : ℕ) (reply : Reply) (row : Box GrantRow) (door : Text)
+    (boxes : List (Box TokenRow))
+    → o.grant ≡ entering.next → All (λ (r : GrantRow). r.number < entering.next) (tables entering).grants → count ≡ length request.asks
+    → length request.asks ≤ 8 → entering.supply.first < 2 ^ 63
     → reply ≡ (outcome_of (supply entering) (OpenAtOnce o request)).reply → row.value ≡ opened_row o request door (entering.supply.moment + wait)
     → door ≡ drawn_value (supply entering) (2 * count) → rows_in boxes ≡ map new_token (tokens_for (supply entering) o request.asks 0)
     → Plans entering (OpenAtOnce o request) (record { reply = reply; drawn = 2 * count + 1; change = Open row (entering.supply.first + 2 * count) boxes })
@@ -53,27 +55,33 @@ at_once_is entering o request count reply row door boxes number below counted fe
     let before : List Note = Opened o ∷ Terms (terms_for o request) ∷ Approved o.grant [] ∷ [] in
     let v : Text = drawn_value s (2 * length request.asks) in
     let at : door ≡ v = drawn ∙ ap (λ n. drawn_value s (2 * n)) counted in
-    let free : IsFree o.grant (tables entering).grants = subst (λ n. IsFree n (tables entering).grants) (sym number) (next_free entering.next (tables entering).grants below) in
-    let here : row.value ≡ opened_row o request v (entering.supply.moment + wait) = is ∙ ap (λ (d : Text). opened_row o request d (entering.supply.moment + wait)) at in
+    let free : IsFree o.grant (tables entering).grants = subst (λ n. IsFree n (tables entering).grants) (sym number)
+    (next_free entering.next (tables entering).grants below) in
+    let here : row.value ≡ opened_row o request v (entering.supply.moment + wait) = is
+    ∙ ap (λ (d : Text). opened_row o request d (entering.supply.moment + wait)) at in
     record {
       reply = says;
       change = ap (λ (r : GrantRow). tables_in ((tables entering).grants ++ r ∷ []) ((tables entering).tokens ++ rows_in boxes)) here
-          ∙ ap (λ (ts : List TokenRow). tables_in ((tables entering).grants ++ opened_row o request v (entering.supply.moment + wait) ∷ []) ((tables entering).tokens ++ ts)) rows
-          ∙ sym (opened_at_once o (terms_for o request) (tokens_for s o request.asks 0) v (entering.supply.moment + wait) (tables entering).grants (tables entering).tokens free refl);
+          ∙ ap (λ (ts : List TokenRow). tables_in ((tables entering).grants ++ opened_row o request v (entering.supply.moment + wait) ∷ [])
+          ((tables entering).tokens ++ ts)) rows
+          ∙ sym (opened_at_once o (terms_for o request) (tokens_for s o request.asks 0) v (entering.supply.moment + wait) (tables entering).grants
+          (tables entering).tokens free refl);
       opened = sym (grant_skipped is_opening s o before request.asks request.single None (instance_of o) skips);
       drawn = (let e = values_granted s o before request.asks request.single None (instance_of o) (outcome_of s (OpenAtOnce o request)).notes refl
           (grant_values s o before request.asks request.single None (instance_of o) refl) in omega (arith, e, counted));
       few = omega arith;
       can = (
         ap (λ (r : GrantRow). r.number) is ∙ number,
-        drawn_at entering (2 * count) (entering.supply.first + 2 * count) (2 * count + 1) row.value.door (ap (λ (r : GrantRow). r.door) is ∙ drawn) refl (omega arith),
+        drawn_at entering (2 * count) (entering.supply.first + 2 * count) (2 * count + 1) row.value.door (ap (λ (r : GrantRow). r.door) is ∙ drawn) refl
+            (omega arith),
         subst (RiseFrom entering.supply.first) (sym rows) (tokens_rise s o request.asks 0 entering.supply.first small (omega arith) (omega arith)),
       );
     }
 
 -- how many values a continuation value and a round are
 pub values_asked : (s : Supply) (modes : Modes) (notes : List Note)
-    → flat_map note_values notes ≡ drawn_value s 0 ∷ drawn_value s 1 ∷ option_to_list (some_if (is_some modes.finish) (drawn_value s 2)) → length (flat_map note_values notes) ≡ asking_values modes
+    → flat_map note_values notes ≡ drawn_value s 0 ∷ drawn_value s 1 ∷ option_to_list (some_if (is_some modes.finish) (drawn_value s 2))
+    → length (flat_map note_values notes) ≡ asking_values modes
 values_asked s modes notes are = ap (length {A = Text}) are ∙ by (is_some modes.finish)
   where
     by : (b : Bool) → length (drawn_value s 0 ∷ drawn_value s 1 ∷ option_to_list (some_if b (drawn_value s 2))) ≡ (if b then 3 else 2)
@@ -87,15 +95,18 @@ asking_few modes = by (is_some modes.finish)
     by true = (omega arith, omega arith)
     by false = (omega arith, omega arith)
 
-pub asking_is : (entering : Entering) (o : OpeningNote) (request : GrantRequest) (modes : Modes) (reply : Reply) (count : ℕ) (row : Box GrantRow) (door : Text) (boxes : List (Box TokenRow))
+pub asking_is : (entering : Entering) (o : OpeningNote) (request : GrantRequest) (modes : Modes) (reply : Reply) (count : ℕ) (row : Box GrantRow) (door : Text)
+    (boxes : List (Box TokenRow))
     → o.grant ≡ entering.next → All (λ (r : GrantRow). r.number < entering.next) (tables entering).grants
     → reply ≡ asking_reply entering (begun_round entering o.grant o.end modes) (instance_of o) → count ≡ asking_values modes → boxes ≡ []
-    → row.value ≡ with_round (begun_round entering o.grant o.end modes) (opened_row o request door (entering.supply.moment + wait)) → door ≡ drawn_value (supply entering) 0
+    → row.value ≡ with_round (begun_round entering o.grant o.end modes) (opened_row o request door (entering.supply.moment + wait))
+    → door ≡ drawn_value (supply entering) 0
     → Plans entering (OpenAsking o request modes) (record { reply = reply; drawn = count; change = Open row entering.supply.first boxes })
 asking_is entering o request modes reply count row door boxes number below says counted none is drawn =
     let s : Supply = supply entering in
     let before : List Note = Opened o ∷ Terms (terms_for o request) ∷ [] in
-    let free : IsFree o.grant (tables entering).grants = subst (λ n. IsFree n (tables entering).grants) (sym number) (next_free entering.next (tables entering).grants below) in
+    let free : IsFree o.grant (tables entering).grants = subst (λ n. IsFree n (tables entering).grants) (sym number)
+    (next_free entering.next (tables entering).grants below) in
     let few = asking_few modes in
     let here : row.value ≡ with_round (round_for s o modes) (opened_row o request (drawn_value s 0) (entering.supply.moment + wait)) =
     is ∙ ap (λ (d : Text). with_round (round_for s o modes) (opened_row o request d (entering.supply.moment + wait))) drawn in
@@ -103,13 +114,15 @@ asking_is entering o request modes reply count row door boxes number below says 
       reply = says;
       change = rw none (ap (λ (ts : List TokenRow). tables_in ((tables entering).grants ++ row.value ∷ []) ts) (append-nil (tables entering).tokens)
           ∙ ap (λ (r : GrantRow). tables_in ((tables entering).grants ++ r ∷ []) (tables entering).tokens) here
-          ∙ sym (opened_asking o (terms_for o request) (round_for s o modes) (drawn_value s 0) (entering.supply.moment + wait) (tables entering).grants (tables entering).tokens free refl refl));
+          ∙ sym (opened_asking o (terms_for o request) (round_for s o modes) (drawn_value s 0) (entering.supply.moment + wait) (tables entering).grants
+          (tables entering).tokens free refl refl));
       opened = sym (pend_skipped is_opening s o before modes (instance_of o) skips);
       drawn = counted ∙ sym (values_asked s modes (outcome_of s (OpenAsking o request modes)).notes (pend_values s o before modes (instance_of o) refl));
       few = subst (λ n. n ≤ 17) (sym counted) few.1;
       can = (
         ap (λ (r : GrantRow). r.number) is ∙ number,
-        drawn_at entering 0 entering.supply.first count row.value.door (ap (λ (r : GrantRow). r.door) is ∙ drawn) (omega arith) (let low = few.0 in omega (arith, low, counted)),
+        drawn_at entering 0 entering.supply.first count row.value.door (ap (λ (r : GrantRow). r.door) is ∙ drawn) (omega arith)
+            (let low = few.0 in omega (arith, low, counted)),
         subst (λ (ts : List (Box TokenRow)). RiseFrom entering.supply.first (rows_in ts)) (sym none) tt,
       );
     }

@@ -58,7 +58,8 @@ carried_acts entering action plan after answered plans is becomes = record {
 
 -- the same of what may run out of memory
 pub carried_ok : (entering : Entering) (action : Action) (plan : Plan) (after : Tables) (result : Result Answered Mem) → Plans entering action plan
-    → IfOk result (λ (answered : Answered). answered ≡ record { reply = plan.reply; opened = opened_by plan.change; drawn = plan.drawn }) → OnOk result (after ≡ carried plan.change (tables entering))
+    → IfOk result (λ (answered : Answered). answered ≡ record { reply = plan.reply; opened = opened_by plan.change; drawn = plan.drawn })
+    → OnOk result (after ≡ carried plan.change (tables entering))
     → IfOk result (ActsBy (supply entering) action (tables entering) after)
 carried_ok entering action plan after (Ok answered) plans is becomes = carried_acts entering action plan after answered plans is becomes
 carried_ok entering action plan after (Err e) plans is becomes = tt
@@ -85,7 +86,8 @@ plans_as entering result a b same plans = subst (λ (x : Action). IfOk result (P
 
 -- ---- the last wrong reference ends a grant
 
-drop_changed : (number : ℕ) (change : GrantRow → GrantRow) (rows : List GrantRow) → ((row : GrantRow) → (change row).number ≡ row.number) → drop_grant number (change_grant number change rows) ≡ drop_grant number rows
+drop_changed : (number : ℕ) (change : GrantRow → GrantRow) (rows : List GrantRow) → ((row : GrantRow) → (change row).number ≡ row.number)
+    → drop_grant number (change_grant number change rows) ≡ drop_grant number rows
 drop_changed number change [] keeps = refl
 drop_changed number change (r ∷ rs) keeps = at (number == r.number) refl (drop_changed number change rs keeps)
   where
@@ -94,10 +96,12 @@ drop_changed number change (r ∷ rs) keeps = at (number == r.number) refl (drop
     at true e rest = let same : (number == (change r).number) ≡ true = ap (λ n. number == n) (keeps r) ∙ e in rw (same, e) rest
     at false e rest = rw e (ap (λ (xs : List GrantRow). r ∷ xs) rest)
 
-pub last_wrong_ends : (entering : Entering) (row : GrantRow) → Plans entering (LastWrongReference (opening_of row)) (record { reply = Error TooManyAttempts; drawn = 0; change = End row.number })
+pub last_wrong_ends : (entering : Entering) (row : GrantRow)
+    → Plans entering (LastWrongReference (opening_of row)) (record { reply = Error TooManyAttempts; drawn = 0; change = End row.number })
 last_wrong_ends entering row = record {
   reply = refl;
-  change = ap (λ (rows : List GrantRow). tables_in rows (drop_tokens_of row.number (tables entering).tokens)) (sym (drop_changed row.number with_wrong (tables entering).grants (λ r. refl)));
+  change = ap (λ (rows : List GrantRow). tables_in rows (drop_tokens_of row.number (tables entering).tokens))
+      (sym (drop_changed row.number with_wrong (tables entering).grants (λ r. refl)));
   opened = refl;
   drawn = refl;
   few = omega arith;
@@ -107,18 +111,21 @@ last_wrong_ends entering row = record {
 -- ---- a decision
 
 reference_told : (entering : Entering) (told_nonce : Option Text) (finish : Option Finish)
-    → option_map (λ (ending : FinishOut). ending.reference) (finish_told entering.supply told_nonce finish) ≡ some_if (is_some finish) (drawn_value (supply entering) 0)
+    → option_map (λ (ending : FinishOut). ending.reference) (finish_told entering.supply told_nonce finish)
+    ≡ some_if (is_some finish) (drawn_value (supply entering) 0)
 reference_told entering told_nonce None = refl
 reference_told entering told_nonce (Some f) = refl
 
-ending_told : (entering : Entering) (number : ℕ) (round : Round) (finish : Option Finish) → finish_told entering.supply round.nonce finish ≡ finish_of (supply entering) (round_of number round) finish
+ending_told : (entering : Entering) (number : ℕ) (round : Round) (finish : Option Finish)
+    → finish_told entering.supply round.nonce finish ≡ finish_of (supply entering) (round_of number round) finish
 ending_told entering number round None = refl
 ending_told entering number round (Some f) = refl
 
 abbrev told_count : Option FinishOut → ℕ
 told_count finish = if is_some finish then 1 else 0
 
-references_counted : (entering : Entering) (told_nonce : Option Text) (finish : Option Finish) (value : Text) → told_count (finish_told entering.supply told_nonce finish) ≡ length (option_to_list (some_if (is_some finish) value) ++ [])
+references_counted : (entering : Entering) (told_nonce : Option Text) (finish : Option Finish) (value : Text)
+    → told_count (finish_told entering.supply told_nonce finish) ≡ length (option_to_list (some_if (is_some finish) value) ++ [])
 references_counted entering told_nonce None value = refl
 references_counted entering told_nonce (Some f) value = refl
 
@@ -126,13 +133,21 @@ told_few : (finish : Option FinishOut) → told_count finish ≤ 17
 told_few None = omega arith
 told_few (Some f) = omega arith
 
-pub decided : (entering : Entering) (row : GrantRow) (round : Round) (rights : List Right) (request : DecideRequest) (finish : Option FinishOut) (reference : Option Text) (drawn : ℕ)
-    → finish ≡ finish_told entering.supply round.nonce round.modes.finish → reference ≡ option_map (λ (ending : FinishOut). ending.reference) finish → drawn ≡ told_count finish
+pub decided : (entering : Entering) (row : GrantRow) (round : Round) (rights : List Right) (request : DecideRequest) (finish : Option FinishOut)
+    (reference : Option Text) (drawn : ℕ)
+    → finish ≡ finish_told entering.supply round.nonce round.modes.finish → reference ≡ option_map (λ (ending : FinishOut). ending.reference) finish
+    → drawn ≡ told_count finish
     → Plans entering (TakeDecision (round_of row.number round) rights request)
-    (record { reply = Decided finish; drawn = drawn; change = Alter row.number (Decide (record { verdict = request.verdict; reference = reference; rights = rights; subject = request.subject })) })
+    (record {
+      reply = Decided finish;
+      drawn = drawn;
+      change = Alter row.number
+          (Decide (record { verdict = request.verdict; reference = reference; rights = rights; subject = request.subject }));
+    })
 decided entering row round rights request finish reference drawn is refers counts =
     let value : Text = drawn_value (supply entering) 0 in
-    let named : reference ≡ some_if (is_some round.modes.finish) value = refers ∙ ap (option_map (λ (ending : FinishOut). ending.reference)) is ∙ reference_told entering round.nonce round.modes.finish in
+    let named : reference ≡ some_if (is_some round.modes.finish) value = refers ∙ ap (option_map (λ (ending : FinishOut). ending.reference)) is
+    ∙ reference_told entering round.nonce round.modes.finish in
     record {
       reply = ap (λ (f : Option FinishOut). Decided f) (is ∙ ending_told entering row.number round round.modes.finish);
       change = rw named refl;
@@ -144,10 +159,16 @@ decided entering row round rights request finish reference drawn is refers count
 
 -- ---- drawn values
 
-pub drawn_at : (entering : Entering) (index serial count : ℕ) (value : Text) → value ≡ drawn_value (supply entering) index → serial ≡ entering.supply.first + index → index < count
+pub drawn_at : (entering : Entering) (index serial count : ℕ) (value : Text) → value ≡ drawn_value (supply entering) index
+    → serial ≡ entering.supply.first + index → index < count
     → IsDrawn entering.supply.first count serial value
 drawn_at entering index serial count value is at within = record {
-  begins = (slice_index entering.supply.words.now (2 * index), slice_index entering.supply.words.now (2 * index + 1), is ∙ ap (λ n. value_text n (slice_index entering.supply.words.now (2 * index)) (slice_index entering.supply.words.now (2 * index + 1))) (sym at));
+  begins = (
+    slice_index entering.supply.words.now (2 * index),
+    slice_index entering.supply.words.now (2 * index + 1),
+    is
+        ∙ ap (λ n. value_text n (slice_index entering.supply.words.now (2 * index)) (slice_index entering.supply.words.now (2 * index + 1))) (sym at),
+  );
   low = omega arith;
   high = omega arith;
 }
@@ -159,11 +180,13 @@ token_row_is s o ask index small within = record {
   manage = (
     slice_index s.words (2 * (index + 1)),
     slice_index s.words (2 * (index + 1) + 1),
-    (let e : s.first + (index + 1) ≡ s.first + index + 1 = omega arith in ap (λ n. value_text n (slice_index s.words (2 * (index + 1))) (slice_index s.words (2 * (index + 1) + 1))) e),
+    (let e : s.first + (index + 1) ≡ s.first + index
+        + 1 = omega arith in ap (λ n. value_text n (slice_index s.words (2 * (index + 1))) (slice_index s.words (2 * (index + 1) + 1))) e),
   );
 }
 
-pub tokens_rise : (s : Supply) (o : OpeningNote) (asks : List Ask) (index low : ℕ) → s.first < 2 ^ 63 → index + 2 * length asks ≤ 16 → low ≤ s.first + index → RiseFrom low (map new_token (tokens_for s o asks index))
+pub tokens_rise : (s : Supply) (o : OpeningNote) (asks : List Ask) (index low : ℕ) → s.first < 2 ^ 63 → index + 2 * length asks ≤ 16 → low ≤ s.first + index
+    → RiseFrom low (map new_token (tokens_for s o asks index))
 tokens_rise s o [] index low small within le = tt
 tokens_rise s o (ask ∷ asks) index low small within le = (
   token_row_is s o ask index small (omega arith),
@@ -177,35 +200,64 @@ pub door_renewed : (entering : Entering) (row : GrantRow) (door : Text) (tokens 
     → Plans entering (RenewDoor (opening_of row)) (record {
       reply = Continuing door;
       drawn = 1;
-      change = Renew (record { number = row.number; retires = false; terms = None; consent = None; door = door; serial = entering.supply.first; earliest = entering.supply.moment + wait; tokens = tokens });
+      change = Renew (record {
+        number = row.number;
+        retires = false;
+        terms = None;
+        consent = None;
+        door = door;
+        serial = entering.supply.first;
+        earliest =
+            entering.supply.moment + wait;
+        tokens = tokens;
+      });
     })
 door_renewed entering row door tokens is none = record {
   reply = ap (λ (v : Text). Continuing v) is;
-  change = rw (is, none) (ap (λ (ts : List TokenRow). tables_in (change_grant row.number (with_door (drawn_value (supply entering) 0) (entering.supply.moment + wait)) (tables entering).grants) ts) (append-nil (tables entering).tokens));
+  change = rw (is, none) (ap (λ (ts : List TokenRow). tables_in
+      (change_grant row.number (with_door (drawn_value (supply entering) 0) (entering.supply.moment + wait)) (tables entering).grants) ts)
+      (append-nil (tables entering).tokens));
   opened = refl;
   drawn = refl;
   few = omega arith;
-  can = (drawn_at entering 0 entering.supply.first 1 door is (omega arith) (omega arith), subst (λ (ts : List (Box TokenRow)). RiseFrom entering.supply.first (rows_in ts)) (sym none) tt);
+  can = (
+    drawn_at entering 0 entering.supply.first 1 door is (omega arith) (omega arith),
+    subst
+        (λ (ts : List (Box TokenRow)). RiseFrom entering.supply.first (rows_in ts)) (sym none) tt,
+  );
 }
 
 pub skips : SkipsCommon is_opening
 skips = record { issued = λ t. refl; retired = λ s. refl; door = λ g v x. refl; pended = λ r. refl }
 
 -- how many values tokens and a continuation value are
-pub values_granted : (s : Supply) (o : OpeningNote) (before : List Note) (asks : List Ask) (single : Bool) (subject instance : Option Text) (notes : List Note) → flat_map note_values before ≡ []
+pub values_granted : (s : Supply) (o : OpeningNote) (before : List Note) (asks : List Ask) (single : Bool) (subject instance : Option Text) (notes : List Note)
+    → flat_map note_values before ≡ []
     → flat_map note_values notes ≡ flat_map note_values (map Issued (tokens_for s o asks 0)) ++ drawn_value s (2 * length asks) ∷ []
     → length (flat_map note_values notes) ≡ 2 * length asks + 1
 values_granted s o before asks single subject instance notes none are =
-    ap (length {A = Text}) are ∙ length-append (flat_map note_values (map Issued (tokens_for s o asks 0))) (drawn_value s (2 * length asks) ∷ []) ∙ ap (λ n. n + 1) (tokens_length s o asks 0)
+    ap (length {A = Text}) are ∙ length-append (flat_map note_values (map Issued (tokens_for s o asks 0))) (drawn_value s (2 * length asks) ∷ [])
+    ∙ ap (λ n. n + 1) (tokens_length s o asks 0)
 
-pub collected_is : (entering : Entering) (row : GrantRow) (decision : DecisionNote) (asks : List Ask) (count : ℕ) (reply : Reply) (consent : List Right) (door : Text) (tokens : List (Box TokenRow))
+pub collected_is : (entering : Entering) (row : GrantRow) (decision : DecisionNote) (asks : List Ask) (count : ℕ) (reply : Reply) (consent : List Right)
+    (door : Text) (tokens : List (Box TokenRow))
     → count ≡ length asks → length asks ≤ 8 → entering.supply.first < 2 ^ 63 → consent ≡ decision.rights
     → reply ≡ (outcome_of (supply entering) (CollectDecision (opening_of row) (terms_of_row row) decision asks)).reply
     → door ≡ drawn_value (supply entering) (2 * count) → rows_in tokens ≡ map new_token (tokens_for (supply entering) (opening_of row) asks 0)
     → Plans entering (CollectDecision (opening_of row) (terms_of_row row) decision asks) (record {
       reply = reply;
       drawn = 2 * count + 1;
-      change = Renew (record { number = row.number; retires = false; terms = None; consent = Some consent; door = door; serial = entering.supply.first + 2 * count; earliest = entering.supply.moment + wait; tokens = tokens });
+      change = Renew (record {
+        number = row.number;
+        retires = false;
+        terms = None;
+        consent = Some consent;
+        door = door;
+        serial = entering.supply.first
+            + 2 * count;
+        earliest = entering.supply.moment + wait;
+        tokens = tokens;
+      });
     })
 collected_is entering row decision asks count reply consent door tokens counted few small agreed says is rows =
     let s : Supply = supply entering in
@@ -216,11 +268,17 @@ collected_is entering row decision asks count reply consent door tokens counted 
     let approved : List GrantRow = change_grant row.number (with_approval decision.rights) (tables entering).grants in
     record {
       reply = says;
-      change = rw (at, agreed) (ap (λ (ts : List TokenRow). tables_in (change_grant row.number (with_door v (entering.supply.moment + wait)) approved) ((tables entering).tokens ++ ts)) rows
+      change = rw (at, agreed) (ap (λ (ts : List TokenRow). tables_in (change_grant row.number (with_door v (entering.supply.moment + wait)) approved)
+          ((tables entering).tokens ++ ts)) rows
           ∙ sym (all_issued (tokens_for s o asks 0) (Door row.number v (entering.supply.moment + wait) ∷ []) approved (tables entering).tokens));
       opened = sym (grant_skipped is_opening s o (Approved row.number decision.rights ∷ []) asks row.single subject None skips);
-      drawn = (let e = values_granted s o (Approved row.number decision.rights ∷ []) asks row.single subject None (outcome_of s (CollectDecision o (terms_of_row row) decision asks)).notes refl
+      drawn = (let e = values_granted s o (Approved row.number decision.rights ∷ []) asks row.single subject None
+          (outcome_of s (CollectDecision o (terms_of_row row) decision asks)).notes refl
           (grant_values s o (Approved row.number decision.rights ∷ []) asks row.single subject None refl) in omega (arith, e, counted));
       few = omega arith;
-      can = (drawn_at entering (2 * count) (entering.supply.first + 2 * count) (2 * count + 1) door is refl (omega arith), subst (RiseFrom entering.supply.first) (sym rows) (tokens_rise s o asks 0 entering.supply.first small (omega arith) (omega arith)));
+      can = (
+        drawn_at entering (2 * count) (entering.supply.first + 2 * count) (2 * count + 1) door is refl (omega arith),
+        subst
+            (RiseFrom entering.supply.first) (sym rows) (tokens_rise s o asks 0 entering.supply.first small (omega arith) (omega arith)),
+      );
     }

@@ -9,8 +9,10 @@ use Rattle.signed_calls.specs.Marks.{is_remembered}
 use Rattle.table_core.specs.Frugal.{IsFrugal}
 use Rattle.table_core.specs.Planned.{IsPlanned}
 
-pub planned_else : (call : Call) → ((server value : Text) (binding : Option Binding) (wanted : Option (List Right)) → call ≢ Introspect server value binding wanted)
-    → ((key value : Text) → call ≢ Cancel key value) → ((key value : Text) → call ≢ Revoke key value) → ((key value : Text) (new_key : Option Text) → call ≢ Rotate key value new_key)
+pub planned_else : (call : Call)
+    → ((server value : Text) (binding : Option Binding) (wanted : Option (List Right)) → call ≢ Introspect server value binding wanted)
+    → ((key value : Text) → call ≢ Cancel key value) → ((key value : Text) → call ≢ Revoke key value)
+    → ((key value : Text) (new_key : Option Text) → call ≢ Rotate key value new_key)
     → call ≢ Lapse → IsPlanned call
 planned_else (Begin key request not_after) introspects cancels revokes rotates lapses = tt
 planned_else (Continue key value reference) introspects cancels revokes rotates lapses = tt

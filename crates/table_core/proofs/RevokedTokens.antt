@@ -20,14 +20,16 @@ use Rattle.table_core.specs.declared.revoking.Revocation.TheVariants.{Refused, L
 use Rattle.table_core.proofs.Undrawn.{undrawn_of, no_notes}
 
 abbrev revoke_by : Text → List GrantRow → Option TokenRow → Action
-revoke_by key grants found = on_found InvalidRequest (λ (token : TokenRow). on_row InvalidRequest grants key token (λ (opening : OpeningNote). RevokeToken (token_of token) token.retired)) found
+revoke_by key grants found = on_found InvalidRequest
+    (λ (token : TokenRow). on_row InvalidRequest grants key token (λ (opening : OpeningNote). RevokeToken (token_of token) token.retired)) found
 
 -- where it is refused, its code is told and nothing changes
 abbrev RefusalActs : Supply → Tables → Revocation → Action → Type 0
 RefusalActs supply t (Refused code) action = ActsBy supply action t t (undrawn_of (Error code))
 RefusalActs supply t _ action = Unit {0}
 
-refusal_acts : (supply : Supply) (t : Tables) (key : Text) (grants : List GrantRow) (found : Option TokenRow) → RefusalActs supply t (revocation_of key grants found) (revoke_by key grants found)
+refusal_acts : (supply : Supply) (t : Tables) (key : Text) (grants : List GrantRow) (found : Option TokenRow)
+    → RefusalActs supply t (revocation_of key grants found) (revoke_by key grants found)
 refusal_acts supply t key grants None = no_notes supply (Refuse InvalidRequest) t (Error InvalidRequest) refl refl
 refusal_acts supply t key grants (Some token) = by (row_by_number token.grant grants)
   where
@@ -45,6 +47,8 @@ refusal_acts supply t key grants (Some token) = by (row_by_number token.grant gr
     by None = no_notes supply (Refuse InvalidRequest) t (Error InvalidRequest) refl refl
     by (Some row) = keyed (same_text token.key key)
 
-pub revocation_refused : (supply : Supply) (t : Tables) (key : Text) (grants : List GrantRow) (found : Option TokenRow) (code : ErrorCode) → revocation_of key grants found ≡ Refused code
+pub revocation_refused : (supply : Supply) (t : Tables) (key : Text) (grants : List GrantRow) (found : Option TokenRow) (code : ErrorCode)
+    → revocation_of key grants found ≡ Refused code
     → ActsBy supply (revoke_by key grants found) t t (undrawn_of (Error code))
-revocation_refused supply t key grants found code e = subst (λ (x : Revocation). RefusalActs supply t x (revoke_by key grants found)) e (refusal_acts supply t key grants found)
+revocation_refused supply t key grants found code e = subst (λ (x : Revocation). RefusalActs supply t x (revoke_by key grants found)) e
+    (refusal_acts supply t key grants found)

@@ -19,27 +19,33 @@ free_push first [] row = refl
 free_push first (r ∷ rs) row = free_push (r.serial + 1) rs row
 
 -- the first of the rows that are left
-rise_rest : (first : ℕ) (front rest : List TokenRow) (row : TokenRow) → RiseFrom first (front ++ row ∷ rest) → IsTokenRow row × (free_after first front ≤ row.serial)
+rise_rest : (first : ℕ) (front rest : List TokenRow) (row : TokenRow) → RiseFrom first (front ++ row ∷ rest)
+    → IsTokenRow row × (free_after first front ≤ row.serial)
 rise_rest first [] rest row rise = (rise.0, rise.1)
 rise_rest first (r ∷ rs) rest row rise = rise_rest (r.serial + 1) rs rest row rise.2
 
-boxes_parted : (yielded rest whole : List (Box TokenRow)) (box : Box TokenRow) → yielded ++ box ∷ rest ≡ whole → rows_in yielded ++ box.value ∷ rows_in rest ≡ rows_in whole
+boxes_parted : (yielded rest whole : List (Box TokenRow)) (box : Box TokenRow) → yielded ++ box ∷ rest ≡ whole
+    → rows_in yielded ++ box.value ∷ rows_in rest ≡ rows_in whole
 boxes_parted yielded rest whole box is = sym (map-append (λ (b : Box TokenRow). b.value) yielded (box ∷ rest)) ∙ ap rows_in is
 
 pub row_comes : (first : ℕ) (yielded rest whole : List (Box TokenRow)) (box : Box TokenRow) → yielded ++ box ∷ rest ≡ whole → RiseFrom first (rows_in whole)
     → IsTokenRow box.value × (free_after first (rows_in yielded) ≤ box.value.serial)
-row_comes first yielded rest whole box is rise = rise_rest first (rows_in yielded) (rows_in rest) box.value (subst (RiseFrom first) (sym (boxes_parted yielded rest whole box is)) rise)
+row_comes first yielded rest whole box is rise = rise_rest first (rows_in yielded) (rows_in rest) box.value
+    (subst (RiseFrom first) (sym (boxes_parted yielded rest whole box is)) rise)
 
-pub row_above : (rows : List TokenRow) (low serial : ℕ) → low ≤ serial → All (λ (row : TokenRow). row.serial < low) rows → All (λ (row : TokenRow). row.serial < serial) rows
+pub row_above : (rows : List TokenRow) (low serial : ℕ) → low ≤ serial → All (λ (row : TokenRow). row.serial < low) rows
+    → All (λ (row : TokenRow). row.serial < serial) rows
 row_above rows low serial le below k d inside = let b = below k d inside in omega arith
 
-pub row_issued : (first : ℕ) (before now_rows after : List TokenRow) (yielded : List (Box TokenRow)) (box : Box TokenRow) → now_rows ≡ before ++ rows_in yielded → after ≡ now_rows ++ box.value ∷ []
+pub row_issued : (first : ℕ) (before now_rows after : List TokenRow) (yielded : List (Box TokenRow)) (box : Box TokenRow) → now_rows ≡ before ++ rows_in yielded
+    → after ≡ now_rows ++ box.value ∷ []
     → after ≡ before ++ rows_in (yielded ++ box ∷ [])
 row_issued first before now_rows after yielded box had is =
     is ∙ ap (λ (rows : List TokenRow). rows ++ box.value ∷ []) had ∙ append_assoc before (rows_in yielded) (box.value ∷ [])
     ∙ ap (λ (rows : List TokenRow). before ++ rows) (sym (map-append (λ (b : Box TokenRow). b.value) yielded (box ∷ [])))
 
-pub rows_below : (first : ℕ) (rows after : List TokenRow) (yielded : List (Box TokenRow)) (box : Box TokenRow) → free_after first (rows_in yielded) ≤ box.value.serial
+pub rows_below : (first : ℕ) (rows after : List TokenRow) (yielded : List (Box TokenRow)) (box : Box TokenRow)
+    → free_after first (rows_in yielded) ≤ box.value.serial
     → All (λ (row : TokenRow). row.serial < free_after first (rows_in yielded)) rows → after ≡ rows ++ box.value ∷ []
     → All (λ (row : TokenRow). row.serial < free_after first (rows_in (yielded ++ box ∷ []))) after
 rows_below first rows after yielded box le below is =

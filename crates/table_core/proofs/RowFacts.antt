@@ -41,7 +41,8 @@ use Rattle.table_core.proofs.ApprovedTokens.{past_pending, of_approved}
 
 -- ---- each row is that of a grant that was opened
 
-row_noted : (trail : List Note) (now : ℕ) (ns : List Note) (row : GrantRow) → HasItem (filter_map (grant_row_in trail now) ns) row → (o : OpeningNote) × HasNote ns (Opened o) × (row ≡ grant_row trail now o)
+row_noted : (trail : List Note) (now : ℕ) (ns : List Note) (row : GrantRow) → HasItem (filter_map (grant_row_in trail now) ns) row
+    → (o : OpeningNote) × HasNote ns (Opened o) × (row ≡ grant_row trail now o)
 row_noted trail now [] row h = absurd h
 row_noted trail now (Opened o ∷ ns) row h = at (not (is_finalized (grant_state trail o.grant now))) h (row_noted trail now ns row)
   where
@@ -67,7 +68,8 @@ noted_at trail now k d inside =
     let row = get_or (grant_rows trail now) k d in
     row_noted trail now trail row (item-reverse (filter_map (grant_row_in trail now) trail) row (item_in (grant_rows trail now) k d inside))
 
-numbers_below : (trail : List Note) (now : ℕ) → AreKnown (next_grant trail) trail → All (λ (row : GrantRow). row.number < next_grant trail) (grant_rows trail now)
+numbers_below : (trail : List Note) (now : ℕ) → AreKnown (next_grant trail) trail
+    → All (λ (row : GrantRow). row.number < next_grant trail) (grant_rows trail now)
 numbers_below trail now known k d inside =
     let f = noted_at trail now k d inside in
     let low : f.0.grant < next_grant trail = each_of (KnownAt (next_grant trail)) trail (Opened f.0) known f.1 in
@@ -79,7 +81,8 @@ terms_few : (g : ℕ) (ns : List Note) → AllTermsFit ns → length (asks_of (f
 terms_few g [] fit = omega arith
 terms_few g (Terms w ∷ ns) fit = at (w.grant == g) (terms_few g ns fit.1)
   where
-    at : (b : Bool) → length (asks_of (first_of (terms_in g) ns)) ≤ ask_limit → length (asks_of (option_or (some_if b w) (first_of (terms_in g) ns))) ≤ ask_limit
+    at : (b : Bool) → length (asks_of (first_of (terms_in g) ns)) ≤ ask_limit
+        → length (asks_of (option_or (some_if b w) (first_of (terms_in g) ns))) ≤ ask_limit
     at true rest = fit.0
     at false rest = rest
 terms_few g (Opened o ∷ ns) fit = terms_few g ns fit.1
@@ -113,7 +116,8 @@ opened_few supply (ShowToken access token) = omega arith
 opened_few supply ShowInactive = omega arith
 opened_few supply LapseAction = omega arith
 opened_few supply (OpenAtOnce o request) =
-    let same = grant_skipped is_opening supply o (Opened o ∷ Terms (terms_for o request) ∷ Approved o.grant [] ∷ []) request.asks request.single None (instance_of o) skips in
+    let same = grant_skipped is_opening supply o (Opened o ∷ Terms (terms_for o request) ∷ Approved o.grant [] ∷ []) request.asks request.single None
+    (instance_of o) skips in
     let one : count_by is_opening (Opened o ∷ Terms (terms_for o request) ∷ Approved o.grant [] ∷ []) ≡ 1 = refl in omega (arith, same, one)
 opened_few supply (OpenAsking o request modes) =
     let same = pend_skipped is_opening supply o (Opened o ∷ Terms (terms_for o request) ∷ []) modes (instance_of o) skips in
@@ -123,7 +127,8 @@ opened_few supply (ShowHandle round) = omega arith
 opened_few supply (TakeDecision round rights request) = omega arith
 opened_few supply (RenewDoor o) = omega arith
 opened_few supply (CollectDecision o terms decision asks) =
-    let same = grant_skipped is_opening supply o (Approved o.grant decision.rights ∷ []) asks terms.single (if terms.subject then decision.subject else None) None skips in
+    let same = grant_skipped is_opening supply o (Approved o.grant decision.rights ∷ []) asks terms.single (if terms.subject then decision.subject else None)
+    None skips in
     let none : count_by is_opening (Approved o.grant decision.rights ∷ []) ≡ 0 = refl in omega (arith, same, none)
 opened_few supply (WrongReference o) = omega arith
 opened_few supply (LastWrongReference o) = omega arith
@@ -147,7 +152,8 @@ past_openings : (rules : Setup) (past : List Event) → IsLegalPast rules past �
 past_openings rules [] legal = omega arith
 past_openings rules (e ∷ past) legal =
     let why = chosen rules past e legal.0 in
-    let few : count_by is_opening e.notes ≤ 1 = subst (λ (ns : List Note). count_by is_opening ns ≤ 1) (sym why.notes) (opened_few (supply_at past e.moment e.draw) why.action) in
+    let few : count_by is_opening e.notes
+    ≤ 1 = subst (λ (ns : List Note). count_by is_opening ns ≤ 1) (sym why.notes) (opened_few (supply_at past e.moment e.draw) why.action) in
     let parts = count-append is_opening (reverse e.notes) (trail_of past) in
     let turned = count-reverse is_opening e.notes in
     let rest = past_openings rules past legal.1 in omega (arith, few, parts, turned, rest)
@@ -164,7 +170,8 @@ pub record KeepsRoom (kept : Kept) : Type 0 where
   pub asks : All (λ (row : GrantRow). HasFewAsked row) kept.tables.grants
   pub approved : AreOfApproved kept.tables.grants kept.tables.tokens
 
-pub room_of : (rules : Setup) (h : List Event) (now : ℕ) → Legal grant_law rules h → length h < 2 ^ 58 → latest_of h 0 ≤ now → KeepsRoom (kept_of (notes_of h) now)
+pub room_of : (rules : Setup) (h : List Event) (now : ℕ) → Legal grant_law rules h → length h < 2 ^ 58 → latest_of h 0 ≤ now
+    → KeepsRoom (kept_of (notes_of h) now)
 room_of rules h now legal short later =
     let trail : List Note = reverse (notes_of h) in
     let past = legal_past rules h legal in

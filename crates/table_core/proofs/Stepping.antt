@@ -29,8 +29,10 @@ abbrev kept_with : Tables → ℕ → ℕ → ℕ → Kept
 kept_with tables next first latest = record { tables = tables; next = next; first = first; latest = latest }
 
 -- the tables that moved are those at the later moment
-moved_is : (rules : Setup) (tables after : Tables) (next first latest later moment : ℕ) (h : List Event) → StandsByRows GnapFits rules (kept_with tables next first latest) h
-    → later ≡ max latest moment → after ≡ moved latest moment tables → at_moment (max latest moment) (kept_with tables next first latest) ≡ kept_with after next first later
+moved_is : (rules : Setup) (tables after : Tables) (next first latest later moment : ℕ) (h : List Event)
+    → StandsByRows GnapFits rules (kept_with tables next first latest) h
+    → later ≡ max latest moment → after ≡ moved latest moment tables
+    → at_moment (max latest moment) (kept_with tables next first latest) ≡ kept_with after next first later
 moved_is rules tables after next first latest later moment h stands top went = by (nat_lt latest moment) refl
   where
     kept : Kept
@@ -42,7 +44,8 @@ moved_is rules tables after next first latest later moment h stands top went = b
     by : (b : Bool) → nat_lt latest moment ≡ b → at_moment (max latest moment) kept ≡ kept_with after next first later
     by true e =
         let top_is : max latest moment ≡ moment = grind (arith, nat_tests) in
-        let moves : after ≡ sweep (max latest moment) tables = went ∙ (rw e (ap (λ n. sweep n tables) (sym top_is))) in back (sweep (max latest moment) tables) moves
+        let moves : after ≡ sweep (max latest moment) tables = went
+        ∙ (rw e (ap (λ n. sweep n tables) (sym top_is))) in back (sweep (max latest moment) tables) moves
     by false e =
         let le : moment ≤ latest = grind (arith, nat_tests) in
         let same : max latest moment ≡ latest = omega arith in
@@ -51,11 +54,13 @@ moved_is rules tables after next first latest later moment h stands top went = b
 
 pub step_room : (rules : Setup) (grants after : StoredGrants) (tokens issued : StoredTokens) (next first latest later moment : ℕ) (h : List Event)
     → StandsInTables rules grants tokens next first latest h → length h < 2 ^ 58 → later ≡ max latest moment
-    → tables_in after.rows issued.rows ≡ moved latest moment (tables_in grants.rows tokens.rows) → after.doors_below ≡ grants.doors_below → HasRoom next first after issued
+    → tables_in after.rows issued.rows ≡ moved latest moment (tables_in grants.rows tokens.rows) → after.doors_below ≡ grants.doors_below
+    → HasRoom next first after issued
 step_room rules grants after tokens issued next first latest later moment h stands short top went same_doors =
     let kept : Kept = kept_in grants.rows tokens.rows next first latest in
     let is : kept_of (notes_of h) (max (latest_of h 0) moment) ≡ kept_in after.rows issued.rows next first later =
-    sym (swept_is GnapFits rules kept h moment few stands.rows) ∙ moved_is rules (tables_in grants.rows tokens.rows) (tables_in after.rows issued.rows) next first latest later moment h stands.rows top went in
+    sym (swept_is GnapFits rules kept h moment few stands.rows)
+    ∙ moved_is rules (tables_in grants.rows tokens.rows) (tables_in after.rows issued.rows) next first latest later moment h stands.rows top went in
     let room : KeepsRoom (kept_in after.rows issued.rows next first later) =
     subst KeepsRoom is (room_of rules h (max (latest_of h 0) moment) (grant_legal rules h stands.rows.is_legal) short (omega arith)) in
     let below = stands.doors in
@@ -70,11 +75,14 @@ step_room rules grants after tokens issued next first latest later moment h stan
       approved = room.approved;
     }
 
-pub step_ok : (rules : Setup) (grants after : StoredGrants) (tokens issued : StoredTokens) (moved_tables : Tables) (next first latest later moment : ℕ) (draw : List ℕ) (call : Call) (answered : Answered) (h : List Event)
-    → StandsInTables rules grants tokens next first latest h → GnapFits call → moment ≤ last_moment → later ≡ max latest moment → moved_tables ≡ moved latest moment (tables_in grants.rows tokens.rows)
+pub step_ok : (rules : Setup) (grants after : StoredGrants) (tokens issued : StoredTokens) (moved_tables : Tables) (next first latest later moment : ℕ)
+    (draw : List ℕ) (call : Call) (answered : Answered) (h : List Event)
+    → StandsInTables rules grants tokens next first latest h → GnapFits call → moment ≤ last_moment → later ≡ max latest moment
+    → moved_tables ≡ moved latest moment (tables_in grants.rows tokens.rows)
     → ActsBy (row_supply first moved_tables later draw) (row_action rules next moved_tables later call) moved_tables (tables_in after.rows issued.rows) answered
     → after.doors_below ≤ first + answered.drawn
-    → Answers (machine_of GnapFits) rules h moment draw call answered.reply (StandsInTables rules after issued (next + answered.opened) (first + answered.drawn) later)
+    → Answers (machine_of GnapFits) rules h moment draw call answered.reply
+    (StandsInTables rules after issued (next + answered.opened) (first + answered.drawn) later)
 step_ok rules grants after tokens issued moved_tables next first latest later moment draw call answered h stands fit time top went acts below =
     let kept : Kept = kept_in grants.rows tokens.rows next first latest in
     let at : Kept = kept_with moved_tables next first later in
@@ -84,20 +92,27 @@ step_ok rules grants after tokens issued moved_tables next first latest later mo
     let here : kept_in after.rows issued.rows (next + answered.opened) (first + answered.drawn) later ≡ with_notes (row_answer rules at draw call).notes at =
     ap (λ (t : Tables). kept_with t (next + answered.opened) (first + answered.drawn) later) acts.tables
     ∙ ap (λ n. kept_with (after_notes (row_answer rules at draw call).notes moved_tables) (next + n) (first + answered.drawn) later) acts.opened
-    ∙ ap (λ n. kept_with (after_notes (row_answer rules at draw call).notes moved_tables) (next + count_by is_opening (row_answer rules at draw call).notes) (first + n) later) acts.drawn in
-    let changed : kept_in after.rows issued.rows (next + answered.opened) (first + answered.drawn) later ≡ with_notes (row_answer rules swept draw call).notes swept =
+    ∙ ap (λ n. kept_with (after_notes (row_answer rules at draw call).notes moved_tables) (next + count_by is_opening (row_answer rules at draw call).notes)
+    (first + n) later) acts.drawn in
+    let changed : kept_in after.rows issued.rows (next + answered.opened) (first + answered.drawn) later
+    ≡ with_notes (row_answer rules swept draw call).notes swept =
     here ∙ sym (ap (λ (k : Kept). with_notes (row_answer rules k draw call).notes k) same) in
-    let made = answers-by_rows GnapFits rules kept (kept_in after.rows issued.rows (next + answered.opened) (first + answered.drawn) later) h moment draw call answered.reply few stands.rows fit time told changed in
+    let made = answers-by_rows GnapFits rules kept (kept_in after.rows issued.rows (next + answered.opened) (first + answered.drawn) later) h moment draw call
+    answered.reply few stands.rows fit time told changed in
     record { reply_is = made.reply_is; stands_now = λ k. record { rows = made.stands_now k; doors = below } }
 
-pub step_err : (rules : Setup) (grants after : StoredGrants) (tokens issued : StoredTokens) (moved_tables : Tables) (next first latest later moment : ℕ) (draw : List ℕ) (h : List Event)
-    → StandsInTables rules grants tokens next first latest h → moment ≤ last_moment → later ≡ max latest moment → moved_tables ≡ moved latest moment (tables_in grants.rows tokens.rows)
-    → tables_in after.rows issued.rows ≡ moved_tables → after.doors_below ≡ grants.doors_below → Lapses (machine_of GnapFits) rules h moment draw (StandsInTables rules after issued next first later)
+pub step_err : (rules : Setup) (grants after : StoredGrants) (tokens issued : StoredTokens) (moved_tables : Tables) (next first latest later moment : ℕ)
+    (draw : List ℕ) (h : List Event)
+    → StandsInTables rules grants tokens next first latest h → moment ≤ last_moment → later ≡ max latest moment
+    → moved_tables ≡ moved latest moment (tables_in grants.rows tokens.rows)
+    → tables_in after.rows issued.rows ≡ moved_tables → after.doors_below ≡ grants.doors_below
+    → Lapses (machine_of GnapFits) rules h moment draw (StandsInTables rules after issued next first later)
 step_err rules grants after tokens issued moved_tables next first latest later moment draw h stands time top went same same_doors k =
     let kept : Kept = kept_in grants.rows tokens.rows next first latest in
     let below = stands.doors in
     let changed : kept_in after.rows issued.rows next first later ≡ at_moment (max latest moment) kept =
-    ap (λ (t : Tables). kept_with t next first later) same ∙ sym (moved_is rules (tables_in grants.rows tokens.rows) moved_tables next first latest later moment h stands.rows top went) in
+    ap (λ (t : Tables). kept_with t next first later) same
+    ∙ sym (moved_is rules (tables_in grants.rows tokens.rows) moved_tables next first latest later moment h stands.rows top went) in
     record {
       rows = lapses-by_rows GnapFits rules kept (kept_in after.rows issued.rows next first later) h moment draw few stands.rows (tt, tt) time changed k;
       doors = omega (arith, below, same_doors);

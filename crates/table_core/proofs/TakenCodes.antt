@@ -23,15 +23,18 @@ abbrev with_code : Text → RoundNote → Bool
 with_code code round = is_text code round.code
 
 taken_row : (code : Text) (now : ℕ) (row : GrantRow) (found : Option Interaction) (codes : List Text) → is_some found ≡ list_any (same_text code) codes
-    → is_some (option_or (interaction_where (with_code code) now row) found) ≡ list_any (same_text code) (cons_option (option_and_then code_in (open_round now row)) codes)
+    → is_some (option_or (interaction_where (with_code code) now row) found)
+    ≡ list_any (same_text code) (cons_option (option_and_then code_in (open_round now row)) codes)
 taken_row code now row found codes rest = by (open_round now row)
   where
-    by : (o : Option RoundNote) → is_some (option_or (option_and_then (λ (round : RoundNote). some_if (with_code code round) (record { row = row; round = round })) o) found)
+    by : (o : Option RoundNote) → is_some
+        (option_or (option_and_then (λ (round : RoundNote). some_if (with_code code round) (record { row = row; round = round })) o) found)
         ≡ list_any (same_text code) (cons_option (option_and_then code_in o) codes)
     by None = rest
     by (Some round) = at round.code
       where
-        at : (c : Option Text) → is_some (option_or (some_if (is_text code c) (record { row = row; round = round })) found) ≡ list_any (same_text code) (cons_option c codes)
+        at : (c : Option Text) → is_some (option_or (some_if (is_text code c) (record { row = row; round = round })) found)
+            ≡ list_any (same_text code) (cons_option c codes)
         at None = rest
         at (Some v) = ends (same_text v code) (same_text code v) (nat_list_eq_equiv.symm v code)
           where
@@ -42,29 +45,35 @@ taken_row code now row found codes rest = by (open_round now row)
             ends false false e = rest
 
 taken_first : (code : Text) (now : ℕ) (rows : List GrantRow)
-    → is_some (first_of (interaction_where (with_code code) now) rows) ≡ list_any (same_text code) (filter_map (λ (row : GrantRow). option_and_then code_in (open_round now row)) rows)
+    → is_some (first_of (interaction_where (with_code code) now) rows)
+    ≡ list_any (same_text code) (filter_map (λ (row : GrantRow). option_and_then code_in (open_round now row)) rows)
 taken_first code now [] = refl
 taken_first code now (row ∷ rows) =
-    taken_row code now row (first_of (interaction_where (with_code code) now) rows) (filter_map (λ (r : GrantRow). option_and_then code_in (open_round now r)) rows) (taken_first code now rows)
+    taken_row code now row (first_of (interaction_where (with_code code) now) rows)
+    (filter_map (λ (r : GrantRow). option_and_then code_in (open_round now r)) rows) (taken_first code now rows)
 
 pub code_taken : (code : Text) (now : ℕ) (rows : List GrantRow)
-    → is_some (newest (interaction_where (λ (round : RoundNote). is_text code round.code) now) rows) ≡ list_any (same_text code) (filter_map code_in (open_rounds now rows))
+    → is_some (newest (interaction_where (λ (round : RoundNote). is_text code round.code) now) rows)
+    ≡ list_any (same_text code) (filter_map code_in (open_rounds now rows))
 code_taken code now rows =
     taken_first code now (reverse rows) ∙ ap (list_any (same_text code)) (sym (filter_map-filter_map (open_round now) code_in (reverse rows)))
 
 -- ---- how many tries find a free code
 
 -- more tries find the same free code
-more_tries : (few many number : ℕ) (taken : List Text) → few ≤ many → list_any (same_text (free_code few number taken)) taken ≡ false → free_code many number taken ≡ free_code few number taken
+more_tries : (few many number : ℕ) (taken : List Text) → few ≤ many → list_any (same_text (free_code few number taken)) taken ≡ false
+    → free_code many number taken ≡ free_code few number taken
 more_tries zero zero number taken le free = refl
 more_tries zero (suc many) number taken le free = rw free refl
 more_tries (suc few) zero number taken le free = absurd (omega (arith, le))
 more_tries (suc few) (suc many) number taken le free =
     at (λ k. more_tries few many (number + 1) taken (omega (arith, le)) k) (list_any (same_text (code_text (number % code_count))) taken) free
   where
-    at : (list_any (same_text (free_code few (number + 1) taken)) taken ≡ false → free_code many (number + 1) taken ≡ free_code few (number + 1) taken) → (b : Bool)
+    at : (list_any (same_text (free_code few (number + 1) taken)) taken ≡ false → free_code many (number + 1) taken ≡ free_code few (number + 1) taken)
+        → (b : Bool)
         → list_any (same_text (if b then free_code few (number + 1) taken else code_text (number % code_count))) taken ≡ false
-        → (if b then free_code many (number + 1) taken else code_text (number % code_count)) ≡ (if b then free_code few (number + 1) taken else code_text (number % code_count))
+        → (if b then free_code many (number + 1) taken else code_text (number % code_count))
+        ≡ (if b then free_code few (number + 1) taken else code_text (number % code_count))
     at again true k = again k
     at again false k = refl
 
@@ -78,14 +87,16 @@ few_taken now rows =
 
 -- As many tries as there are grants, or more, find the code that as many as there are taken codes find.
 pub enough_tries : (tries number now : ℕ) (rows : List GrantRow) → length rows ≤ tries → length rows < code_count
-    → free_code tries number (filter_map code_in (open_rounds now rows)) ≡ free_code (length (filter_map code_in (open_rounds now rows))) number (filter_map code_in (open_rounds now rows))
+    → free_code tries number (filter_map code_in (open_rounds now rows))
+    ≡ free_code (length (filter_map code_in (open_rounds now rows))) number (filter_map code_in (open_rounds now rows))
 enough_tries tries number now rows enough few =
     let taken = filter_map code_in (open_rounds now rows) in
     let fewer = few_taken now rows in
     more_tries (length taken) tries number taken (omega (arith, fewer, enough)) (free_code_free number taken (omega (arith, fewer, few)))
 
 -- Where the codes of a run are taken, the search goes on behind it.
-pub passed_run : (run tries number : ℕ) (taken : List Text) → number + run ≤ code_count → ((k : ℕ) → number ≤ k → k < number + run → list_any (same_text (code_text k)) taken ≡ true)
+pub passed_run : (run tries number : ℕ) (taken : List Text) → number + run ≤ code_count
+    → ((k : ℕ) → number ≤ k → k < number + run → list_any (same_text (code_text k)) taken ≡ true)
     → free_code (run + tries) number taken ≡ free_code tries ((number + run) % code_count) taken
 passed_run zero tries number taken within there =
     let none : 0 + tries ≡ tries = omega arith in

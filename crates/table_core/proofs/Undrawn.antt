@@ -13,7 +13,8 @@ use Rattle.table_core.specs.declared.answered.Answered.{Answered}
 abbrev pub undrawn_of : Reply → Answered
 undrawn_of reply = record { reply = reply; opened = 0; drawn = 0 }
 
-pub no_notes : (supply : Supply) (action : Action) (t : Tables) (reply : Reply) → (outcome_of supply action).reply ≡ reply → (outcome_of supply action).notes ≡ []
+pub no_notes : (supply : Supply) (action : Action) (t : Tables) (reply : Reply) → (outcome_of supply action).reply ≡ reply
+    → (outcome_of supply action).notes ≡ []
     → ActsBy supply action t t (undrawn_of reply)
 no_notes supply action t reply says none = record {
   reply = sym says;

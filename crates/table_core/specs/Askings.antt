@@ -17,7 +17,8 @@ begun_round entering number end modes = round_for (supply entering) (record { gr
 
 abbrev pub asking_reply : Entering → RoundNote → Option Text → Reply
 asking_reply entering round instance =
-    Pending (drawn_value (supply entering) 0) round.modes round.handle (or_zeros 8 round.code) (or_zeros 32 round.nonce) (round.until - entering.supply.moment) instance
+    Pending (drawn_value (supply entering) 0) round.modes round.handle (or_zeros 8 round.code) (or_zeros 32 round.nonce) (round.until - entering.supply.moment)
+    instance
 
 -- the values of a continuation value and a round
 abbrev pub asking_values : Modes → ℕ

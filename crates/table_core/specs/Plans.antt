@@ -47,7 +47,8 @@ unretired retires number rows = if retires then drop_tokens_of number rows else 
 
 abbrev pub renewed : Renewal → Tables → Tables
 renewed renewal tables = tables_in
-    (change_grant renewal.number (with_door renewal.door renewal.earliest) (approved renewal.number renewal.consent (retermed renewal.number renewal.terms tables.grants)))
+    (change_grant renewal.number (with_door renewal.door renewal.earliest)
+    (approved renewal.number renewal.consent (retermed renewal.number renewal.terms tables.grants)))
     (unretired renewal.retires renewal.number tables.tokens ++ rows_in renewal.tokens)
 
 abbrev pub pended : TermsNote → Round → Text → ℕ → List GrantRow → List GrantRow

@@ -187,7 +187,8 @@ pub fn begin(
 ) -> Result<Plan, Mem>
     requires few { length request.now.asks ≤ 8 }
     requires numbers { All (λ (row : GrantRow). row.number < entering.now.next) (tables entering.now).grants }
-    ensures { IfOk result (Plans entering.now (row_action setup.now entering.now.next (tables entering.now) entering.now.supply.moment (Begin key.now request.now not_after))) }
+    ensures { IfOk result (Plans entering.now
+        (row_action setup.now entering.now.next (tables entering.now) entering.now.supply.moment (Begin key.now request.now not_after))) }
 {
     let now = entering.supply.moment;
     if is_past(now, not_after) || LIVE_LIMIT <= entering.grants.len() {

@@ -38,7 +38,8 @@ pub fn cancel(
     key: &Bytes,
     value: &Bytes,
 ) -> Answered
-    ensures acts { (rules : Setup) (next : ℕ) (supply : Supply) → ActsBy supply (row_action rules next (tables_in grants.old.rows tokens.old.rows) supply.now (Cancel key.now value.now))
+    ensures acts { (rules : Setup) (next : ℕ) (supply : Supply)
+        → ActsBy supply (row_action rules next (tables_in grants.old.rows tokens.old.rows) supply.now (Cancel key.now value.now))
         (tables_in grants.old.rows tokens.old.rows) (tables_in grants.new.rows tokens.new.rows) result }
     ensures few { (result.opened ≡ 0) × (result.drawn ≡ 0) }
     ensures doors { grants.new.doors_below ≡ grants.old.doors_below }

@@ -78,7 +78,8 @@ fn collect_grant(
     decision: &Decision,
 ) -> Result<Plan, Mem>
     requires { length row.now.asks ≤ 8 }
-    ensures { IfOk result (Plans entering.now (collect_rows Grant (tables entering.now) entering.now.supply.moment row.now (decision_of_row row.now.number decision.now))) }
+    ensures { IfOk result (Plans entering.now
+        (collect_rows Grant (tables entering.now) entering.now.supply.moment row.now (decision_of_row row.now.number decision.now))) }
 {
     let asked = row.asks.asks(alloc)?;
     let asks = decided_asks(alloc, &decision.rights, &asked)?;
@@ -125,7 +126,8 @@ fn collect(
     decision: &Decision,
 ) -> Result<Plan, Mem>
     requires { length row.now.asks ≤ 8 }
-    ensures { IfOk result (Plans entering.now (collect_rows decision.now.verdict (tables entering.now) entering.now.supply.moment row.now (decision_of_row row.now.number decision.now))) }
+    ensures { IfOk result (Plans entering.now
+        (collect_rows decision.now.verdict (tables entering.now) entering.now.supply.moment row.now (decision_of_row row.now.number decision.now))) }
 {
     match decision.verdict {
         Verdict::Grant => collect_grant(alloc, entering, row, decision),
@@ -142,7 +144,8 @@ fn collect_or_renew(
     decision: &Option<Decision>,
 ) -> Result<Plan, Mem>
     requires { length row.now.asks ≤ 8 }
-    ensures { IfOk result (Plans entering.now (collect_or_renew_rows (tables entering.now) entering.now.supply.moment row.now (option_map (decision_of_row row.now.number) decision.now))) }
+    ensures { IfOk result (Plans entering.now
+        (collect_or_renew_rows (tables entering.now) entering.now.supply.moment row.now (option_map (decision_of_row row.now.number) decision.now))) }
 {
     match decision {
         Some(decision) => collect(alloc, entering, row, decision),
@@ -289,7 +292,8 @@ pub fn continue_grant(
     reference: &Option<Bytes>,
 ) -> Result<Plan, Mem>
     requires { All (λ (row : GrantRow). HasFewAsked row) (tables entering.now).grants }
-    ensures { IfOk result (Plans entering.now (with_row (continue_rows (tables entering.now) entering.now.supply.moment reference.now) key.now (row_by_door value.now (tables entering.now).grants))) }
+    ensures { IfOk result (Plans entering.now
+        (with_row (continue_rows (tables entering.now) entering.now.supply.moment reference.now) key.now (row_by_door value.now (tables entering.now).grants))) }
 {
     match entering.grants.by_door(value.as_slice()) {
         Some(row) => {

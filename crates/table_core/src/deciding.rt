@@ -100,7 +100,8 @@ fn decide_row(
 
 /// Answers the user's decision.
 pub fn decide(alloc: Global, entering: &Entering, request: &DecideRequest) -> Result<Plan, Mem>
-    ensures { IfOk result (Plans entering.now (take_decision request.now (interaction_by_handle entering.now.supply.moment request.now.handle (tables entering.now).grants))) }
+    ensures { IfOk result (Plans entering.now
+        (take_decision request.now (interaction_by_handle entering.now.supply.moment request.now.handle (tables entering.now).grants))) }
 {
     let name = InteractionName::Handle(request.handle.as_slice());
     match entering.grants.by_interaction(entering.supply.moment, name) {

@@ -49,7 +49,8 @@ pub fn issue(
 ) -> Result<IssuedTokens, Mem>
     requires { length asks.now ≤ 8 }
     ensures rows { IfOk result (λ issue. rows_in issue.rows ≡ map new_token (tokens_for (supply entering.now) (opening_of row.now) asks.now 0)) }
-    ensures told { IfOk result (λ issue. issue.told ≡ map (token_shown entering.now.supply.moment) (tokens_for (supply entering.now) (opening_of row.now) asks.now 0)) }
+    ensures told { IfOk result (λ issue. issue.told
+        ≡ map (token_shown entering.now.supply.moment) (tokens_for (supply entering.now) (opening_of row.now) asks.now 0)) }
 {
     let mut rows = Seq::new(alloc);
     let mut told = Seq::new(alloc);

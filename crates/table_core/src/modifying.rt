@@ -31,7 +31,8 @@ fn grant_anew(
     request: &GrantRequest,
 ) -> Result<Plan, Mem>
     requires { length request.now.asks ≤ 8 }
-    ensures { IfOk result (Plans entering.now (ModifyAtOnce (opening_of row.now) row.now.consent (map token_of (rows_of_grant row.now.number (tables entering.now).tokens)) request.now)) }
+    ensures { IfOk result (Plans entering.now
+        (ModifyAtOnce (opening_of row.now) row.now.consent (map token_of (rows_of_grant row.now.number (tables entering.now).tokens)) request.now)) }
 {
     let _rows = entering.tokens.len();
     let count = request.asks.len();
@@ -92,7 +93,8 @@ fn modify_asking(
     request: &GrantRequest,
     modes: &Modes,
 ) -> Result<Plan, Mem>
-    ensures { IfOk result (Plans entering.now (ModifyAsking (opening_of row.now) (map token_of (rows_of_grant row.now.number (tables entering.now).tokens)) request.now modes.now)) }
+    ensures { IfOk result (Plans entering.now
+        (ModifyAsking (opening_of row.now) (map token_of (rows_of_grant row.now.number (tables entering.now).tokens)) request.now modes.now)) }
 {
     let _rows = entering.tokens.len();
     let asking = ask(alloc, entering, row.number, row.end, modes, None)?;
@@ -136,7 +138,8 @@ fn modify_row(
     request: &GrantRequest,
 ) -> Result<Plan, Mem>
     requires { length request.now.asks ≤ 8 }
-    ensures { IfOk result (Plans entering.now (modify_rows (settle_for setup.now row.now.key row.now.consent request.now) (tables entering.now) entering.now.supply.moment row.now request.now)) }
+    ensures { IfOk result (Plans entering.now
+        (modify_rows (settle_for setup.now row.now.key row.now.consent request.now) (tables entering.now) entering.now.supply.moment row.now request.now)) }
 {
     let consent = row.consent.rights(alloc)?;
     match settle(alloc, setup, row.key.as_slice(), &consent, request)? {
@@ -156,7 +159,8 @@ pub fn modify(
     request: &GrantRequest,
 ) -> Result<Plan, Mem>
     requires { length request.now.asks ≤ 8 }
-    ensures { IfOk result (Plans entering.now (row_action setup.now entering.now.next (tables entering.now) entering.now.supply.moment (Modify key.now value.now request.now))) }
+    ensures { IfOk result (Plans entering.now
+        (row_action setup.now entering.now.next (tables entering.now) entering.now.supply.moment (Modify key.now value.now request.now))) }
 {
     match entering.grants.by_door(value.as_slice()) {
         Some(row) => {

@@ -52,7 +52,8 @@ fn revocation_by(grants: &GrantTable, tokens: &TokenTable, key: &[u8], value: &[
 /// Revokes a token.
 pub fn revoke(grants: &GrantTable, tokens: &mut TokenTable, key: &Bytes, value: &Bytes) -> Answered
     ensures few { (result.opened ≡ 0) × (result.drawn ≡ 0) }
-    ensures acts { (rules : Setup) (next : ℕ) (supply : Supply) → ActsBy supply (row_action rules next (tables_in grants.now.rows tokens.old.rows) supply.now (Revoke key.now value.now))
+    ensures acts { (rules : Setup) (next : ℕ) (supply : Supply)
+        → ActsBy supply (row_action rules next (tables_in grants.now.rows tokens.old.rows) supply.now (Revoke key.now value.now))
         (tables_in grants.now.rows tokens.old.rows) (tables_in grants.now.rows tokens.new.rows) result }
 {
     match revocation_by(grants, tokens, key.as_slice(), value.as_slice()) {

@@ -64,7 +64,8 @@ fn answer_by_plan(
     requires fits { GnapFits call.now }
     requires planned { IsPlanned call.now }
     requires room { HasRoom next supply.now.first grants.old tokens.old }
-    ensures ok { IfOk result (AnswersCall rules.now next supply.now call.now (tables_in grants.old.rows tokens.old.rows) (tables_in grants.new.rows tokens.new.rows)) }
+    ensures ok { IfOk result (AnswersCall rules.now next supply.now call.now (tables_in grants.old.rows tokens.old.rows)
+        (tables_in grants.new.rows tokens.new.rows)) }
     ensures doors { IfOk result (λ answered. grants.new.doors_below ≤ supply.now.first + answered.drawn) }
     ensures few { IfOk result (λ answered. (answered.opened ≤ 1) × (answered.drawn ≤ 17)) }
     ensures err { OnErr result (tables_in grants.new.rows tokens.new.rows ≡ tables_in grants.old.rows tokens.old.rows) }
@@ -93,7 +94,8 @@ fn answer_call(
     requires fits { GnapFits call.now }
     requires no_lapse { call.now ≢ Lapse }
     requires room { HasRoom next supply.now.first grants.old tokens.old }
-    ensures ok { IfOk result (AnswersCall rules.now next supply.now call.now (tables_in grants.old.rows tokens.old.rows) (tables_in grants.new.rows tokens.new.rows)) }
+    ensures ok { IfOk result (AnswersCall rules.now next supply.now call.now (tables_in grants.old.rows tokens.old.rows)
+        (tables_in grants.new.rows tokens.new.rows)) }
     ensures doors { IfOk result (λ answered. grants.new.doors_below ≤ supply.now.first + answered.drawn) }
     ensures few { IfOk result (λ answered. (answered.opened ≤ 1) × (answered.drawn ≤ 17)) }
     ensures err { OnErr result (tables_in grants.new.rows tokens.new.rows ≡ tables_in grants.old.rows tokens.old.rows) }

@@ -22,7 +22,8 @@ use Rattle.table_laws.proofs.GrantsAfter.{IsNoOpening}
 
 -- ---- look-ups in lists
 
-pub first_of-filter_map : {A B C : Type 0} (look : B → Option C) (f : A → Option B) (xs : List A) → first_of look (filter_map f xs) ≡ first_of (λ x. option_and_then look (f x)) xs
+pub first_of-filter_map : {A B C : Type 0} (look : B → Option C) (f : A → Option B) (xs : List A)
+    → first_of look (filter_map f xs) ≡ first_of (λ x. option_and_then look (f x)) xs
 first_of-filter_map look f [] = refl
 first_of-filter_map {A} {B} {C} look f (x ∷ xs) = step (f x) (first_of-filter_map look f xs)
   where
@@ -35,16 +36,20 @@ pub option_map-or : {A B : Type 0} (f : A → B) (a b : Option A) → option_map
 option_map-or f None b = refl
 option_map-or f (Some x) b = refl
 
-pub option_map-first_of : {A B C : Type 0} (f : B → C) (look : A → Option B) (xs : List A) → option_map f (first_of look xs) ≡ first_of (λ x. option_map f (look x)) xs
+pub option_map-first_of : {A B C : Type 0} (f : B → C) (look : A → Option B) (xs : List A)
+    → option_map f (first_of look xs) ≡ first_of (λ x. option_map f (look x)) xs
 option_map-first_of f look [] = refl
-option_map-first_of {A} {B} {C} f look (x ∷ xs) = option_map-or f (look x) (first_of look xs) ∙ ap (option_or (option_map f (look x))) (option_map-first_of f look xs)
+option_map-first_of {A} {B} {C} f look (x ∷ xs) = option_map-or f (look x) (first_of look xs)
+    ∙ ap (option_or (option_map f (look x))) (option_map-first_of f look xs)
 
 -- what is looked up in the rows of grants, from the newest on
-pub in_grants : {B : Type 0} (look : GrantRow → Option B) (trail : List Note) (now : ℕ) → newest look (grant_rows trail now) ≡ first_of (λ n. option_and_then look (grant_row_in trail now n)) trail
+pub in_grants : {B : Type 0} (look : GrantRow → Option B) (trail : List Note) (now : ℕ)
+    → newest look (grant_rows trail now) ≡ first_of (λ n. option_and_then look (grant_row_in trail now n)) trail
 in_grants look trail now =
     ap (first_of look) (reverse-reverse (filter_map (grant_row_in trail now) trail)) ∙ first_of-filter_map look (grant_row_in trail now) trail
 
-pub in_tokens : {B : Type 0} (look : TokenRow → Option B) (trail : List Note) (now : ℕ) → newest look (token_rows trail now) ≡ first_of (λ n. option_and_then look (token_row_in trail now n)) trail
+pub in_tokens : {B : Type 0} (look : TokenRow → Option B) (trail : List Note) (now : ℕ)
+    → newest look (token_rows trail now) ≡ first_of (λ n. option_and_then look (token_row_in trail now n)) trail
 in_tokens look trail now =
     ap (first_of look) (reverse-reverse (filter_map (token_row_in trail now) trail)) ∙ first_of-filter_map look (token_row_in trail now) trail
 
@@ -52,7 +57,8 @@ in_tokens look trail now =
 pub at_openings : {B : Type 0} (f g : Note → Option B) (ns : List Note) → ((o : OpeningNote) → HasNote ns (Opened o) → f (Opened o) ≡ g (Opened o))
     → ((n : Note) → IsNoOpening n → (f n ≡ None) × (g n ≡ None)) → first_of f ns ≡ first_of g ns
 at_openings f g [] h k = refl
-at_openings {B} f g (n ∷ ns) h k = ap (λ (x : Option B). option_or x (first_of f ns)) (here n (λ o e. h o (inl e))) ∙ ap (option_or (g n)) (at_openings f g ns (λ o i. h o (inr i)) k)
+at_openings {B} f g (n ∷ ns) h k = ap (λ (x : Option B). option_or x (first_of f ns)) (here n (λ o e. h o (inl e)))
+    ∙ ap (option_or (g n)) (at_openings f g ns (λ o i. h o (inr i)) k)
   where
     other : (m : Note) → IsNoOpening m → f m ≡ g m
     other m i = let both = k m i in both.0 ∙ sym both.1
@@ -88,9 +94,11 @@ number_row trail now g (Opened o ∷ ns) = at (o.grant == g) refl (is_finalized 
     nothing (Some y) = refl
 
     at : (b : Bool) → (o.grant == g) ≡ b → (f : Bool) → is_finalized (grant_state trail o.grant now) ≡ f
-        → rest ≡ option_and_then (λ (p : OpeningNote). some_if (not (is_finalized (grant_state trail g now))) (grant_row trail now p)) (first_of (opening_in g) ns)
+        → rest ≡ option_and_then (λ (p : OpeningNote). some_if (not (is_finalized (grant_state trail g now))) (grant_row trail now p))
+        (first_of (opening_in g) ns)
         → option_or (option_and_then (λ (row : GrantRow). some_if (row.number == g) row) (some_if (not f) (grant_row trail now o))) rest
-        ≡ option_and_then (λ (p : OpeningNote). some_if (not (is_finalized (grant_state trail g now))) (grant_row trail now p)) (option_or (some_if b o) (first_of (opening_in g) ns))
+        ≡ option_and_then (λ (p : OpeningNote). some_if (not (is_finalized (grant_state trail g now))) (grant_row trail now p))
+        (option_or (some_if b o) (first_of (opening_in g) ns))
     at true e true s ih =
         let same : is_finalized (grant_state trail g now) ≡ true = subst (λ n. is_finalized (grant_state trail n now) ≡ true) (eqb-true o.grant g e) s in
         ih ∙ rw same (nothing (first_of (opening_in g) ns))
@@ -111,11 +119,13 @@ number_row trail now g (Retired s w ∷ ns) = number_row trail now g ns
 
 -- The row with a number is that of the grant that was opened under it, where it isn't finalized.
 pub number_is : (trail : List Note) (now g : ℕ)
-    → row_by_number g (grant_rows trail now) ≡ option_and_then (λ (o : OpeningNote). some_if (not (is_finalized (grant_state trail g now))) (grant_row trail now o)) (first_of (opening_in g) trail)
+    → row_by_number g (grant_rows trail now)
+    ≡ option_and_then (λ (o : OpeningNote). some_if (not (is_finalized (grant_state trail g now))) (grant_row trail now o)) (first_of (opening_in g) trail)
 number_is trail now g = in_grants (λ (row : GrantRow). some_if (row.number == g) row) trail now ∙ number_row trail now g trail
 
 -- A grant that was opened is approved where its row says so.
-pub approved_is : (trail : List Note) (now g : ℕ) → is_some (first_of (opening_in g) trail) ≡ true → is_approved_grant g (grant_rows trail now) ≡ is_approved (grant_state trail g now)
+pub approved_is : (trail : List Note) (now g : ℕ) → is_some (first_of (opening_in g) trail) ≡ true
+    → is_approved_grant g (grant_rows trail now) ≡ is_approved (grant_state trail g now)
 approved_is trail now g there = ap approved_in (number_is trail now g) ∙ at (first_of (opening_in g) trail) refl there
   where
     by : (s : GrantState) (x : GrantRow) → x.approved ≡ is_approved s → approved_in (some_if (not (is_finalized s)) x) ≡ is_approved s
@@ -124,7 +134,8 @@ approved_is trail now g there = ap approved_in (number_is trail now g) ∙ at (f
     by (IsPending r) x e = e
 
     at : (x : Option OpeningNote) → first_of (opening_in g) trail ≡ x → is_some x ≡ true
-        → approved_in (option_and_then (λ (o : OpeningNote). some_if (not (is_finalized (grant_state trail g now))) (grant_row trail now o)) x) ≡ is_approved (grant_state trail g now)
+        → approved_in (option_and_then (λ (o : OpeningNote). some_if (not (is_finalized (grant_state trail g now))) (grant_row trail now o)) x)
+        ≡ is_approved (grant_state trail g now)
     at None e h = cc h
     at (Some o) e h = by (grant_state trail g now) (grant_row trail now o) (ap (λ n. is_approved (grant_state trail n now)) (opening_noted trail g o e).1)
 
@@ -134,7 +145,8 @@ approved_is trail now g there = ap approved_in (number_is trail now g) ∙ at (f
 abbrev pub HaveDoors : List Note → Type 0
 HaveDoors trail = (o : OpeningNote) → HasNote trail (Opened o) → (v : Text) × (door trail o.grant ≡ Some v)
 
-pub door_is : (trail : List Note) (now : ℕ) (value : Text) → HaveDoors trail → row_by_door value (grant_rows trail now) ≡ option_map (grant_row trail now) (named_grant trail now value)
+pub door_is : (trail : List Note) (now : ℕ) (value : Text) → HaveDoors trail
+    → row_by_door value (grant_rows trail now) ≡ option_map (grant_row trail now) (named_grant trail now value)
 door_is trail now value doors =
     in_grants look trail now
     ∙ at_openings (λ n. option_and_then look (grant_row_in trail now n)) (λ n. option_map (grant_row trail now) (named_in trail now value n)) trail one none
@@ -144,7 +156,8 @@ door_is trail now value doors =
     look row = some_if (same_text row.door value) row
 
     by : (o : OpeningNote) (f : Bool) (d : Option Text) (v : Text) → d ≡ Some v
-        → option_and_then (λ (row : GrantRow). some_if (same_text (or_zeros 32 d) value) row) (some_if (not f) (grant_row trail now o)) ≡ option_map (grant_row trail now) (some_if (is_text value d && not f) o)
+        → option_and_then (λ (row : GrantRow). some_if (same_text (or_zeros 32 d) value) row) (some_if (not f) (grant_row trail now o))
+        ≡ option_map (grant_row trail now) (some_if (is_text value d && not f) o)
     by o f None v e = cc e
     by o true (Some w) v e = no (same_text w value)
       where
@@ -157,14 +170,19 @@ door_is trail now value doors =
         yes true = refl
         yes false = refl
 
-    shown : (o : OpeningNote) (f : Bool) → option_and_then look (some_if (not f) (grant_row trail now o)) ≡ option_and_then (λ (row : GrantRow). some_if (same_text (or_zeros 32 (door trail o.grant)) value) row) (some_if (not f) (grant_row trail now o))
+    shown : (o : OpeningNote) (f : Bool)
+        → option_and_then look (some_if (not f) (grant_row trail now o))
+        ≡ option_and_then (λ (row : GrantRow). some_if (same_text (or_zeros 32 (door trail o.grant)) value) row) (some_if (not f) (grant_row trail now o))
     shown o true = refl
     shown o false = refl
 
-    one : (o : OpeningNote) → HasNote trail (Opened o) → option_and_then look (grant_row_in trail now (Opened o)) ≡ option_map (grant_row trail now) (named_in trail now value (Opened o))
-    one o h = let d = doors o h in shown o (is_finalized (grant_state trail o.grant now)) ∙ by o (is_finalized (grant_state trail o.grant now)) (door trail o.grant) d.0 d.1
+    one : (o : OpeningNote) → HasNote trail (Opened o)
+        → option_and_then look (grant_row_in trail now (Opened o)) ≡ option_map (grant_row trail now) (named_in trail now value (Opened o))
+    one o h = let d = doors o h in shown o (is_finalized (grant_state trail o.grant now))
+        ∙ by o (is_finalized (grant_state trail o.grant now)) (door trail o.grant) d.0 d.1
 
-    none : (n : Note) → IsNoOpening n → (option_and_then look (grant_row_in trail now n) ≡ None) × (option_map (grant_row trail now) (named_in trail now value n) ≡ None)
+    none : (n : Note) → IsNoOpening n
+        → (option_and_then look (grant_row_in trail now n) ≡ None) × (option_map (grant_row trail now) (named_in trail now value n) ≡ None)
     none (Opened o) h = absurd h
     none _ h = (refl, refl)
 
@@ -174,13 +192,16 @@ rows_counted : (trail : List Note) (now : ℕ) (ns : List Note) → length (filt
 rows_counted trail now [] = refl
 rows_counted trail now (n ∷ ns) = here n (rows_counted trail now ns) ∙ sym (sum_by-cons (λ (m : Note). cond (is_live_opening trail now m) 1 0) n ns)
   where
-    live : (o : OpeningNote) (b : Bool) (xs : List GrantRow) (k : ℕ) → length xs ≡ k → length (cons_option (some_if b (grant_row trail now o)) xs) ≡ cond b 1 0 + k
+    live : (o : OpeningNote) (b : Bool) (xs : List GrantRow) (k : ℕ) → length xs ≡ k
+        → length (cons_option (some_if b (grant_row trail now o)) xs) ≡ cond b 1 0 + k
     live o true xs k e = omega arith
     live o false xs k e = omega arith
 
     here : (m : Note) → length (filter_map (grant_row_in trail now) ns) ≡ count_by (is_live_opening trail now) ns
-        → length (cons_option (grant_row_in trail now m) (filter_map (grant_row_in trail now) ns)) ≡ cond (is_live_opening trail now m) 1 0 + count_by (is_live_opening trail now) ns
-    here (Opened o) e = live o (not (is_finalized (grant_state trail o.grant now))) (filter_map (grant_row_in trail now) ns) (count_by (is_live_opening trail now) ns) e
+        → length (cons_option (grant_row_in trail now m) (filter_map (grant_row_in trail now) ns)) ≡ cond (is_live_opening trail now m) 1 0
+        + count_by (is_live_opening trail now) ns
+    here (Opened o) e = live o (not (is_finalized (grant_state trail o.grant now))) (filter_map (grant_row_in trail now) ns)
+        (count_by (is_live_opening trail now) ns) e
     here _ e = omega arith
 
 -- The rows are as many as there are live grants.

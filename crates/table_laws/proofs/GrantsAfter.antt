@@ -78,7 +78,8 @@ round_kept n trail g (IsPending r) a b c =
     ap (first_of (decision_in g)) rounds ∙ rw b refl in
     ap (λ k. Some (round_row k (decision_of (n ∷ trail) g) r)) wrongs ∙ ap (λ (d : Option DecisionNote). Some (round_row (wrongs_of trail g) d r)) decision
 
-made_round : (o : OpeningNote) (t : Option TermsNote) (c : List Right) (s : GrantState) (r r' : Option Round) (d : Option Text) (e : Option ℕ) → r ≡ r' → made o t c s r d e ≡ made o t c s r' d e
+made_round : (o : OpeningNote) (t : Option TermsNote) (c : List Right) (s : GrantState) (r r' : Option Round) (d : Option Text) (e : Option ℕ) → r ≡ r'
+    → made o t c s r d e ≡ made o t c s r' d e
 made_round o t c s r r' d e h = ap (λ (x : Option Round). made o t c s x d e) h
 
 row_terms : (o : OpeningNote) (t : Option TermsNote) (c : List Right) (s : GrantState) (r : Option Round) (d : Option Text) (e : Option ℕ) (w : TermsNote)
@@ -86,31 +87,38 @@ row_terms : (o : OpeningNote) (t : Option TermsNote) (c : List Right) (s : Grant
 row_terms o t c IsFinalized r d e w = refl
 row_terms o t c IsApproved r d e w = by (w.grant == o.grant)
   where
-    by : (b : Bool) → made o (option_or (some_if b w) t) c IsApproved r d e ≡ option_and_then (λ row. Some (if b then with_terms w row else row)) (made o t c IsApproved r d e)
+    by : (b : Bool) → made o (option_or (some_if b w) t) c IsApproved r d e
+        ≡ option_and_then (λ row. Some (if b then with_terms w row else row)) (made o t c IsApproved r d e)
     by true = refl
     by false = refl
 row_terms o t c (IsPending x) r d e w = by (w.grant == o.grant)
   where
-    by : (b : Bool) → made o (option_or (some_if b w) t) c (IsPending x) r d e ≡ option_and_then (λ row. Some (if b then with_terms w row else row)) (made o t c (IsPending x) r d e)
+    by : (b : Bool) → made o (option_or (some_if b w) t) c (IsPending x) r d e
+        ≡ option_and_then (λ row. Some (if b then with_terms w row else row)) (made o t c (IsPending x) r d e)
     by true = refl
     by false = refl
 
-row_door : (o : OpeningNote) (t : Option TermsNote) (c : List Right) (s : GrantState) (r : Option Round) (d : Option Text) (e : Option ℕ) (k : ℕ) (v : Text) (x : ℕ)
-    → made o t c s r (option_or (some_if (k == o.grant) v) d) (option_or (some_if (k == o.grant) x) e) ≡ option_and_then (changed k (with_door v x)) (made o t c s r d e)
+row_door : (o : OpeningNote) (t : Option TermsNote) (c : List Right) (s : GrantState) (r : Option Round) (d : Option Text) (e : Option ℕ) (k : ℕ) (v : Text)
+    (x : ℕ)
+    → made o t c s r (option_or (some_if (k == o.grant) v) d) (option_or (some_if (k == o.grant) x) e)
+    ≡ option_and_then (changed k (with_door v x)) (made o t c s r d e)
 row_door o t c IsFinalized r d e k v x = refl
 row_door o t c IsApproved r d e k v x = by (k == o.grant)
   where
-    by : (b : Bool) → made o t c IsApproved r (option_or (some_if b v) d) (option_or (some_if b x) e) ≡ option_and_then (λ row. Some (if b then with_door v x row else row)) (made o t c IsApproved r d e)
+    by : (b : Bool) → made o t c IsApproved r (option_or (some_if b v) d) (option_or (some_if b x) e)
+        ≡ option_and_then (λ row. Some (if b then with_door v x row else row)) (made o t c IsApproved r d e)
     by true = refl
     by false = refl
 row_door o t c (IsPending y) r d e k v x = by (k == o.grant)
   where
-    by : (b : Bool) → made o t c (IsPending y) r (option_or (some_if b v) d) (option_or (some_if b x) e) ≡ option_and_then (λ row. Some (if b then with_door v x row else row)) (made o t c (IsPending y) r d e)
+    by : (b : Bool) → made o t c (IsPending y) r (option_or (some_if b v) d) (option_or (some_if b x) e)
+        ≡ option_and_then (λ row. Some (if b then with_door v x row else row)) (made o t c (IsPending y) r d e)
     by true = refl
     by false = refl
 
 -- the number of a row is that of its opening
-at_number : (o : OpeningNote) (t : Option TermsNote) (c : List Right) (s : GrantState) (r : Option Round) (d : Option Text) (e : Option ℕ) (k : ℕ) (f : GrantRow → GrantRow)
+at_number : (o : OpeningNote) (t : Option TermsNote) (c : List Right) (s : GrantState) (r : Option Round) (d : Option Text) (e : Option ℕ) (k : ℕ)
+    (f : GrantRow → GrantRow)
     → option_and_then (λ (row : GrantRow). Some (if k == o.grant then f row else row)) (made o t c s r d e) ≡ option_and_then (changed k f) (made o t c s r d e)
 at_number o t c IsFinalized r d e k f = refl
 at_number o t c IsApproved r d e k f = refl
@@ -122,92 +130,134 @@ at_number o t c (IsPending x) r d e k f = refl
 abbrev state_by : ℕ → Bool → Option StateChange → GrantState
 state_by now ended change = if ended then IsFinalized else state_after change now
 
-row_approval : (o : OpeningNote) (t : Option TermsNote) (cs : Option (List Right)) (now : ℕ) (ended : Bool) (change : Option StateChange) (trail : List Note) (d : Option Text) (e : Option ℕ) (k : ℕ) (c : List Right)
+row_approval : (o : OpeningNote) (t : Option TermsNote) (cs : Option (List Right)) (now : ℕ) (ended : Bool) (change : Option StateChange) (trail : List Note)
+    (d : Option Text) (e : Option ℕ) (k : ℕ) (c : List Right)
     → ((k == o.grant) ≡ true → is_finalized (state_by now ended change) ≡ false)
     → made o t (unwrap_or (option_or (some_if (k == o.grant) c) cs) []) (state_by now ended (option_or (some_if (k == o.grant) ToApproved) change))
     (round_in (Approved k c ∷ trail) o.grant (state_by now ended (option_or (some_if (k == o.grant) ToApproved) change))) d e
-    ≡ option_and_then (changed k (with_approval c)) (made o t (unwrap_or cs []) (state_by now ended change) (round_in trail o.grant (state_by now ended change)) d e)
+    ≡ option_and_then (changed k (with_approval c))
+    (made o t (unwrap_or cs []) (state_by now ended change) (round_in trail o.grant (state_by now ended change)) d e)
 row_approval o t cs now ended change trail d e k c going =
-    by (k == o.grant) going ∙ at_number o t (unwrap_or cs []) (state_by now ended change) (round_in trail o.grant (state_by now ended change)) d e k (with_approval c)
+    by (k == o.grant) going ∙ at_number o t (unwrap_or cs []) (state_by now ended change) (round_in trail o.grant (state_by now ended change)) d e k
+    (with_approval c)
   where
-    unchanged : (s : GrantState) → made o t (unwrap_or cs []) s (round_in (Approved k c ∷ trail) o.grant s) d e ≡ option_and_then (λ (row : GrantRow). Some row) (made o t (unwrap_or cs []) s (round_in trail o.grant s) d e)
+    unchanged : (s : GrantState) → made o t (unwrap_or cs []) s (round_in (Approved k c ∷ trail) o.grant s) d e
+        ≡ option_and_then (λ (row : GrantRow). Some row) (made o t (unwrap_or cs []) s (round_in trail o.grant s) d e)
     unchanged IsFinalized = refl
     unchanged IsApproved = refl
     unchanged (IsPending r) = made_round o t (unwrap_or cs []) (IsPending r) _ _ d e (round_kept (Approved k c) trail o.grant (IsPending r) refl refl refl)
 
-    approved : (s : GrantState) → is_finalized s ≡ false → made o t c IsApproved None d e ≡ option_and_then (λ (row : GrantRow). Some (with_approval c row)) (made o t (unwrap_or cs []) s (round_in trail o.grant s) d e)
+    approved : (s : GrantState) → is_finalized s ≡ false
+        → made o t c IsApproved None d e
+        ≡ option_and_then (λ (row : GrantRow). Some (with_approval c row)) (made o t (unwrap_or cs []) s (round_in trail o.grant s) d e)
     approved IsFinalized h = cc h
     approved IsApproved h = refl
     approved (IsPending r) h = refl
 
-    unended : (b : Bool) → is_finalized (state_by now b change) ≡ false → made o t c (state_by now b (Some ToApproved)) (round_in (Approved k c ∷ trail) o.grant (state_by now b (Some ToApproved))) d e
-        ≡ option_and_then (λ (row : GrantRow). Some (with_approval c row)) (made o t (unwrap_or cs []) (state_by now b change) (round_in trail o.grant (state_by now b change)) d e)
+    unended : (b : Bool) → is_finalized (state_by now b change) ≡ false
+        → made o t c (state_by now b (Some ToApproved)) (round_in (Approved k c ∷ trail) o.grant (state_by now b (Some ToApproved))) d e
+        ≡ option_and_then (λ (row : GrantRow). Some (with_approval c row))
+        (made o t (unwrap_or cs []) (state_by now b change) (round_in trail o.grant (state_by now b change)) d e)
     unended true h = cc h
     unended false h = approved (state_after change now) h
 
     by : (b : Bool) → (b ≡ true → is_finalized (state_by now ended change) ≡ false)
-        → made o t (unwrap_or (option_or (some_if b c) cs) []) (state_by now ended (option_or (some_if b ToApproved) change)) (round_in (Approved k c ∷ trail) o.grant (state_by now ended (option_or (some_if b ToApproved) change))) d e
-        ≡ option_and_then (λ row. Some (if b then with_approval c row else row)) (made o t (unwrap_or cs []) (state_by now ended change) (round_in trail o.grant (state_by now ended change)) d e)
+        → made o t (unwrap_or (option_or (some_if b c) cs) []) (state_by now ended (option_or (some_if b ToApproved) change))
+        (round_in (Approved k c ∷ trail) o.grant (state_by now ended (option_or (some_if b ToApproved) change))) d e
+        ≡ option_and_then (λ row. Some (if b then with_approval c row else row))
+        (made o t (unwrap_or cs []) (state_by now ended change) (round_in trail o.grant (state_by now ended change)) d e)
     by true h = unended ended (h refl)
     by false h = unchanged (state_by now ended change)
 
-row_round : (o : OpeningNote) (t : Option TermsNote) (c : List Right) (now : ℕ) (ended : Bool) (change : Option StateChange) (trail : List Note) (d : Option Text) (e : Option ℕ) (x : RoundNote)
+row_round : (o : OpeningNote) (t : Option TermsNote) (c : List Right) (now : ℕ) (ended : Bool) (change : Option StateChange) (trail : List Note)
+    (d : Option Text) (e : Option ℕ) (x : RoundNote)
     → ((x.grant == o.grant) ≡ true → is_finalized (state_by now ended change) ≡ false) → nat_le x.over now ≡ false
     → made o t c (state_by now ended (option_or (some_if (x.grant == o.grant) (ToPending x)) change))
     (round_in (Pended x ∷ trail) o.grant (state_by now ended (option_or (some_if (x.grant == o.grant) (ToPending x)) change))) d e
     ≡ option_and_then (changed x.grant (with_round x)) (made o t c (state_by now ended change) (round_in trail o.grant (state_by now ended change)) d e)
 row_round o t c now ended change trail d e x going later =
-    at (x.grant == o.grant) going refl ∙ at_number o t c (state_by now ended change) (round_in trail o.grant (state_by now ended change)) d e x.grant (with_round x)
+    at (x.grant == o.grant) going refl
+    ∙ at_number o t c (state_by now ended change) (round_in trail o.grant (state_by now ended change)) d e x.grant (with_round x)
   where
-    unchanged : (s : GrantState) → (x.grant == o.grant) ≡ false → made o t c s (round_in (Pended x ∷ trail) o.grant s) d e ≡ option_and_then (λ (row : GrantRow). Some row) (made o t c s (round_in trail o.grant s) d e)
+    unchanged : (s : GrantState) → (x.grant == o.grant) ≡ false
+        → made o t c s (round_in (Pended x ∷ trail) o.grant s) d e
+        ≡ option_and_then (λ (row : GrantRow). Some row) (made o t c s (round_in trail o.grant s) d e)
     unchanged IsFinalized other = refl
     unchanged IsApproved other = refl
     unchanged (IsPending r) other = made_round o t c (IsPending r) _ _ d e (round_kept (Pended x) trail o.grant (IsPending r) other refl refl)
 
-    begun : (s : GrantState) → is_finalized s ≡ false → made o t c (IsPending x) (Some (round_row 0 None x)) d e ≡ option_and_then (λ (row : GrantRow). Some (with_round x row)) (made o t c s (round_in trail o.grant s) d e)
+    begun : (s : GrantState) → is_finalized s ≡ false
+        → made o t c (IsPending x) (Some (round_row 0 None x)) d e
+        ≡ option_and_then (λ (row : GrantRow). Some (with_round x row)) (made o t c s (round_in trail o.grant s) d e)
     begun IsFinalized h = cc h
     begun IsApproved h = refl
     begun (IsPending r) h = refl
 
     emptied : (x.grant == o.grant) ≡ true → round_in (Pended x ∷ trail) o.grant (IsPending x) ≡ Some (round_row 0 None x)
-    emptied same = let none : round_trail (Pended x ∷ trail) o.grant ≡ [] = rw same refl in ap (λ (ns : List Note). Some (round_row (count_by (is_wrong_of o.grant) ns) (first_of (decision_in o.grant) ns) x)) none
+    emptied same = let none : round_trail (Pended x ∷ trail) o.grant
+        ≡ [] = rw same refl in ap (λ (ns : List Note). Some (round_row (count_by (is_wrong_of o.grant) ns) (first_of (decision_in o.grant) ns) x)) none
 
     over : state_after (Some (ToPending x)) now ≡ IsPending x
     over = rw later refl
 
-    unended : (b : Bool) → (x.grant == o.grant) ≡ true → is_finalized (state_by now b change) ≡ false → made o t c (state_by now b (Some (ToPending x))) (round_in (Pended x ∷ trail) o.grant (state_by now b (Some (ToPending x)))) d e
-        ≡ option_and_then (λ (row : GrantRow). Some (with_round x row)) (made o t c (state_by now b change) (round_in trail o.grant (state_by now b change)) d e)
+    unended : (b : Bool) → (x.grant == o.grant) ≡ true → is_finalized (state_by now b change) ≡ false
+        → made o t c (state_by now b (Some (ToPending x))) (round_in (Pended x ∷ trail) o.grant (state_by now b (Some (ToPending x)))) d e
+        ≡ option_and_then (λ (row : GrantRow). Some (with_round x row))
+        (made o t c (state_by now b change) (round_in trail o.grant (state_by now b change)) d e)
     unended true same h = cc h
     unended false same h =
         ap (λ (s : GrantState). made o t c s (round_in (Pended x ∷ trail) o.grant s) d e) over
         ∙ made_round o t c (IsPending x) _ _ d e (emptied same) ∙ begun (state_after change now) h
 
     at : (b : Bool) → (b ≡ true → is_finalized (state_by now ended change) ≡ false) → (x.grant == o.grant) ≡ b
-        → made o t c (state_by now ended (option_or (some_if b (ToPending x)) change)) (round_in (Pended x ∷ trail) o.grant (state_by now ended (option_or (some_if b (ToPending x)) change))) d e
-        ≡ option_and_then (λ row. Some (if b then with_round x row else row)) (made o t c (state_by now ended change) (round_in trail o.grant (state_by now ended change)) d e)
+        → made o t c (state_by now ended (option_or (some_if b (ToPending x)) change))
+        (round_in (Pended x ∷ trail) o.grant (state_by now ended (option_or (some_if b (ToPending x)) change))) d e
+        ≡ option_and_then (λ row. Some (if b then with_round x row else row))
+        (made o t c (state_by now ended change) (round_in trail o.grant (state_by now ended change)) d e)
     at true h same = unended ended same (h refl)
     at false h same = unchanged (state_by now ended change) same
 
 -- ---- changes of a round
 
-row_decision : (o : OpeningNote) (t : Option TermsNote) (c : List Right) (s : GrantState) (trail : List Note) (d : Option Text) (e : Option ℕ) (x : DecisionNote)
-    → made o t c s (round_in (DecidedAs x ∷ trail) o.grant s) d e ≡ option_and_then (changed x.grant (with_decision x)) (made o t c s (round_in trail o.grant s) d e)
+row_decision : (o : OpeningNote) (t : Option TermsNote) (c : List Right) (s : GrantState) (trail : List Note) (d : Option Text) (e : Option ℕ)
+    (x : DecisionNote)
+    → made o t c s (round_in (DecidedAs x ∷ trail) o.grant s) d e
+    ≡ option_and_then (changed x.grant (with_decision x)) (made o t c s (round_in trail o.grant s) d e)
 row_decision o t c IsFinalized trail d e x = refl
 row_decision o t c IsApproved trail d e x = by (x.grant == o.grant)
   where
     row : GrantRow
-    row = record { number = o.grant; key = o.key; by_object = o.by_object; user = o.user; asks = asks_of t; single = single_of t; subject = subject_of t; end = o.end; consent = c; approved = true; round = None; door = or_zeros 32 d; earliest = unwrap_or e 0 }
+    row = record {
+      number = o.grant;
+      key = o.key;
+      by_object = o.by_object;
+      user = o.user;
+      asks = asks_of t;
+      single = single_of t;
+      subject = subject_of t;
+      end =
+          o.end;
+      consent = c;
+      approved = true;
+      round = None;
+      door = or_zeros 32 d;
+      earliest = unwrap_or e 0;
+    }
 
     by : (b : Bool) → Some row ≡ Some (if b then with_decision x row else row)
     by true = refl
     by false = refl
 row_decision o t c (IsPending r) trail d e x = made_round o t c (IsPending r) _ _ d e wrongs ∙ by (x.grant == o.grant) (decision_of trail o.grant)
   where
-    wrongs : round_in (DecidedAs x ∷ trail) o.grant (IsPending r) ≡ Some (round_row (wrongs_of trail o.grant) (option_or (some_if (x.grant == o.grant) x) (decision_of trail o.grant)) r)
-    wrongs = ap (λ k. Some (round_row k (option_or (some_if (x.grant == o.grant) x) (decision_of trail o.grant)) r)) (sum_by-cons (λ (m : Note). cond (is_wrong_of o.grant m) 1 0) (DecidedAs x) (round_trail trail o.grant) ∙ none_more false (wrongs_of trail o.grant) refl)
+    wrongs : round_in (DecidedAs x ∷ trail) o.grant (IsPending r)
+        ≡ Some (round_row (wrongs_of trail o.grant) (option_or (some_if (x.grant == o.grant) x) (decision_of trail o.grant)) r)
+    wrongs = ap (λ k. Some (round_row k (option_or (some_if (x.grant == o.grant) x) (decision_of trail o.grant)) r))
+        (sum_by-cons (λ (m : Note). cond (is_wrong_of o.grant m) 1 0) (DecidedAs x) (round_trail trail o.grant)
+        ∙ none_more false (wrongs_of trail o.grant) refl)
 
     by : (b : Bool) (was : Option DecisionNote) → made o t c (IsPending r) (Some (round_row (wrongs_of trail o.grant) (option_or (some_if b x) was) r)) d e
-        ≡ option_and_then (λ row. Some (if b then with_decision x row else row)) (made o t c (IsPending r) (Some (round_row (wrongs_of trail o.grant) was r)) d e)
+        ≡ option_and_then (λ row. Some (if b then with_decision x row else row))
+        (made o t c (IsPending r) (Some (round_row (wrongs_of trail o.grant) was r)) d e)
     by true was = refl
     by false was = refl
 
@@ -217,15 +267,32 @@ row_wrong o t c IsFinalized trail d e k = refl
 row_wrong o t c IsApproved trail d e k = by (k == o.grant)
   where
     row : GrantRow
-    row = record { number = o.grant; key = o.key; by_object = o.by_object; user = o.user; asks = asks_of t; single = single_of t; subject = subject_of t; end = o.end; consent = c; approved = true; round = None; door = or_zeros 32 d; earliest = unwrap_or e 0 }
+    row = record {
+      number = o.grant;
+      key = o.key;
+      by_object = o.by_object;
+      user = o.user;
+      asks = asks_of t;
+      single = single_of t;
+      subject = subject_of t;
+      end =
+          o.end;
+      consent = c;
+      approved = true;
+      round = None;
+      door = or_zeros 32 d;
+      earliest = unwrap_or e 0;
+    }
 
     by : (b : Bool) → Some row ≡ Some (if b then with_wrong row else row)
     by true = refl
     by false = refl
 row_wrong o t c (IsPending r) trail d e k = made_round o t c (IsPending r) _ _ d e wrongs ∙ by (k == o.grant) (wrongs_of trail o.grant)
   where
-    wrongs : round_in (Wrong k ∷ trail) o.grant (IsPending r) ≡ Some (round_row (cond (k == o.grant) 1 0 + wrongs_of trail o.grant) (decision_of trail o.grant) r)
-    wrongs = ap (λ n. Some (round_row n (decision_of trail o.grant) r)) (sum_by-cons (λ (m : Note). cond (is_wrong_of o.grant m) 1 0) (Wrong k) (round_trail trail o.grant))
+    wrongs : round_in (Wrong k ∷ trail) o.grant (IsPending r)
+        ≡ Some (round_row (cond (k == o.grant) 1 0 + wrongs_of trail o.grant) (decision_of trail o.grant) r)
+    wrongs = ap (λ n. Some (round_row n (decision_of trail o.grant) r))
+        (sum_by-cons (λ (m : Note). cond (is_wrong_of o.grant m) 1 0) (Wrong k) (round_trail trail o.grant))
 
     by : (b : Bool) (n : ℕ) → made o t c (IsPending r) (Some (round_row (cond b 1 0 + n) (decision_of trail o.grant) r)) d e
         ≡ option_and_then (λ row. Some (if b then with_wrong row else row)) (made o t c (IsPending r) (Some (round_row n (decision_of trail o.grant) r)) d e)
@@ -235,12 +302,16 @@ row_wrong o t c (IsPending r) trail d e k = made_round o t c (IsPending r) _ _ d
 abbrev no_row : Option GrantRow
 no_row = None
 
-row_end : (o : OpeningNote) (t : Option TermsNote) (c : List Right) (now : ℕ) (ended past_end : Bool) (change : Option StateChange) (trail : List Note) (d : Option Text) (e : Option ℕ) (k : ℕ)
-    → made o t c (state_by now (((k == o.grant) || ended) || past_end) change) (round_in (Finalized k ∷ trail) o.grant (state_by now (((k == o.grant) || ended) || past_end) change)) d e
-    ≡ option_and_then (λ (row : GrantRow). some_if (not (k == row.number)) row) (made o t c (state_by now (ended || past_end) change) (round_in trail o.grant (state_by now (ended || past_end) change)) d e)
+row_end : (o : OpeningNote) (t : Option TermsNote) (c : List Right) (now : ℕ) (ended past_end : Bool) (change : Option StateChange) (trail : List Note)
+    (d : Option Text) (e : Option ℕ) (k : ℕ)
+    → made o t c (state_by now (((k == o.grant) || ended) || past_end) change)
+    (round_in (Finalized k ∷ trail) o.grant (state_by now (((k == o.grant) || ended) || past_end) change)) d e
+    ≡ option_and_then (λ (row : GrantRow). some_if (not (k == row.number)) row)
+    (made o t c (state_by now (ended || past_end) change) (round_in trail o.grant (state_by now (ended || past_end) change)) d e)
 row_end o t c now ended past_end change trail d e k = by (k == o.grant) ∙ at (state_by now (ended || past_end) change)
   where
-    unchanged : (s : GrantState) → made o t c s (round_in (Finalized k ∷ trail) o.grant s) d e ≡ option_and_then (λ (row : GrantRow). Some row) (made o t c s (round_in trail o.grant s) d e)
+    unchanged : (s : GrantState) → made o t c s (round_in (Finalized k ∷ trail) o.grant s) d e
+        ≡ option_and_then (λ (row : GrantRow). Some row) (made o t c s (round_in trail o.grant s) d e)
     unchanged IsFinalized = refl
     unchanged IsApproved = refl
     unchanged (IsPending r) = made_round o t c (IsPending r) _ _ d e (round_kept (Finalized k) trail o.grant (IsPending r) refl refl refl)
@@ -249,8 +320,10 @@ row_end o t c now ended past_end change trail d e k = by (k == o.grant) ∙ at (
     gone None = refl
     gone (Some row) = refl
 
-    by : (b : Bool) → made o t c (state_by now ((b || ended) || past_end) change) (round_in (Finalized k ∷ trail) o.grant (state_by now ((b || ended) || past_end) change)) d e
-        ≡ option_and_then (λ (row : GrantRow). some_if (not b) row) (made o t c (state_by now (ended || past_end) change) (round_in trail o.grant (state_by now (ended || past_end) change)) d e)
+    by : (b : Bool) → made o t c (state_by now ((b || ended) || past_end) change)
+        (round_in (Finalized k ∷ trail) o.grant (state_by now ((b || ended) || past_end) change)) d e
+        ≡ option_and_then (λ (row : GrantRow). some_if (not b) row)
+        (made o t c (state_by now (ended || past_end) change) (round_in trail o.grant (state_by now (ended || past_end) change)) d e)
     by true = gone _
     by false = unchanged (state_by now (ended || past_end) change)
 
@@ -270,7 +343,8 @@ left_row : (n : Note) (o : OpeningNote) (t : Option TermsNote) (c : List Right) 
     → made o t c s (round_in (n ∷ trail) o.grant s) d e ≡ option_and_then (λ (row : GrantRow). Some row) (made o t c s (round_in trail o.grant s) d e)
 left_row n o t c s trail d e a b f = made_round o t c s _ _ d e (round_kept n trail o.grant s a b f) ∙ kept s
   where
-    kept : (x : GrantState) → made o t c x (round_in trail o.grant s) d e ≡ option_and_then (λ (row : GrantRow). Some row) (made o t c x (round_in trail o.grant s) d e)
+    kept : (x : GrantState) → made o t c x (round_in trail o.grant s) d e
+        ≡ option_and_then (λ (row : GrantRow). Some row) (made o t c x (round_in trail o.grant s) d e)
     kept IsFinalized = refl
     kept IsApproved = refl
     kept (IsPending r) = refl
@@ -285,33 +359,45 @@ pub next_row : (n : Note) (trail : List Note) (now : ℕ) (o : OpeningNote) → 
 next_row (Opened p) trail now o can other =
     let s = grant_state trail o.grant now in
     let same : grant_state (Opened p ∷ trail) o.grant now ≡ s = rw other refl in
-    ap (λ (x : GrantState). made o (terms_of trail o.grant) (consent_of trail o.grant) x (round_in (Opened p ∷ trail) o.grant x) (door trail o.grant) (first_of (earliest_in o.grant) trail)) same
-    ∙ left_row (Opened p) o (terms_of trail o.grant) (consent_of trail o.grant) s trail (door trail o.grant) (first_of (earliest_in o.grant) trail) refl refl refl
+    ap (λ (x : GrantState). made o (terms_of trail o.grant) (consent_of trail o.grant) x (round_in (Opened p ∷ trail) o.grant x) (door trail o.grant)
+    (first_of (earliest_in o.grant) trail)) same
+    ∙ left_row (Opened p) o (terms_of trail o.grant) (consent_of trail o.grant) s trail (door trail o.grant) (first_of (earliest_in o.grant) trail) refl refl
+    refl
 next_row (Terms w) trail now o can other =
     let s = grant_state trail o.grant now in
-    made_round o (option_or (some_if (w.grant == o.grant) w) (terms_of trail o.grant)) (consent_of trail o.grant) s _ _ (door trail o.grant) (first_of (earliest_in o.grant) trail) (round_kept (Terms w) trail o.grant s refl refl refl)
+    made_round o (option_or (some_if (w.grant == o.grant) w) (terms_of trail o.grant)) (consent_of trail o.grant) s _ _ (door trail o.grant)
+    (first_of (earliest_in o.grant) trail) (round_kept (Terms w) trail o.grant s refl refl refl)
     ∙ row_terms o (terms_of trail o.grant) (consent_of trail o.grant) s (round_in trail o.grant s) (door trail o.grant) (first_of (earliest_in o.grant) trail) w
 next_row (Approved k c) trail now o can other =
-    row_approval o (terms_of trail o.grant) (first_of (consent_in o.grant) trail) now (list_any (is_end_of o.grant) trail || has_ended (first_of (opening_in o.grant) trail) now)
+    row_approval o (terms_of trail o.grant) (first_of (consent_in o.grant) trail) now
+    (list_any (is_end_of o.grant) trail || has_ended (first_of (opening_in o.grant) trail) now)
     (first_of (state_change_in o.grant) trail) trail (door trail o.grant) (first_of (earliest_in o.grant) trail) k c (same_going trail now k o.grant can)
 next_row (Issued t) trail now o can other =
-    left_row (Issued t) o (terms_of trail o.grant) (consent_of trail o.grant) (grant_state trail o.grant now) trail (door trail o.grant) (first_of (earliest_in o.grant) trail) refl refl refl
+    left_row (Issued t) o (terms_of trail o.grant) (consent_of trail o.grant) (grant_state trail o.grant now) trail (door trail o.grant)
+    (first_of (earliest_in o.grant) trail) refl refl refl
 next_row (Door k v x) trail now o can other =
     let s = grant_state trail o.grant now in
-    made_round o (terms_of trail o.grant) (consent_of trail o.grant) s _ _ (option_or (some_if (k == o.grant) v) (door trail o.grant)) (option_or (some_if (k == o.grant) x) (first_of (earliest_in o.grant) trail)) (round_kept (Door k v x) trail o.grant s refl refl refl)
-    ∙ row_door o (terms_of trail o.grant) (consent_of trail o.grant) s (round_in trail o.grant s) (door trail o.grant) (first_of (earliest_in o.grant) trail) k v x
+    made_round o (terms_of trail o.grant) (consent_of trail o.grant) s _ _ (option_or (some_if (k == o.grant) v) (door trail o.grant))
+    (option_or (some_if (k == o.grant) x) (first_of (earliest_in o.grant) trail)) (round_kept (Door k v x) trail o.grant s refl refl refl)
+    ∙ row_door o (terms_of trail o.grant) (consent_of trail o.grant) s (round_in trail o.grant s) (door trail o.grant) (first_of (earliest_in o.grant) trail) k
+    v x
 next_row (Pended r) trail now o can other =
-    row_round o (terms_of trail o.grant) (consent_of trail o.grant) now (list_any (is_end_of o.grant) trail || has_ended (first_of (opening_in o.grant) trail) now)
-    (first_of (state_change_in o.grant) trail) trail (door trail o.grant) (first_of (earliest_in o.grant) trail) r (same_going trail now r.grant o.grant can.0) can.1
+    row_round o (terms_of trail o.grant) (consent_of trail o.grant) now
+    (list_any (is_end_of o.grant) trail || has_ended (first_of (opening_in o.grant) trail) now)
+    (first_of (state_change_in o.grant) trail) trail (door trail o.grant) (first_of (earliest_in o.grant) trail) r (same_going trail now r.grant o.grant can.0)
+    can.1
 next_row (DecidedAs d) trail now o can other =
-    row_decision o (terms_of trail o.grant) (consent_of trail o.grant) (grant_state trail o.grant now) trail (door trail o.grant) (first_of (earliest_in o.grant) trail) d
+    row_decision o (terms_of trail o.grant) (consent_of trail o.grant) (grant_state trail o.grant now) trail (door trail o.grant)
+    (first_of (earliest_in o.grant) trail) d
 next_row (Finalized k) trail now o can other =
     row_end o (terms_of trail o.grant) (consent_of trail o.grant) now (list_any (is_end_of o.grant) trail) (has_ended (first_of (opening_in o.grant) trail) now)
     (first_of (state_change_in o.grant) trail) trail (door trail o.grant) (first_of (earliest_in o.grant) trail) k
 next_row (Wrong k) trail now o can other =
-    row_wrong o (terms_of trail o.grant) (consent_of trail o.grant) (grant_state trail o.grant now) trail (door trail o.grant) (first_of (earliest_in o.grant) trail) k
+    row_wrong o (terms_of trail o.grant) (consent_of trail o.grant) (grant_state trail o.grant now) trail (door trail o.grant)
+    (first_of (earliest_in o.grant) trail) k
 next_row (Retired s w) trail now o can other =
-    left_row (Retired s w) o (terms_of trail o.grant) (consent_of trail o.grant) (grant_state trail o.grant now) trail (door trail o.grant) (first_of (earliest_in o.grant) trail) refl refl refl
+    left_row (Retired s w) o (terms_of trail o.grant) (consent_of trail o.grant) (grant_state trail o.grant now) trail (door trail o.grant)
+    (first_of (earliest_in o.grant) trail) refl refl refl
 
 -- ---- all grants
 
@@ -324,7 +410,8 @@ pub grants_changed : (f : GrantRow → Option GrantRow) (trail after : List Note
     → ((o : OpeningNote) → HasNote trail (Opened o) → grant_row_in after later (Opened o) ≡ option_and_then f (grant_row_in trail now (Opened o)))
     → reverse (filter_map (grant_row_in after later) trail) ≡ filter_map f (grant_rows trail now)
 grants_changed f trail after now later h =
-    ap reverse (parts_changed f (grant_row_in trail now) (grant_row_in after later) trail each) ∙ sym (filter_map-reverse f (filter_map (grant_row_in trail now) trail))
+    ap reverse (parts_changed f (grant_row_in trail now) (grant_row_in after later) trail each)
+    ∙ sym (filter_map-reverse f (filter_map (grant_row_in trail now) trail))
   where
     each : (n : Note) → HasItem trail n → grant_row_in after later n ≡ option_and_then f (grant_row_in trail now n)
     each (Opened o) i = h o (item_noted trail (Opened o) i)
@@ -350,29 +437,41 @@ eqb-self : (n : ℕ) → (n == n) ≡ true
 eqb-self n = (Decides-eqb n n).1 refl
 
 -- the row of a grant that was just opened
-opened_row : (trail : List Note) (now : ℕ) (p : OpeningNote) → IsNew trail p.grant → nat_le p.end now ≡ false → grant_row_in (Opened p ∷ trail) now (Opened p) ≡ Some (new_grant p)
+opened_row : (trail : List Note) (now : ℕ) (p : OpeningNote) → IsNew trail p.grant → nat_le p.end now ≡ false
+    → grant_row_in (Opened p ∷ trail) now (Opened p) ≡ Some (new_grant p)
 opened_row trail now p new later =
     let g = p.grant in
     let self = eqb-self g in
     let ended : has_ended (first_of (opening_in g) (Opened p ∷ trail)) now ≡ false = rw self later in
     let state : grant_state (Opened p ∷ trail) g now ≡ IsApproved = rw (new.unended, ended, new.change) refl in
-    ap (λ (s : GrantState). made p (terms_of trail g) (consent_of trail g) s (round_in (Opened p ∷ trail) g s) (door trail g) (first_of (earliest_in g) trail)) state
+    ap (λ (s : GrantState). made p (terms_of trail g) (consent_of trail g) s (round_in (Opened p ∷ trail) g s) (door trail g) (first_of (earliest_in g) trail))
+    state
     ∙ rw (new.terms, new.consent, new.door, new.earliest) refl
 
 -- What a note does to the grants.
 pub grants_next : (n : Note) (trail : List Note) (now : ℕ) → CanFollow now trail n → grant_rows (n ∷ trail) now ≡ grants_after n (grant_rows trail now)
 grants_next (Opened p) trail now can =
     let old : reverse (filter_map (grant_row_in (Opened p ∷ trail) now) trail) ≡ grant_rows trail now =
-    grants_changed (λ row. Some row) trail (Opened p ∷ trail) now now (λ o h. next_row (Opened p) trail now o can (is_another trail p.grant o can.0.opening h)) ∙ all_kept (grant_rows trail now) in
+    grants_changed (λ row. Some row) trail (Opened p ∷ trail) now now (λ o h. next_row (Opened p) trail now o can (is_another trail p.grant o can.0.opening h))
+    ∙ all_kept (grant_rows trail now) in
     ap (λ (x : Option GrantRow). reverse (cons_option x (filter_map (grant_row_in (Opened p ∷ trail) now) trail))) (opened_row trail now p can.0 can.1)
     ∙ reverse-cons (new_grant p) (filter_map (grant_row_in (Opened p ∷ trail) now) trail)
     ∙ ap (λ (rows : List GrantRow). rows ++ new_grant p ∷ []) old
-grants_next (Terms w) trail now can = grants_changed (note_change (Terms w)) trail (Terms w ∷ trail) now now (λ o h. next_row (Terms w) trail now o can tt) ∙ change_is (Terms w) (grant_rows trail now) tt
-grants_next (Approved k c) trail now can = grants_changed (note_change (Approved k c)) trail (Approved k c ∷ trail) now now (λ o h. next_row (Approved k c) trail now o can tt) ∙ change_is (Approved k c) (grant_rows trail now) tt
-grants_next (Issued t) trail now can = grants_changed (note_change (Issued t)) trail (Issued t ∷ trail) now now (λ o h. next_row (Issued t) trail now o can tt) ∙ change_is (Issued t) (grant_rows trail now) tt
-grants_next (Door k v x) trail now can = grants_changed (note_change (Door k v x)) trail (Door k v x ∷ trail) now now (λ o h. next_row (Door k v x) trail now o can tt) ∙ change_is (Door k v x) (grant_rows trail now) tt
-grants_next (Pended r) trail now can = grants_changed (note_change (Pended r)) trail (Pended r ∷ trail) now now (λ o h. next_row (Pended r) trail now o can tt) ∙ change_is (Pended r) (grant_rows trail now) tt
-grants_next (DecidedAs d) trail now can = grants_changed (note_change (DecidedAs d)) trail (DecidedAs d ∷ trail) now now (λ o h. next_row (DecidedAs d) trail now o can tt) ∙ change_is (DecidedAs d) (grant_rows trail now) tt
-grants_next (Finalized k) trail now can = grants_changed (note_change (Finalized k)) trail (Finalized k ∷ trail) now now (λ o h. next_row (Finalized k) trail now o can tt) ∙ change_is (Finalized k) (grant_rows trail now) tt
-grants_next (Wrong k) trail now can = grants_changed (note_change (Wrong k)) trail (Wrong k ∷ trail) now now (λ o h. next_row (Wrong k) trail now o can tt) ∙ change_is (Wrong k) (grant_rows trail now) tt
-grants_next (Retired s w) trail now can = grants_changed (note_change (Retired s w)) trail (Retired s w ∷ trail) now now (λ o h. next_row (Retired s w) trail now o can tt) ∙ change_is (Retired s w) (grant_rows trail now) tt
+grants_next (Terms w) trail now can = grants_changed (note_change (Terms w)) trail (Terms w ∷ trail) now now (λ o h. next_row (Terms w) trail now o can tt)
+    ∙ change_is (Terms w) (grant_rows trail now) tt
+grants_next (Approved k c) trail now can = grants_changed (note_change (Approved k c)) trail (Approved k c ∷ trail) now now
+    (λ o h. next_row (Approved k c) trail now o can tt) ∙ change_is (Approved k c) (grant_rows trail now) tt
+grants_next (Issued t) trail now can = grants_changed (note_change (Issued t)) trail (Issued t ∷ trail) now now (λ o h. next_row (Issued t) trail now o can tt)
+    ∙ change_is (Issued t) (grant_rows trail now) tt
+grants_next (Door k v x) trail now can = grants_changed (note_change (Door k v x)) trail (Door k v x ∷ trail) now now
+    (λ o h. next_row (Door k v x) trail now o can tt) ∙ change_is (Door k v x) (grant_rows trail now) tt
+grants_next (Pended r) trail now can = grants_changed (note_change (Pended r)) trail (Pended r ∷ trail) now now (λ o h. next_row (Pended r) trail now o can tt)
+    ∙ change_is (Pended r) (grant_rows trail now) tt
+grants_next (DecidedAs d) trail now can = grants_changed (note_change (DecidedAs d)) trail (DecidedAs d ∷ trail) now now
+    (λ o h. next_row (DecidedAs d) trail now o can tt) ∙ change_is (DecidedAs d) (grant_rows trail now) tt
+grants_next (Finalized k) trail now can = grants_changed (note_change (Finalized k)) trail (Finalized k ∷ trail) now now
+    (λ o h. next_row (Finalized k) trail now o can tt) ∙ change_is (Finalized k) (grant_rows trail now) tt
+grants_next (Wrong k) trail now can = grants_changed (note_change (Wrong k)) trail (Wrong k ∷ trail) now now (λ o h. next_row (Wrong k) trail now o can tt)
+    ∙ change_is (Wrong k) (grant_rows trail now) tt
+grants_next (Retired s w) trail now can = grants_changed (note_change (Retired s w)) trail (Retired s w ∷ trail) now now
+    (λ o h. next_row (Retired s w) trail now o can tt) ∙ change_is (Retired s w) (grant_rows trail now) tt

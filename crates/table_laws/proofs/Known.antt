@@ -58,7 +58,8 @@ known_retired : (g : ℕ) (ts : List TokenNote) (rest : List Note) → AreKnown 
 known_retired g [] rest h = h
 known_retired g (t ∷ ts) rest h = (tt, known_retired g ts rest h)
 
-grant_known : (g : ℕ) (supply : Supply) (o : OpeningNote) (before : List Note) (asks : List Ask) (single : Bool) (subject instance : Option Text) → o.grant < g → AreKnown g before
+grant_known : (g : ℕ) (supply : Supply) (o : OpeningNote) (before : List Note) (asks : List Ask) (single : Bool) (subject instance : Option Text) → o.grant < g
+    → AreKnown g before
     → AreKnown g (grant_outcome supply o before asks single subject instance).notes
 grant_known g supply o before asks single subject instance h b =
     each-append (KnownAt g) (before ++ map Issued (tokens_for supply o asks 0)) (door_note supply o (2 * length asks) ∷ [])
@@ -69,17 +70,20 @@ pend_known : (g : ℕ) (supply : Supply) (o : OpeningNote) (before : List Note) 
 pend_known g supply o before modes instance h b = each-append (KnownAt g) before (door_note supply o 0 ∷ Pended (round_for supply o modes) ∷ []) b (h, (h, tt))
 
 -- the grant of a live interaction was opened
-pub interaction_known : (trail : List Note) (now : ℕ) (handle : Text) (r : RoundNote) → round_by_handle trail now handle ≡ Some r → (o : OpeningNote) × HasNote trail (Opened o) × (r.grant ≡ o.grant)
+pub interaction_known : (trail : List Note) (now : ℕ) (handle : Text) (r : RoundNote) → round_by_handle trail now handle ≡ Some r
+    → (o : OpeningNote) × HasNote trail (Opened o) × (r.grant ≡ o.grant)
 interaction_known trail now handle r e = at (interaction_by_handle now handle (grant_rows trail now)) refl (handle_is trail now handle ∙ e)
   where
-    at : (x : Option Interaction) → interaction_by_handle now handle (grant_rows trail now) ≡ x → option_map (λ (i : Interaction). i.round) x ≡ Some r → (o : OpeningNote) × HasNote trail (Opened o) × (r.grant ≡ o.grant)
+    at : (x : Option Interaction) → interaction_by_handle now handle (grant_rows trail now) ≡ x → option_map (λ (i : Interaction). i.round) x ≡ Some r
+        → (o : OpeningNote) × HasNote trail (Opened o) × (r.grant ≡ o.grant)
     at None f h = cc h
     at (Some i) f h =
         let k = found_row (λ round. same_text round.handle handle) trail now i f in
         let same : i.round ≡ r = cc h in (k.opening, k.opened, subst (λ (x : RoundNote). x.grant ≡ k.opening.grant) same k.grant_is)
 
 -- the notes of an action speak of known grants
-action_known : (supply : Supply) (trail : List Note) (call : Call) (action : Action) (g : ℕ) → IsSound trail → Cause trail supply.now call action → MoreCause trail supply.now action
+action_known : (supply : Supply) (trail : List Note) (call : Call) (action : Action) (g : ℕ) → IsSound trail → Cause trail supply.now call action
+    → MoreCause trail supply.now action
     → next_grant (reverse (outcome_of supply action).notes ++ trail) ≤ g → AreKnown g (outcome_of supply action).notes
 action_known supply trail call (TakeDecision r rights request) g sound a m p =
     let k = interaction_known trail supply.now m.0 r m.1 in
@@ -89,7 +93,8 @@ action_known supply trail call (TakeDecision r rights request) g sound a m p =
     (omega arith, tt)
 action_known supply trail call (OpenAtOnce o request) g sound a m p =
     let k : o.grant < g = new_known (outcome_of supply (OpenAtOnce o request)).notes trail o a.2 (inl refl) g p in
-    grant_known g supply o (Opened o ∷ Terms (terms_for o request) ∷ Approved o.grant [] ∷ []) request.asks request.single None (instance_of o) k (k, (k, (k, tt)))
+    grant_known g supply o (Opened o ∷ Terms (terms_for o request) ∷ Approved o.grant [] ∷ []) request.asks request.single None (instance_of o) k
+    (k, (k, (k, tt)))
 action_known supply trail call (OpenAsking o request modes) g sound a m p =
     let k : o.grant < g = new_known (outcome_of supply (OpenAsking o request modes)).notes trail o a.2 (inl refl) g p in
     pend_known g supply o (Opened o ∷ Terms (terms_for o request) ∷ []) modes (instance_of o) k (k, (k, tt))
@@ -105,11 +110,13 @@ action_known supply trail call (LastWrongReference o) g sound a m p =
 action_known supply trail call (RefuseAndFinalize o code) g sound a m p =
     let k : o.grant < g = old_known (outcome_of supply (RefuseAndFinalize o code)).notes trail o (names_known trail supply.now call o sound a.0) g p in (k, tt)
 action_known supply trail call (ModifyAtOnce o consent retired request) g sound a m p =
-    let k : o.grant < g = old_known (outcome_of supply (ModifyAtOnce o consent retired request)).notes trail o (names_known trail supply.now call o sound a.0) g p in
+    let k : o.grant < g = old_known (outcome_of supply (ModifyAtOnce o consent retired request)).notes trail o (names_known trail supply.now call o sound a.0) g
+    p in
     grant_known g supply o (retire retired ++ Terms (terms_for o request) ∷ Approved o.grant consent ∷ []) request.asks request.single None None k
     (known_retired g retired (Terms (terms_for o request) ∷ Approved o.grant consent ∷ []) (k, (k, tt)))
 action_known supply trail call (ModifyAsking o retired request modes) g sound a m p =
-    let k : o.grant < g = old_known (outcome_of supply (ModifyAsking o retired request modes)).notes trail o (names_known trail supply.now call o sound a.0) g p in
+    let k : o.grant < g = old_known (outcome_of supply (ModifyAsking o retired request modes)).notes trail o (names_known trail supply.now call o sound a.0) g
+    p in
     pend_known g supply o (retire retired ++ Terms (terms_for o request) ∷ []) modes None k (known_retired g retired (Terms (terms_for o request) ∷ []) (k, tt))
 action_known supply trail call (CancelGrant o) g sound a m p =
     let k : o.grant < g = old_known (outcome_of supply (CancelGrant o)).notes trail o (names_known trail supply.now call o sound a.0) g p in (k, tt)
@@ -131,10 +138,12 @@ past_known rules (e ∷ past) legal =
     let g = next_grant (reverse e.notes ++ trail) in
     let grows = sum_by-append (λ (n : Note). cond (is_opening n) 1 0) (reverse e.notes) trail in
     let more : next_grant trail ≤ g = omega arith in
-    let grants : next_grant (reverse (outcome_of supply action).notes ++ trail) ≤ g = subst (λ (ns : List Note). next_grant (reverse ns ++ trail) ≤ g) legal.0.notes (omega arith) in
+    let grants : next_grant (reverse (outcome_of supply action).notes ++ trail)
+    ≤ g = subst (λ (ns : List Note). next_grant (reverse ns ++ trail) ≤ g) legal.0.notes (omega arith) in
     each-append (KnownAt g) (reverse e.notes) trail
     (each-reverse (KnownAt g) e.notes (subst (AreKnown g) (sym legal.0.notes)
-    (action_known supply trail e.call action g (past_sound rules past legal.1) (cause_of rules supply trail e.call) (more_cause rules supply trail e.call) grants)))
+    (action_known supply trail e.call action g (past_sound rules past legal.1) (cause_of rules supply trail e.call) (more_cause rules supply trail e.call)
+    grants)))
     (each_more (KnownAt (next_grant trail)) (KnownAt g) trail (λ n. known_at_more (next_grant trail) g n more) (past_known rules past legal.1))
 
 -- ---- a number beyond all grants is new
@@ -142,13 +151,15 @@ past_known rules (e ∷ past) legal =
 pub below_not : (x g : ℕ) → x < g → (x == g) ≡ false
 below_not x g h = grind (arith, nat_tests)
 
-not_found : {B : Type 0} (look : Note → Option B) (g : ℕ) (ns : List Note) → ((n : Note) → KnownAt g n → look n ≡ None) → AreKnown g ns → first_of look ns ≡ None
+not_found : {B : Type 0} (look : Note → Option B) (g : ℕ) (ns : List Note) → ((n : Note) → KnownAt g n → look n ≡ None) → AreKnown g ns
+    → first_of look ns ≡ None
 not_found look g [] f h = refl
 not_found look g (n ∷ ns) f h = rw (f n h.0) (not_found look g ns f h.1)
 
 -- A note of grants below the number says nothing of it.
 says_nothing : (g : ℕ) (n : Note) → KnownAt g n
-    → (opening_in g n ≡ None) × (is_end_of g n ≡ false) × (terms_in g n ≡ None) × (consent_in g n ≡ None) × (door_in g n ≡ None) × (earliest_in g n ≡ None) × (state_change_in g n ≡ None)
+    → (opening_in g n ≡ None) × (is_end_of g n ≡ false) × (terms_in g n ≡ None) × (consent_in g n ≡ None) × (door_in g n ≡ None) × (earliest_in g n ≡ None)
+    × (state_change_in g n ≡ None)
 says_nothing g (Opened o) low = let b : (o.grant == g) ≡ false = below_not o.grant g low in (rw b refl, refl, refl, refl, refl, refl, refl)
 says_nothing g (Terms w) low = let b : (w.grant == g) ≡ false = below_not w.grant g low in (refl, refl, rw b refl, refl, refl, refl, refl)
 says_nothing g (Approved k c) low = let b : (k == g) ≡ false = below_not k g low in (refl, refl, refl, rw b refl, refl, refl, rw b refl)

@@ -50,7 +50,8 @@ all_issued (t ∷ ts) rest grants tokens =
     ∙ ap (λ (xs : List TokenRow). after_notes rest (of_rows grants xs)) (append_assoc tokens (new_token t ∷ []) (map new_token ts))
 
 -- A grant that is opened and granted at once is one new row, and its tokens are appended.
-pub opened_at_once : (o : OpeningNote) (w : TermsNote) (ts : List TokenNote) (v : Text) (e : ℕ) (grants : List GrantRow) (tokens : List TokenRow) → IsFree o.grant grants → w.grant ≡ o.grant
+pub opened_at_once : (o : OpeningNote) (w : TermsNote) (ts : List TokenNote) (v : Text) (e : ℕ) (grants : List GrantRow) (tokens : List TokenRow)
+    → IsFree o.grant grants → w.grant ≡ o.grant
     → after_notes (Opened o ∷ Terms w ∷ Approved o.grant [] ∷ (map Issued ts ++ Door o.grant v e ∷ [])) (of_rows grants tokens)
     ≡ of_rows (grants ++ with_door v e (with_approval [] (with_terms w (new_grant o))) ∷ []) (tokens ++ map new_token ts)
 opened_at_once o w ts v e grants tokens free same =
@@ -61,10 +62,12 @@ opened_at_once o w ts v e grants tokens free same =
     ap (λ (xs : List GrantRow). after_notes rest (of_rows (change_grant g (with_approval []) xs) tokens)) terms
     ∙ ap (λ (xs : List GrantRow). after_notes rest (of_rows xs tokens)) (change_last g (with_approval []) grants (with_terms w (new_grant o)) free refl)
     ∙ all_issued ts (Door g v e ∷ []) (grants ++ with_approval [] (with_terms w (new_grant o)) ∷ []) tokens
-    ∙ ap (λ (xs : List GrantRow). of_rows xs (tokens ++ map new_token ts)) (change_last g (with_door v e) grants (with_approval [] (with_terms w (new_grant o))) free refl)
+    ∙ ap (λ (xs : List GrantRow). of_rows xs (tokens ++ map new_token ts))
+    (change_last g (with_door v e) grants (with_approval [] (with_terms w (new_grant o))) free refl)
 
 -- A grant that is opened and waits for the user is one new row in a round.
-pub opened_asking : (o : OpeningNote) (w : TermsNote) (r : RoundNote) (v : Text) (e : ℕ) (grants : List GrantRow) (tokens : List TokenRow) → IsFree o.grant grants → w.grant ≡ o.grant → r.grant ≡ o.grant
+pub opened_asking : (o : OpeningNote) (w : TermsNote) (r : RoundNote) (v : Text) (e : ℕ) (grants : List GrantRow) (tokens : List TokenRow)
+    → IsFree o.grant grants → w.grant ≡ o.grant → r.grant ≡ o.grant
     → after_notes (Opened o ∷ Terms w ∷ Door o.grant v e ∷ Pended r ∷ []) (of_rows grants tokens)
     ≡ of_rows (grants ++ with_round r (with_door v e (with_terms w (new_grant o))) ∷ []) tokens
 opened_asking o w r v e grants tokens free same_terms same_round =
@@ -72,7 +75,8 @@ opened_asking o w r v e grants tokens free same_terms same_round =
     let terms : change_grant w.grant (with_terms w) (grants ++ new_grant o ∷ []) ≡ grants ++ with_terms w (new_grant o) ∷ [] =
     ap (λ n. change_grant n (with_terms w) (grants ++ new_grant o ∷ [])) same_terms ∙ change_last g (with_terms w) grants (new_grant o) free refl in
     ap (λ (xs : List GrantRow). of_rows (change_grant r.grant (with_round r) (change_grant g (with_door v e) xs)) tokens) terms
-    ∙ ap (λ (xs : List GrantRow). of_rows (change_grant r.grant (with_round r) xs) tokens) (change_last g (with_door v e) grants (with_terms w (new_grant o)) free refl)
+    ∙ ap (λ (xs : List GrantRow). of_rows (change_grant r.grant (with_round r) xs) tokens)
+    (change_last g (with_door v e) grants (with_terms w (new_grant o)) free refl)
     ∙ ap (λ n. of_rows (change_grant n (with_round r) (grants ++ with_door v e (with_terms w (new_grant o)) ∷ [])) tokens) same_round
     ∙ ap (λ (xs : List GrantRow). of_rows xs tokens) (change_last g (with_round r) grants (with_door v e (with_terms w (new_grant o))) free refl)
 
@@ -84,7 +88,8 @@ change_twice number f h (r ∷ rs) keeps =
     ap (λ (x : GrantRow). x ∷ change_grant number h (change_grant number f rs)) (at (number == r.number) refl)
     ∙ ap (λ (xs : List GrantRow). (if number == r.number then h (f r) else r) ∷ xs) (change_twice number f h rs keeps)
   where
-    at : (b : Bool) → (number == r.number) ≡ b → (if number == (if b then f r else r).number then h (if b then f r else r) else (if b then f r else r)) ≡ (if b then h (f r) else r)
+    at : (b : Bool) → (number == r.number) ≡ b
+        → (if number == (if b then f r else r).number then h (if b then f r else r) else (if b then f r else r)) ≡ (if b then h (f r) else r)
     at true e = let same : (number == (f r).number) ≡ true = ap (λ n. number == n) (keeps r) ∙ e in rw same refl
     at false e = rw e refl
 
@@ -134,7 +139,8 @@ filter_same {A} p q (x ∷ xs) h =
     ap (λ b. cond b (x ∷ filter p xs) (filter p xs)) (h x (inl refl)) ∙ ap (λ (ys : List A). cond (q x) (x ∷ ys) ys) (filter_same p q xs (λ y k. h y (inr k)))
 
 -- among some rows: a row of the grant is met by its serial, and a row of another grant by none
-met : (g : ℕ) (whole rows : List TokenRow) (row : TokenRow) → HaveOneSerial whole → ((x : TokenRow) → HasItem rows x → HasItem whole x) → HasItem whole row → (row.grant == g) ≡ false
+met : (g : ℕ) (whole rows : List TokenRow) (row : TokenRow) → HaveOneSerial whole → ((x : TokenRow) → HasItem rows x → HasItem whole x) → HasItem whole row
+    → (row.grant == g) ≡ false
     → is_apart (map token_of (filter (λ (x : TokenRow). x.grant == g) rows)) row ≡ true
 met g whole [] row one sub has other = refl
 met g whole (x ∷ xs) row one sub has other = at (x.grant == g) refl (met g whole xs row one (λ y k. sub y (inr k)) has other)
@@ -144,13 +150,15 @@ met g whole (x ∷ xs) row one sub has other = at (x.grant == g) refl (met g who
     at false e rest = rest
     at true e rest = apart (x.serial == row.serial) refl
       where
-        apart : (c : Bool) → (x.serial == row.serial) ≡ c → (not (x.serial == row.serial) && is_apart (map token_of (filter (λ (y : TokenRow). y.grant == g) xs)) row) ≡ true
+        apart : (c : Bool) → (x.serial == row.serial) ≡ c
+            → (not (x.serial == row.serial) && is_apart (map token_of (filter (λ (y : TokenRow). y.grant == g) xs)) row) ≡ true
         apart false f = rw f rest
         apart true f =
             let same : x ≡ row = one x row (sub x (inl refl)) has (eqb-true x.serial row.serial f) in
             absurd (let k : true ≡ false = sym e ∙ ap (λ (y : TokenRow). y.grant == g) same ∙ other in cc k)
 
-own : (g : ℕ) (rows : List TokenRow) (row : TokenRow) → HasItem rows row → (row.grant == g) ≡ true → is_apart (map token_of (filter (λ (x : TokenRow). x.grant == g) rows)) row ≡ false
+own : (g : ℕ) (rows : List TokenRow) (row : TokenRow) → HasItem rows row → (row.grant == g) ≡ true
+    → is_apart (map token_of (filter (λ (x : TokenRow). x.grant == g) rows)) row ≡ false
 own g [] row h e = absurd h
 own g (x ∷ xs) row (inl same) e =
     let here : (x.grant == g) ≡ true = ap (λ (y : TokenRow). y.grant == g) (sym same) ∙ e in
@@ -165,13 +173,16 @@ own g (x ∷ xs) row (inr h) e = at (x.grant == g) (own g xs row h e)
 
 -- To retire the tokens of all rows of a grant is to take these rows out.
 pub grant_retired : (g : ℕ) (rest : List Note) (grants : List GrantRow) (tokens : List TokenRow) → HaveOneSerial tokens
-    → after_notes (retire (map token_of (filter (λ (row : TokenRow). row.grant == g) tokens)) ++ rest) (of_rows grants tokens) ≡ after_notes rest (of_rows grants (filter (λ (row : TokenRow). not (row.grant == g)) tokens))
+    → after_notes (retire (map token_of (filter (λ (row : TokenRow). row.grant == g) tokens)) ++ rest) (of_rows grants tokens)
+    ≡ after_notes rest (of_rows grants (filter (λ (row : TokenRow). not (row.grant == g)) tokens))
 grant_retired g rest grants tokens one =
     all_retired (map token_of (filter (λ (row : TokenRow). row.grant == g) tokens)) rest grants tokens
     ∙ ap (λ (xs : List TokenRow). after_notes rest (of_rows grants xs))
-    (filter_same (is_apart (map token_of (filter (λ (row : TokenRow). row.grant == g) tokens))) (λ (row : TokenRow). not (row.grant == g)) tokens (λ x h. by x h (x.grant == g) refl))
+    (filter_same (is_apart (map token_of (filter (λ (row : TokenRow). row.grant == g) tokens))) (λ (row : TokenRow). not (row.grant == g)) tokens
+    (λ x h. by x h (x.grant == g) refl))
   where
-    by : (x : TokenRow) → HasItem tokens x → (b : Bool) → (x.grant == g) ≡ b → is_apart (map token_of (filter (λ (row : TokenRow). row.grant == g) tokens)) x ≡ not (x.grant == g)
+    by : (x : TokenRow) → HasItem tokens x → (b : Bool) → (x.grant == g) ≡ b
+        → is_apart (map token_of (filter (λ (row : TokenRow). row.grant == g) tokens)) x ≡ not (x.grant == g)
     by x h true e = own g tokens x h e ∙ sym (ap not e)
     by x h false e = met g tokens tokens x one (λ y k. k) h e ∙ sym (ap not e)
 
@@ -180,7 +191,9 @@ same_back a b = grind (arith, nat_tests)
 
 -- the same, as the tables' code does it
 pub grant_dropped : (g : ℕ) (rest : List Note) (grants : List GrantRow) (tokens : List TokenRow) → HaveOneSerial tokens
-    → after_notes (retire (map token_of (filter (λ (row : TokenRow). row.grant == g) tokens)) ++ rest) (of_rows grants tokens) ≡ after_notes rest (of_rows grants (drop_tokens_of g tokens))
+    → after_notes (retire (map token_of (filter (λ (row : TokenRow). row.grant == g) tokens)) ++ rest) (of_rows grants tokens)
+    ≡ after_notes rest (of_rows grants (drop_tokens_of g tokens))
 grant_dropped g rest grants tokens one =
     grant_retired g rest grants tokens one
-    ∙ ap (λ (xs : List TokenRow). after_notes rest (of_rows grants xs)) (filter_same (λ (row : TokenRow). not (row.grant == g)) (λ (row : TokenRow). not (g == row.grant)) tokens (λ x h. ap not (same_back x.grant g)))
+    ∙ ap (λ (xs : List TokenRow). after_notes rest (of_rows grants xs))
+    (filter_same (λ (row : TokenRow). not (row.grant == g)) (λ (row : TokenRow). not (g == row.grant)) tokens (λ x h. ap not (same_back x.grant g)))

@@ -40,23 +40,29 @@ sound_fresh g s (n ∷ ns) h k le = at n h.0 (sound_fresh g s ns h.1 k le)
     at _ low e = e
 
 -- the tokens for some asks, and what comes after
-issue_follow : (supply : Supply) (o : OpeningNote) (asks : List Ask) (i : ℕ) (trail : List Note) (v : Text) (x : ℕ) → GoesOn trail supply.now o.grant → AreFresh supply.first trail
+issue_follow : (supply : Supply) (o : OpeningNote) (asks : List Ask) (i : ℕ) (trail : List Note) (v : Text) (x : ℕ) → GoesOn trail supply.now o.grant
+    → AreFresh supply.first trail
     → CanAllFollow supply.now trail (map Issued (tokens_for supply o asks i) ++ Door o.grant v x ∷ [])
 issue_follow supply o [] i trail v x going fresh = (tt, tt)
 issue_follow supply o (ask ∷ asks) i trail v x going fresh =
     ((going, fresh (supply.first + i) (omega arith)), issue_follow supply o asks (i + 2) (Issued (token_for supply o ask i) ∷ trail) v x going fresh)
 
 -- an approval, and the tokens
-approve_follow : (supply : Supply) (o : OpeningNote) (consent : List Right) (asks : List Ask) (trail : List Note) (v : Text) (x : ℕ) → GoesOn trail supply.now o.grant → AreFresh supply.first trail
+approve_follow : (supply : Supply) (o : OpeningNote) (consent : List Right) (asks : List Ask) (trail : List Note) (v : Text) (x : ℕ)
+    → GoesOn trail supply.now o.grant → AreFresh supply.first trail
     → CanAllFollow supply.now trail (Approved o.grant consent ∷ (map Issued (tokens_for supply o asks 0) ++ Door o.grant v x ∷ []))
-approve_follow supply o consent asks trail v x going fresh =
-    (going, issue_follow supply o asks 0 (Approved o.grant consent ∷ trail) v x (finalized_same (Approved o.grant consent) trail supply.now o.grant going tt ∙ going) fresh)
+approve_follow supply o consent asks trail v x going fresh = (
+  going,
+  issue_follow supply o asks 0 (Approved o.grant consent ∷ trail) v x
+      (finalized_same (Approved o.grant consent) trail supply.now o.grant going tt ∙ going) fresh,
+)
 
 round_later : (supply : Supply) (o : OpeningNote) (modes : Modes) → nat_le (round_for supply o modes).over supply.now ≡ false
 round_later supply o modes = grind (arith, nat_tests)
 
 -- the tokens of a modification, and what comes after
-retire_follow : (supply : Supply) (g : ℕ) (ts : List TokenNote) (trail rest xs ys : List Note) → SerialsBelow supply.first ts → GoesOn trail supply.now g → AreFresh supply.first trail
+retire_follow : (supply : Supply) (g : ℕ) (ts : List TokenNote) (trail rest xs ys : List Note) → SerialsBelow supply.first ts → GoesOn trail supply.now g
+    → AreFresh supply.first trail
     → ((after : List Note) → GoesOn after supply.now g → AreFresh supply.first after → CanAllFollow supply.now after ((rest ++ xs) ++ ys))
     → CanAllFollow supply.now trail (((retire ts ++ rest) ++ xs) ++ ys)
 retire_follow supply g [] trail rest xs ys low going fresh h = h trail going fresh
@@ -83,7 +89,8 @@ live_goes IsFinalized true true h = cc h
 live_goes IsFinalized true false h = cc h
 live_goes IsFinalized false b h = cc h
 
-pub action_follows : (supply : Supply) (trail : List Note) (call : Call) (action : Action) → IsSound trail → AreKnown (next_grant trail) trail → supply.first ≡ first_serial trail
+pub action_follows : (supply : Supply) (trail : List Note) (call : Call) (action : Action) → IsSound trail → AreKnown (next_grant trail) trail
+    → supply.first ≡ first_serial trail
     → Cause trail supply.now call action → MoreCause trail supply.now action → CanAllFollow supply.now trail (outcome_of supply action).notes
 action_follows supply trail call (TakeDecision r rights request) sound known first a m = (tt, tt)
 action_follows supply trail call (OpenAtOnce o request) sound known first a m =
@@ -95,12 +102,14 @@ action_follows supply trail call (OpenAsking o request modes) sound known first 
     ((new, m), (tt, (tt, ((opened_goes trail supply.now o new m, round_later supply o modes), tt))))
 action_follows supply trail call (RenewDoor o) sound known first a m = (tt, tt)
 action_follows supply trail call (CollectDecision o w d asks) sound known first a m =
-    approve_follow supply o d.rights asks trail _ _ (named_goes trail supply.now a.0.0 o a.0.2) (λ k le. sound_fresh (next_grant trail) (first_serial trail) trail sound k (omega arith))
+    approve_follow supply o d.rights asks trail _ _ (named_goes trail supply.now a.0.0 o a.0.2)
+    (λ k le. sound_fresh (next_grant trail) (first_serial trail) trail sound k (omega arith))
 action_follows supply trail call (WrongReference o) sound known first a m = (tt, tt)
 action_follows supply trail call (LastWrongReference o) sound known first a m = (tt, (tt, tt))
 action_follows supply trail call (RefuseAndFinalize o code) sound known first a m = (tt, tt)
 action_follows supply trail call (ModifyAtOnce o consent retired request) sound known first a m =
-    retire_follow supply o.grant retired trail (Terms (terms_for o request) ∷ Approved o.grant consent ∷ []) (map Issued (tokens_for supply o request.asks 0)) (door_note supply o (2 * length request.asks) ∷ [])
+    retire_follow supply o.grant retired trail (Terms (terms_for o request) ∷ Approved o.grant consent ∷ []) (map Issued (tokens_for supply o request.asks 0))
+    (door_note supply o (2 * length request.asks) ∷ [])
     (modified_below trail supply.now o retired supply.first sound a.2 (omega arith)) (named_goes trail supply.now a.0.0 o a.0.2)
     (λ k le. sound_fresh (next_grant trail) (first_serial trail) trail sound k (omega arith))
     (λ after going fresh. (tt, approve_follow supply o consent request.asks (Terms (terms_for o request) ∷ after) _ _ going fresh))
@@ -112,9 +121,19 @@ action_follows supply trail call (CancelGrant o) sound known first a m = (tt, tt
 action_follows supply trail call (RotateToken o u key) sound known first a m =
     let u_sound = sound_note (next_grant trail) (first_serial trail) trail (Issued u) sound (managed_issued trail supply.now a.1.0 u a.1.2).0 in
     let low : u.serial < first_serial trail = u_sound.0 in
-    let going : is_finalized (grant_state trail u.grant supply.now) ≡ false = live_goes (grant_state trail u.grant supply.now) (not (list_any (is_retirement u.serial) trail)) (nat_lt supply.now u.until) a.2 in
+    let going : is_finalized (grant_state trail u.grant supply.now)
+    ≡ false = live_goes (grant_state trail u.grant supply.now) (not (list_any (is_retirement u.serial) trail)) (nat_lt supply.now u.until) a.2 in
     let same : o.grant ≡ u.grant = (opening_noted trail u.grant o a.3).1 in
-    let b : (u.serial == supply.first + 0) ≡ false = below_not u.serial (supply.first + 0) (omega arith) in
-    (tt, ((subst (λ n. is_finalized (grant_state trail n supply.now) ≡ false) (sym same) going, rw b (sound_fresh (next_grant trail) (first_serial trail) trail sound (supply.first + 0) (omega arith))), tt))
+    let b : (u.serial == supply.first + 0) ≡ false = below_not u.serial (supply.first + 0) (omega arith) in (
+      tt,
+      (
+        (
+          subst (λ n. is_finalized (grant_state trail n supply.now) ≡ false) (sym same) going,
+          rw b
+              (sound_fresh (next_grant trail) (first_serial trail) trail sound (supply.first + 0) (omega arith)),
+        ),
+        tt,
+      ),
+    )
 action_follows supply trail call (RevokeToken u false) sound known first a m = (tt, tt)
 action_follows supply trail call _ sound known first a m = tt

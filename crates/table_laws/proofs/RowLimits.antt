@@ -32,12 +32,14 @@ use Rattle.table_laws.proofs.TablesThroughCalls.{legal_notes}
 use Rattle.table_laws.proofs.SerialsBelowNext.{item-reverse, item_in}
 
 -- a row is that of an opened grant
-row_opened : (trail : List Note) (now : ℕ) (ns : List Note) (row : GrantRow) → HasItem (filter_map (grant_row_in trail now) ns) row → (o : OpeningNote) × (row ≡ grant_row trail now o)
+row_opened : (trail : List Note) (now : ℕ) (ns : List Note) (row : GrantRow) → HasItem (filter_map (grant_row_in trail now) ns) row
+    → (o : OpeningNote) × (row ≡ grant_row trail now o)
 row_opened trail now [] row h = absurd h
 row_opened trail now (Opened o ∷ ns) row h = at (not (is_finalized (grant_state trail o.grant now))) h (row_opened trail now ns row)
   where
     at : (b : Bool) → HasItem (cons_option (some_if b (grant_row trail now o)) (filter_map (grant_row_in trail now) ns)) row
-        → (HasItem (filter_map (grant_row_in trail now) ns) row → (p : OpeningNote) × (row ≡ grant_row trail now p)) → (p : OpeningNote) × (row ≡ grant_row trail now p)
+        → (HasItem (filter_map (grant_row_in trail now) ns) row → (p : OpeningNote) × (row ≡ grant_row trail now p))
+        → (p : OpeningNote) × (row ≡ grant_row trail now p)
     at true (inl e) rest = (o, e)
     at true (inr k) rest = rest k
     at false k rest = rest k
@@ -58,7 +60,8 @@ round_few trail g (IsPending r) few = few r refl
 round_few trail g IsApproved few = tt
 round_few trail g IsFinalized few = tt
 
-wrongs_few : (trail : List Note) (now : ℕ) → ((g : ℕ) (r : RoundNote) → grant_state trail g now ≡ IsPending r → wrongs_of trail g < wrong_limit) → All HasFewWrongs (grant_rows trail now)
+wrongs_few : (trail : List Note) (now : ℕ) → ((g : ℕ) (r : RoundNote) → grant_state trail g now ≡ IsPending r → wrongs_of trail g < wrong_limit)
+    → All HasFewWrongs (grant_rows trail now)
 wrongs_few trail now few k d inside =
     let row = get_or (grant_rows trail now) k d in
     let found = row_opened trail now trail row (item-reverse (filter_map (grant_row_in trail now) trail) row (item_in (grant_rows trail now) k d inside)) in

@@ -43,7 +43,8 @@ item_in (x ∷ xs) zero d h = inl refl
 item_in (x ∷ xs) (suc i) d h = inr (item_in xs i d (omega arith))
 
 -- a row is that of an issued token
-row_issued : (trail : List Note) (now : ℕ) (ns : List Note) (z : TokenRow) → HasItem (filter_map (token_row_in trail now) ns) z → (t : TokenNote) × HasNote ns (Issued t) × (z ≡ token_row trail t)
+row_issued : (trail : List Note) (now : ℕ) (ns : List Note) (z : TokenRow) → HasItem (filter_map (token_row_in trail now) ns) z
+    → (t : TokenNote) × HasNote ns (Issued t) × (z ≡ token_row trail t)
 row_issued trail now [] z h = absurd h
 row_issued trail now (Issued t ∷ ns) z h = at (is_managed trail now t) h (row_issued trail now ns z)
   where
@@ -71,7 +72,8 @@ rows_below trail now sound k d inside =
     let low : f.0.serial < first_serial trail = s.0 in
     let same : z.serial ≡ f.0.serial = ap (λ (row : TokenRow). row.serial) f.2 in omega (arith, low, same)
 
-pub few_serials : (fits : Call → Type 0) (rules : Setup) (h : List Event) → FitFew fits → Legal (machine_of fits) rules h → length h < 2 ^ 58 → first_serial (reverse (notes_of h)) < 2 ^ 63
+pub few_serials : (fits : Call → Type 0) (rules : Setup) (h : List Event) → FitFew fits → Legal (machine_of fits) rules h → length h < 2 ^ 58
+    → first_serial (reverse (notes_of h)) < 2 ^ 63
 few_serials fits rules h few legal short =
     let past = legal_past rules h (legal-weaker gnap_answer fits HasFewAsks Lapse rules h few legal) in
     let le = few_values rules (reverse h) past in

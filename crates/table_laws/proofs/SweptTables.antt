@@ -51,12 +51,14 @@ row_later : (trail : List Note) (o : OpeningNote) (ended : Bool) (change : Optio
 row_later trail o true change now later le = refl
 row_later trail o false change now later le = at (nat_le o.end now) (nat_le o.end later) (later_too o.end now later le) refl
   where
-    approved : (b : Bool) → nat_le o.end later ≡ b → row_when trail o (if b then IsFinalized else IsApproved) ≡ option_and_then (stays later) (row_when trail o IsApproved)
+    approved : (b : Bool) → nat_le o.end later ≡ b
+        → row_when trail o (if b then IsFinalized else IsApproved) ≡ option_and_then (stays later) (row_when trail o IsApproved)
     approved true e = rw e refl
     approved false e = rw e refl
 
     pending : (r : RoundNote) (b c d : Bool) → nat_le o.end later ≡ b → nat_le r.over later ≡ d → (c ≡ true → d ≡ true)
-        → row_when trail o (if b then IsFinalized else if d then IsFinalized else IsPending r) ≡ option_and_then (stays later) (row_when trail o (if c then IsFinalized else IsPending r))
+        → row_when trail o (if b then IsFinalized else if d then IsFinalized else IsPending r)
+        ≡ option_and_then (stays later) (row_when trail o (if c then IsFinalized else IsPending r))
     pending r true true d e f more = refl
     pending r false true true e f more = refl
     pending r false true false e f more = let k = more refl in cc k
@@ -64,12 +66,15 @@ row_later trail o false change now later le = at (nat_le o.end now) (nat_le o.en
     pending r false false true e f more = rw (e, f) refl
     pending r false false false e f more = rw (e, f) refl
 
-    by : (change : Option StateChange) (b : Bool) → nat_le o.end later ≡ b → row_when trail o (if b then IsFinalized else state_after change later) ≡ option_and_then (stays later) (row_when trail o (state_after change now))
+    by : (change : Option StateChange) (b : Bool) → nat_le o.end later ≡ b
+        → row_when trail o (if b then IsFinalized else state_after change later) ≡ option_and_then (stays later) (row_when trail o (state_after change now))
     by None b e = approved b e
     by (Some ToApproved) b e = approved b e
     by (Some (ToPending r)) b e = pending r b (nat_le r.over now) (nat_le r.over later) e refl (later_too r.over now later le)
 
-    at : (a b : Bool) → (a ≡ true → b ≡ true) → nat_le o.end later ≡ b → row_when trail o (if b then IsFinalized else state_after change later) ≡ option_and_then (stays later) (row_when trail o (if a then IsFinalized else state_after change now))
+    at : (a b : Bool) → (a ≡ true → b ≡ true) → nat_le o.end later ≡ b
+        → row_when trail o (if b then IsFinalized else state_after change later)
+        ≡ option_and_then (stays later) (row_when trail o (if a then IsFinalized else state_after change now))
     at true true more e = refl
     at true false more e = let k = more refl in cc k
     at false b more e = by change b e
@@ -79,7 +84,8 @@ pub grants_swept : (trail : List Note) (now later : ℕ) → IsOpenedOnce trail 
 grants_swept trail now later once le =
     grants_changed (stays later) trail trail now later one ∙ sym (filter_is (λ (row : GrantRow). not (is_row_over later row)) (grant_rows trail now))
   where
-    state : (o : OpeningNote) (n : ℕ) → HasNote trail (Opened o) → grant_state trail o.grant n ≡ state_when (list_any (is_end_of o.grant) trail) o.end (first_of (state_change_in o.grant) trail) n
+    state : (o : OpeningNote) (n : ℕ) → HasNote trail (Opened o)
+        → grant_state trail o.grant n ≡ state_when (list_any (is_end_of o.grant) trail) o.end (first_of (state_change_in o.grant) trail) n
     state o n h = rw (once o h) refl
 
     one : (o : OpeningNote) → HasNote trail (Opened o) → grant_row_in trail later (Opened o) ≡ option_and_then (stays later) (grant_row_in trail now (Opened o))
@@ -91,42 +97,52 @@ grants_swept trail now later once le =
 -- ---- tokens
 
 -- An opened grant has a row where it isn't finalized.
-pub has_row : (trail : List Note) (now g : ℕ) → is_some (first_of (opening_in g) trail) ≡ true → has_grant g (grant_rows trail now) ≡ not (is_finalized (grant_state trail g now))
+pub has_row : (trail : List Note) (now g : ℕ) → is_some (first_of (opening_in g) trail) ≡ true
+    → has_grant g (grant_rows trail now) ≡ not (is_finalized (grant_state trail g now))
 has_row trail now g h =
-    sym (any-reverse (λ (row : GrantRow). row.number == g) (grant_rows trail now)) ∙ any_found (λ (row : GrantRow). row.number == g) (reverse (grant_rows trail now))
+    sym (any-reverse (λ (row : GrantRow). row.number == g) (grant_rows trail now))
+    ∙ any_found (λ (row : GrantRow). row.number == g) (reverse (grant_rows trail now))
     ∙ ap (λ (row : Option GrantRow). is_some row) (number_is trail now g) ∙ found (is_finalized (grant_state trail g now)) (first_of (opening_in g) trail) h
   where
-    found : (f : Bool) (o : Option OpeningNote) → is_some o ≡ true → is_some (option_and_then (λ (p : OpeningNote). some_if (not f) (grant_row trail now p)) o) ≡ not f
+    found : (f : Bool) (o : Option OpeningNote) → is_some o ≡ true
+        → is_some (option_and_then (λ (p : OpeningNote). some_if (not f) (grant_row trail now p)) o) ≡ not f
     found f None e = cc e
     found true (Some p) e = refl
     found false (Some p) e = refl
 
 -- And with them their tokens.
-pub tokens_swept : (trail : List Note) (now later : ℕ) → HaveGrants trail → now ≤ later → token_rows trail later ≡ sweep_tokens (grant_rows trail later) (token_rows trail now)
+pub tokens_swept : (trail : List Note) (now later : ℕ) → HaveGrants trail → now ≤ later
+    → token_rows trail later ≡ sweep_tokens (grant_rows trail later) (token_rows trail now)
 tokens_swept trail now later whole le =
     tokens_changed (λ (row : TokenRow). some_if (has_grant row.grant (grant_rows trail later)) row) trail trail now later one
     ∙ sym (filter_is (λ (row : TokenRow). has_grant row.grant (grant_rows trail later)) (token_rows trail now))
   where
-    by : (t : TokenNote) (r a b : Bool) (row : TokenRow) → (a ≡ true → b ≡ true) → some_if (not r && not b) row ≡ option_and_then (λ (x : TokenRow). some_if (not b) row) (some_if (not r && not a) row)
+    by : (t : TokenNote) (r a b : Bool) (row : TokenRow) → (a ≡ true → b ≡ true)
+        → some_if (not r && not b) row ≡ option_and_then (λ (x : TokenRow). some_if (not b) row) (some_if (not r && not a) row)
     by t true a b row more = refl
     by t false true true row more = refl
     by t false true false row more = let k = more refl in cc k
     by t false false b row more = refl
 
     shown : (t : TokenNote) (r a b c : Bool) → c ≡ not b → (a ≡ true → b ≡ true) → has_grant t.grant (grant_rows trail later) ≡ c
-        → some_if (not r && not b) (token_row trail t) ≡ option_and_then (λ (row : TokenRow). some_if (has_grant row.grant (grant_rows trail later)) row) (some_if (not r && not a) (token_row trail t))
+        → some_if (not r && not b) (token_row trail t)
+        ≡ option_and_then (λ (row : TokenRow). some_if (has_grant row.grant (grant_rows trail later)) row) (some_if (not r && not a) (token_row trail t))
     shown t true a b c e more h = refl
     shown t false true true c e more h = refl
     shown t false true false c e more h = let k = more refl in cc k
     shown t false false true c e more h = rw (h, e) refl
     shown t false false false c e more h = rw (h, e) refl
 
-    one : (t : TokenNote) → HasNote trail (Issued t) → token_row_in trail later (Issued t) ≡ option_and_then (λ (row : TokenRow). some_if (has_grant row.grant (grant_rows trail later)) row) (token_row_in trail now (Issued t))
-    one t h = shown t (list_any (is_replacement t.serial) trail) (is_finalized (grant_state trail t.grant now)) (is_finalized (grant_state trail t.grant later)) _ refl
+    one : (t : TokenNote) → HasNote trail (Issued t)
+        → token_row_in trail later (Issued t)
+        ≡ option_and_then (λ (row : TokenRow). some_if (has_grant row.grant (grant_rows trail later)) row) (token_row_in trail now (Issued t))
+    one t h = shown t (list_any (is_replacement t.serial) trail) (is_finalized (grant_state trail t.grant now)) (is_finalized (grant_state trail t.grant later))
+        _ refl
         (finalized_later trail t.grant now later le) (has_row trail later t.grant (whole t h))
 
 -- Time sweeps the tables.
-pub tables_swept : (trail : List Note) (now later : ℕ) → IsOpenedOnce trail → HaveGrants trail → now ≤ later → tables_of trail later ≡ sweep later (tables_of trail now)
+pub tables_swept : (trail : List Note) (now later : ℕ) → IsOpenedOnce trail → HaveGrants trail → now ≤ later
+    → tables_of trail later ≡ sweep later (tables_of trail now)
 tables_swept trail now later once whole le =
     ap (λ (rows : List TokenRow). record { grants = grant_rows trail later; tokens = rows }) (tokens_swept trail now later whole le)
     ∙ ap (λ (rows : List GrantRow). record { grants = rows; tokens = sweep_tokens rows (token_rows trail now) }) (grants_swept trail now later once le)

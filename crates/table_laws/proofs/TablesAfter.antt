@@ -18,7 +18,8 @@ tables_next note trail now can =
     one ∙ ap (λ (rows : List TokenRow). record { grants = grants_after note (grant_rows trail now); tokens = rows }) (tokens_next note trail now can)
 
 -- More notes change them one after another.
-pub tables_after : (notes trail : List Note) (now : ℕ) → CanAllFollow now trail notes → tables_of (reverse notes ++ trail) now ≡ after_notes notes (tables_of trail now)
+pub tables_after : (notes trail : List Note) (now : ℕ) → CanAllFollow now trail notes
+    → tables_of (reverse notes ++ trail) now ≡ after_notes notes (tables_of trail now)
 tables_after [] trail now can = refl
 tables_after (note ∷ notes) trail now can =
     ap (λ (ns : List Note). tables_of (ns ++ trail) now) (reverse-cons note notes)

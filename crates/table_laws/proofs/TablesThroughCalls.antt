@@ -75,8 +75,10 @@ kept_noted rules notes now draw call legal =
     let more = (gnap_answer rules notes now draw call).notes in
     let turned : reverse (notes ++ more) ≡ reverse more ++ trail = reverse-append notes more in
     let can : CanAllFollow now trail more =
-    action_follows supply trail call (action_of rules supply trail call) legal.sound legal.known refl (cause_of rules supply trail call) (more_cause rules supply trail call) in
-    let tables : tables_of (reverse (notes ++ more)) now ≡ after_notes more (tables_of trail now) = ap (λ ns. tables_of ns now) turned ∙ tables_after more trail now can in
+    action_follows supply trail call (action_of rules supply trail call) legal.sound legal.known refl (cause_of rules supply trail call)
+    (more_cause rules supply trail call) in
+    let tables : tables_of (reverse (notes ++ more)) now ≡ after_notes more (tables_of trail now) = ap (λ ns. tables_of ns now) turned
+    ∙ tables_after more trail now can in
     let opened = count-append is_opening (reverse more) trail in
     let opened_more = count-reverse is_opening more in
     let next : next_grant (reverse (notes ++ more)) ≡ next_grant trail + count_by is_opening more =
@@ -91,30 +93,36 @@ kept_noted rules notes now draw call legal =
     ∙ ap (λ n. record { tables = after_notes more (tables_of trail now); next = next_grant trail + count_by is_opening more; first = n; latest = now }) first
 
 -- Nothing is kept of the empty history.
-pub stands-nothing : (fits : Call → Type 0) (rules : Setup) → StandsByRows fits rules (record { tables = record { grants = []; tokens = [] }; next = 1; first = 1; latest = 0 }) []
+pub stands-nothing : (fits : Call → Type 0) (rules : Setup)
+    → StandsByRows fits rules (record { tables = record { grants = []; tokens = [] }; next = 1; first = 1; latest = 0 }) []
 stands-nothing fits rules = record { is_legal = legal-nil (machine_of fits) rules; kept_is = refl }
 
 -- What was kept, swept.
-pub swept_is : (fits : Call → Type 0) (rules : Setup) (kept : Kept) (h : List Event) (moment : ℕ) → FitFew fits → StandsByRows fits rules kept h → at_moment (max kept.latest moment) kept ≡ kept_of (notes_of h) (max (latest_of h 0) moment)
+pub swept_is : (fits : Call → Type 0) (rules : Setup) (kept : Kept) (h : List Event) (moment : ℕ) → FitFew fits → StandsByRows fits rules kept h
+    → at_moment (max kept.latest moment) kept ≡ kept_of (notes_of h) (max (latest_of h 0) moment)
 swept_is fits rules kept h moment few stands =
     let legal = legal_notes fits rules h few stands.is_legal in
     let at : max kept.latest moment ≡ max (latest_of h 0) moment = ap (λ (k : Kept). max k.latest moment) stands.kept_is in
     ap (λ n. at_moment n kept) at ∙ ap (at_moment (max (latest_of h 0) moment)) stands.kept_is
     ∙ sym (kept_swept (notes_of h) (latest_of h 0) (max (latest_of h 0) moment) legal.whole (omega arith))
 
-stands-next : (fits : Call → Type 0) (rules : Setup) (h : List Event) (k moment : ℕ) (draw : List ℕ) (call : Call) → FitFew fits → Legal (machine_of fits) rules h → fits call → moment ≤ last_moment
-    → StandsByRows fits rules (with_notes (gnap_answer rules (notes_of h) (max (latest_of h 0) moment) draw call).notes (kept_of (notes_of h) (max (latest_of h 0) moment))) (h ++ entry_of (machine_of fits) rules h k moment draw call ∷ [])
+stands-next : (fits : Call → Type 0) (rules : Setup) (h : List Event) (k moment : ℕ) (draw : List ℕ) (call : Call) → FitFew fits
+    → Legal (machine_of fits) rules h → fits call → moment ≤ last_moment
+    → StandsByRows fits rules (with_notes (gnap_answer rules (notes_of h) (max (latest_of h 0) moment) draw call).notes
+    (kept_of (notes_of h) (max (latest_of h 0) moment))) (h ++ entry_of (machine_of fits) rules h k moment draw call ∷ [])
 stands-next fits rules h k moment draw call few legal fit time =
     let e : Event = entry_of (machine_of fits) rules h k moment draw call in
     let at : latest_of h moment ≡ max (latest_of h 0) moment = now-max h moment in
-    let added : e.notes ≡ (gnap_answer rules (notes_of h) (max (latest_of h 0) moment) draw call).notes = ap (λ n. (gnap_answer rules (notes_of h) n draw call).notes) at in
+    let added : e.notes ≡ (gnap_answer rules (notes_of h) (max (latest_of h 0) moment) draw call).notes = ap
+    (λ n. (gnap_answer rules (notes_of h) n draw call).notes) at in
     let last : latest_of (h ++ e ∷ []) 0 ≡ max (latest_of h 0) moment =
     (let a = now-append h e 0 in let b = now-max h (max moment 0) in grind (arith, a, b)) in
     let all : notes_of (h ++ e ∷ []) ≡ notes_of h ++ (gnap_answer rules (notes_of h) (max (latest_of h 0) moment) draw call).notes =
     notes-append h (e ∷ []) ∙ ap (λ x. notes_of h ++ x) (append-nil e.notes ∙ added) in
     record {
       is_legal = legal-append (machine_of fits) rules h e legal (record { fits = fit; in_time = time; reply = refl; notes = refl });
-      kept_is = sym (ap (λ ns. kept_of ns (latest_of (h ++ e ∷ []) 0)) all ∙ ap (kept_of (notes_of h ++ (gnap_answer rules (notes_of h) (max (latest_of h 0) moment) draw call).notes)) last
+      kept_is = sym (ap (λ ns. kept_of ns (latest_of (h ++ e ∷ []) 0)) all
+          ∙ ap (kept_of (notes_of h ++ (gnap_answer rules (notes_of h) (max (latest_of h 0) moment) draw call).notes)) last
           ∙ kept_noted rules (notes_of h) (max (latest_of h 0) moment) draw call (legal_notes fits rules h few legal));
     }
 
@@ -136,7 +144,8 @@ answers-by_rows fits rules kept after h moment draw call reply few stands fit ti
       stands_now = λ k.
           let next = stands-next fits rules h k moment draw call few stands.is_legal fit time in
           let is : after ≡ with_notes (gnap_answer rules (notes_of h) now draw call).notes (kept_of (notes_of h) now) =
-          changed ∙ ap (λ (o : Outcome). with_notes o.notes (at_moment (max kept.latest moment) kept)) same ∙ ap (with_notes (gnap_answer rules (notes_of h) now draw call).notes) swept_same in
+          changed ∙ ap (λ (o : Outcome). with_notes o.notes (at_moment (max kept.latest moment) kept)) same
+          ∙ ap (with_notes (gnap_answer rules (notes_of h) now draw call).notes) swept_same in
           subst (λ (x : Kept). StandsByRows fits rules x (h ++ entry_of (machine_of fits) rules h k moment draw call ∷ [])) (sym is) next;
     }
 
@@ -156,14 +165,16 @@ lapses-by_rows fits rules kept after h moment draw few stands fit time changed k
     subst (λ (x : Kept). StandsByRows fits rules x (h ++ entry_of (machine_of fits) rules h k moment draw Lapse ∷ [])) (sym is) next
 
 -- What stands for a history doesn't look at numbers.
-pub rows-renumbered : (fits : Call → Type 0) (rules : Setup) (kept : Kept) (h k : List Event) → Renumbered h k → StandsByRows fits rules kept h → StandsByRows fits rules kept k
+pub rows-renumbered : (fits : Call → Type 0) (rules : Setup) (kept : Kept) (h k : List Event) → Renumbered h k → StandsByRows fits rules kept h
+    → StandsByRows fits rules kept k
 rows-renumbered fits rules kept h k r stands = record {
   is_legal = legal-renumbered gnap_answer fits Lapse rules h k r stands.is_legal;
   kept_is = stands.kept_is ∙ ap (λ ns. kept_of ns (latest_of h 0)) (notes-renumbered h k r) ∙ ap (kept_of (notes_of k)) (now-renumbered h k 0 r);
 }
 
 -- Where no time goes on, nothing is to be swept.
-pub unswept : (fits : Call → Type 0) (rules : Setup) (kept : Kept) (h : List Event) (moment : ℕ) → FitFew fits → StandsByRows fits rules kept h → moment ≤ kept.latest → at_moment (max kept.latest moment) kept ≡ kept
+pub unswept : (fits : Call → Type 0) (rules : Setup) (kept : Kept) (h : List Event) (moment : ℕ) → FitFew fits → StandsByRows fits rules kept h
+    → moment ≤ kept.latest → at_moment (max kept.latest moment) kept ≡ kept
 unswept fits rules kept h moment few stands le =
     let at : max (latest_of h 0) moment ≡ latest_of h 0 = (let same = ap (λ (k : Kept). k.latest) stands.kept_is in omega arith) in
     swept_is fits rules kept h moment few stands ∙ ap (kept_of (notes_of h)) at ∙ sym stands.kept_is

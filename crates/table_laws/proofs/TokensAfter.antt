@@ -33,7 +33,8 @@ EndsNothing (Finalized k) = ⊥
 EndsNothing _ = Unit {0}
 
 opened_same : (trail : List Note) (now g : ℕ) (p : OpeningNote) (b : Bool) → (b ≡ true → IsNew trail g) → nat_le p.end now ≡ false
-    → is_finalized (state_by now (list_any (is_end_of g) trail || has_ended (option_or (some_if b p) (first_of (opening_in g) trail)) now) (first_of (state_change_in g) trail)) ≡ is_finalized (grant_state trail g now)
+    → is_finalized (state_by now (list_any (is_end_of g) trail || has_ended (option_or (some_if b p) (first_of (opening_in g) trail)) now)
+    (first_of (state_change_in g) trail)) ≡ is_finalized (grant_state trail g now)
 opened_same trail now g p false new later = refl
 opened_same trail now g p true new later = let n = new refl in rw (n.unended, later, n.change, n.opening) refl
 
@@ -43,14 +44,17 @@ approved_same now ended change false going = refl
 approved_same now true change true going = refl
 approved_same now false change true going = sym (going refl)
 
-pended_same : (now : ℕ) (ended : Bool) (change : Option StateChange) (x : RoundNote) (b : Bool) → (b ≡ true → is_finalized (state_by now ended change) ≡ false) → nat_le x.over now ≡ false
+pended_same : (now : ℕ) (ended : Bool) (change : Option StateChange) (x : RoundNote) (b : Bool) → (b ≡ true → is_finalized (state_by now ended change) ≡ false)
+    → nat_le x.over now ≡ false
     → is_finalized (state_by now ended (option_or (some_if b (ToPending x)) change)) ≡ is_finalized (state_by now ended change)
 pended_same now ended change x false going later = refl
 pended_same now true change x true going later = refl
-pended_same now false change x true going later = (let over : state_after (Some (ToPending x)) now ≡ IsPending x = rw later refl in ap is_finalized over) ∙ sym (going refl)
+pended_same now false change x true going later = (let over : state_after (Some (ToPending x)) now ≡ IsPending x = rw later refl in ap is_finalized over)
+    ∙ sym (going refl)
 
 -- A note that ends no grant leaves which grants are finalized.
-pub finalized_same : (n : Note) (trail : List Note) (now g : ℕ) → CanFollow now trail n → EndsNothing n → is_finalized (grant_state (n ∷ trail) g now) ≡ is_finalized (grant_state trail g now)
+pub finalized_same : (n : Note) (trail : List Note) (now g : ℕ) → CanFollow now trail n → EndsNothing n
+    → is_finalized (grant_state (n ∷ trail) g now) ≡ is_finalized (grant_state trail g now)
 finalized_same (Opened p) trail now g can e = opened_same trail now g p (p.grant == g) (λ same. subst (IsNew trail) (eqb-true p.grant g same) can.0) can.1
 finalized_same (Approved k c) trail now g can e =
     approved_same now (list_any (is_end_of g) trail || has_ended (first_of (opening_in g) trail) now) (first_of (state_change_in g) trail) (k == g)
@@ -92,7 +96,8 @@ kept : (row : Option TokenRow) → row ≡ option_and_then (λ (row : TokenRow).
 kept None = refl
 kept (Some row) = refl
 
-left_row : (t : TokenNote) (replaced finalized finalized' retired : Bool) → finalized' ≡ finalized → made t replaced finalized' retired ≡ option_and_then (λ (row : TokenRow). Some row) (made t replaced finalized retired)
+left_row : (t : TokenNote) (replaced finalized finalized' retired : Bool) → finalized' ≡ finalized
+    → made t replaced finalized' retired ≡ option_and_then (λ (row : TokenRow). Some row) (made t replaced finalized retired)
 left_row t replaced finalized finalized' retired e = ap (λ b. made t replaced b retired) e ∙ kept (made t replaced finalized retired)
 
 abbrev no_row : Option TokenRow
@@ -100,8 +105,10 @@ no_row = None
 
 row_end : (t : TokenNote) (replaced retired : Bool) (now k : ℕ) (ended past_end : Bool) (change : Option StateChange)
     → made t replaced (is_finalized (state_by now (((k == t.grant) || ended) || past_end) change)) retired
-    ≡ option_and_then (λ (row : TokenRow). some_if (not (k == row.grant)) row) (made t replaced (is_finalized (state_by now (ended || past_end) change)) retired)
-row_end t replaced retired now k ended past_end change = by (k == t.grant) replaced (is_finalized (state_by now (ended || past_end) change)) ∙ at replaced (is_finalized (state_by now (ended || past_end) change))
+    ≡ option_and_then (λ (row : TokenRow). some_if (not (k == row.grant)) row)
+    (made t replaced (is_finalized (state_by now (ended || past_end) change)) retired)
+row_end t replaced retired now k ended past_end change = by (k == t.grant) replaced (is_finalized (state_by now (ended || past_end) change))
+    ∙ at replaced (is_finalized (state_by now (ended || past_end) change))
   where
     by : (b r f : Bool) → made t r (is_finalized (state_by now ((b || ended) || past_end) change)) retired
         ≡ option_and_then (λ (row : TokenRow). some_if (not b) row) (made t r (is_finalized (state_by now (ended || past_end) change)) retired)
@@ -113,7 +120,8 @@ row_end t replaced retired now k ended past_end change = by (k == t.grant) repla
         gone (Some row) = refl
     by false r f = kept (made t r (is_finalized (state_by now (ended || past_end) change)) retired)
 
-    at : (r f : Bool) → option_and_then (λ (row : TokenRow). some_if (not (k == t.grant)) row) (made t r f retired) ≡ option_and_then (λ (row : TokenRow). some_if (not (k == row.grant)) row) (made t r f retired)
+    at : (r f : Bool) → option_and_then (λ (row : TokenRow). some_if (not (k == t.grant)) row) (made t r f retired)
+        ≡ option_and_then (λ (row : TokenRow). some_if (not (k == row.grant)) row) (made t r f retired)
     at true f = refl
     at false true = refl
     at false false = refl
@@ -127,7 +135,8 @@ row_revoked t s false false d = by (s == t.serial)
     by true = refl
     by false = refl
 
-row_replaced : (t : TokenNote) (s : ℕ) (r f d : Bool) → made t ((s == t.serial) || r) f ((s == t.serial) || d) ≡ option_and_then (λ (row : TokenRow). some_if (not (s == row.serial)) row) (made t r f d)
+row_replaced : (t : TokenNote) (s : ℕ) (r f d : Bool)
+    → made t ((s == t.serial) || r) f ((s == t.serial) || d) ≡ option_and_then (λ (row : TokenRow). some_if (not (s == row.serial)) row) (made t r f d)
 row_replaced t s r f d = by (s == t.serial) r f ∙ at r f
   where
     by : (b r f : Bool) → made t (b || r) f (b || d) ≡ option_and_then (λ (row : TokenRow). some_if (not b) row) (made t r f d)
@@ -136,7 +145,8 @@ row_replaced t s r f d = by (s == t.serial) r f ∙ at r f
     by true false false = refl
     by false r f = kept (made t r f d)
 
-    at : (r f : Bool) → option_and_then (λ (row : TokenRow). some_if (not (s == t.serial)) row) (made t r f d) ≡ option_and_then (λ (row : TokenRow). some_if (not (s == row.serial)) row) (made t r f d)
+    at : (r f : Bool) → option_and_then (λ (row : TokenRow). some_if (not (s == t.serial)) row) (made t r f d)
+        ≡ option_and_then (λ (row : TokenRow). some_if (not (s == row.serial)) row) (made t r f d)
     at true f = refl
     at false true = refl
     at false false = refl
@@ -152,11 +162,15 @@ finalized_in trail now t = is_finalized (grant_state trail t.grant now)
 
 pub next_token : (n : Note) (trail : List Note) (now : ℕ) (t : TokenNote) → CanFollow now trail n
     → token_row_in (n ∷ trail) now (Issued t) ≡ option_and_then (token_change n) (token_row_in trail now (Issued t))
-next_token (Opened p) trail now t can = left_row t (replaced_in trail t) (finalized_in trail now t) (finalized_in (Opened p ∷ trail) now t) (retired_in trail t) (finalized_same (Opened p) trail now t.grant can tt)
-next_token (Approved k c) trail now t can = left_row t (replaced_in trail t) (finalized_in trail now t) (finalized_in (Approved k c ∷ trail) now t) (retired_in trail t) (finalized_same (Approved k c) trail now t.grant can tt)
-next_token (Pended r) trail now t can = left_row t (replaced_in trail t) (finalized_in trail now t) (finalized_in (Pended r ∷ trail) now t) (retired_in trail t) (finalized_same (Pended r) trail now t.grant can tt)
+next_token (Opened p) trail now t can = left_row t (replaced_in trail t) (finalized_in trail now t) (finalized_in (Opened p ∷ trail) now t) (retired_in trail t)
+    (finalized_same (Opened p) trail now t.grant can tt)
+next_token (Approved k c) trail now t can = left_row t (replaced_in trail t) (finalized_in trail now t) (finalized_in (Approved k c ∷ trail) now t)
+    (retired_in trail t) (finalized_same (Approved k c) trail now t.grant can tt)
+next_token (Pended r) trail now t can = left_row t (replaced_in trail t) (finalized_in trail now t) (finalized_in (Pended r ∷ trail) now t) (retired_in trail t)
+    (finalized_same (Pended r) trail now t.grant can tt)
 next_token (Finalized k) trail now t can =
-    row_end t (replaced_in trail t) (retired_in trail t) now k (list_any (is_end_of t.grant) trail) (has_ended (first_of (opening_in t.grant) trail) now) (first_of (state_change_in t.grant) trail)
+    row_end t (replaced_in trail t) (retired_in trail t) now k (list_any (is_end_of t.grant) trail) (has_ended (first_of (opening_in t.grant) trail) now)
+    (first_of (state_change_in t.grant) trail)
 next_token (Retired s ByRevocation) trail now t can = row_revoked t s (replaced_in trail t) (finalized_in trail now t) (retired_in trail t)
 next_token (Retired s ByRotation) trail now t can = row_replaced t s (replaced_in trail t) (finalized_in trail now t) (retired_in trail t)
 next_token (Retired s ByModification) trail now t can = row_replaced t s (replaced_in trail t) (finalized_in trail now t) (retired_in trail t)
@@ -169,14 +183,16 @@ pub tokens_changed : (f : TokenRow → Option TokenRow) (trail after : List Note
     → ((t : TokenNote) → HasNote trail (Issued t) → token_row_in after later (Issued t) ≡ option_and_then f (token_row_in trail now (Issued t)))
     → reverse (filter_map (token_row_in after later) trail) ≡ filter_map f (token_rows trail now)
 tokens_changed f trail after now later h =
-    ap reverse (parts_changed f (token_row_in trail now) (token_row_in after later) trail each) ∙ sym (filter_map-reverse f (filter_map (token_row_in trail now) trail))
+    ap reverse (parts_changed f (token_row_in trail now) (token_row_in after later) trail each)
+    ∙ sym (filter_map-reverse f (filter_map (token_row_in trail now) trail))
   where
     each : (n : Note) → HasItem trail n → token_row_in after later n ≡ option_and_then f (token_row_in trail now n)
     each (Issued t) i = h t (item_noted trail (Issued t) i)
     each _ i = refl
 
 -- the row of a token that was just issued
-issued_row : (trail : List Note) (now : ℕ) (t : TokenNote) → GoesOn trail now t.grant → list_any (is_retirement t.serial) trail ≡ false → token_row_in (Issued t ∷ trail) now (Issued t) ≡ Some (new_token t)
+issued_row : (trail : List Note) (now : ℕ) (t : TokenNote) → GoesOn trail now t.grant → list_any (is_retirement t.serial) trail ≡ false
+    → token_row_in (Issued t ∷ trail) now (Issued t) ≡ Some (new_token t)
 issued_row trail now t going fresh = rw (not_replaced t.serial trail fresh, going, fresh) refl
 
 -- What a note does to the tokens.
@@ -187,14 +203,25 @@ tokens_next (Issued t) trail now can =
     ap (λ (x : Option TokenRow). reverse (cons_option x (filter_map (token_row_in (Issued t ∷ trail) now) trail))) (issued_row trail now t can.0 can.1)
     ∙ reverse-cons (new_token t) (filter_map (token_row_in (Issued t ∷ trail) now) trail)
     ∙ ap (λ (rows : List TokenRow). rows ++ new_token t ∷ []) old
-tokens_next (Opened p) trail now can = tokens_changed (token_change (Opened p)) trail (Opened p ∷ trail) now now (λ t h. next_token (Opened p) trail now t can) ∙ all_kept (token_rows trail now)
-tokens_next (Terms w) trail now can = tokens_changed (token_change (Terms w)) trail (Terms w ∷ trail) now now (λ t h. next_token (Terms w) trail now t can) ∙ all_kept (token_rows trail now)
-tokens_next (Approved k c) trail now can = tokens_changed (token_change (Approved k c)) trail (Approved k c ∷ trail) now now (λ t h. next_token (Approved k c) trail now t can) ∙ all_kept (token_rows trail now)
-tokens_next (Door k v x) trail now can = tokens_changed (token_change (Door k v x)) trail (Door k v x ∷ trail) now now (λ t h. next_token (Door k v x) trail now t can) ∙ all_kept (token_rows trail now)
-tokens_next (Pended r) trail now can = tokens_changed (token_change (Pended r)) trail (Pended r ∷ trail) now now (λ t h. next_token (Pended r) trail now t can) ∙ all_kept (token_rows trail now)
-tokens_next (DecidedAs d) trail now can = tokens_changed (token_change (DecidedAs d)) trail (DecidedAs d ∷ trail) now now (λ t h. next_token (DecidedAs d) trail now t can) ∙ all_kept (token_rows trail now)
-tokens_next (Wrong k) trail now can = tokens_changed (token_change (Wrong k)) trail (Wrong k ∷ trail) now now (λ t h. next_token (Wrong k) trail now t can) ∙ all_kept (token_rows trail now)
-tokens_next (Finalized k) trail now can = tokens_changed (token_change (Finalized k)) trail (Finalized k ∷ trail) now now (λ t h. next_token (Finalized k) trail now t can) ∙ sym (filter_is _ (token_rows trail now))
-tokens_next (Retired s ByRevocation) trail now can = tokens_changed (token_change (Retired s ByRevocation)) trail (Retired s ByRevocation ∷ trail) now now (λ t h. next_token (Retired s ByRevocation) trail now t can) ∙ sym (map_is _ (token_rows trail now))
-tokens_next (Retired s ByRotation) trail now can = tokens_changed (token_change (Retired s ByRotation)) trail (Retired s ByRotation ∷ trail) now now (λ t h. next_token (Retired s ByRotation) trail now t can) ∙ sym (filter_is _ (token_rows trail now))
-tokens_next (Retired s ByModification) trail now can = tokens_changed (token_change (Retired s ByModification)) trail (Retired s ByModification ∷ trail) now now (λ t h. next_token (Retired s ByModification) trail now t can) ∙ sym (filter_is _ (token_rows trail now))
+tokens_next (Opened p) trail now can = tokens_changed (token_change (Opened p)) trail (Opened p ∷ trail) now now (λ t h. next_token (Opened p) trail now t can)
+    ∙ all_kept (token_rows trail now)
+tokens_next (Terms w) trail now can = tokens_changed (token_change (Terms w)) trail (Terms w ∷ trail) now now (λ t h. next_token (Terms w) trail now t can)
+    ∙ all_kept (token_rows trail now)
+tokens_next (Approved k c) trail now can = tokens_changed (token_change (Approved k c)) trail (Approved k c ∷ trail) now now
+    (λ t h. next_token (Approved k c) trail now t can) ∙ all_kept (token_rows trail now)
+tokens_next (Door k v x) trail now can = tokens_changed (token_change (Door k v x)) trail (Door k v x ∷ trail) now now
+    (λ t h. next_token (Door k v x) trail now t can) ∙ all_kept (token_rows trail now)
+tokens_next (Pended r) trail now can = tokens_changed (token_change (Pended r)) trail (Pended r ∷ trail) now now (λ t h. next_token (Pended r) trail now t can)
+    ∙ all_kept (token_rows trail now)
+tokens_next (DecidedAs d) trail now can = tokens_changed (token_change (DecidedAs d)) trail (DecidedAs d ∷ trail) now now
+    (λ t h. next_token (DecidedAs d) trail now t can) ∙ all_kept (token_rows trail now)
+tokens_next (Wrong k) trail now can = tokens_changed (token_change (Wrong k)) trail (Wrong k ∷ trail) now now (λ t h. next_token (Wrong k) trail now t can)
+    ∙ all_kept (token_rows trail now)
+tokens_next (Finalized k) trail now can = tokens_changed (token_change (Finalized k)) trail (Finalized k ∷ trail) now now
+    (λ t h. next_token (Finalized k) trail now t can) ∙ sym (filter_is _ (token_rows trail now))
+tokens_next (Retired s ByRevocation) trail now can = tokens_changed (token_change (Retired s ByRevocation)) trail (Retired s ByRevocation ∷ trail) now now
+    (λ t h. next_token (Retired s ByRevocation) trail now t can) ∙ sym (map_is _ (token_rows trail now))
+tokens_next (Retired s ByRotation) trail now can = tokens_changed (token_change (Retired s ByRotation)) trail (Retired s ByRotation ∷ trail) now now
+    (λ t h. next_token (Retired s ByRotation) trail now t can) ∙ sym (filter_is _ (token_rows trail now))
+tokens_next (Retired s ByModification) trail now can = tokens_changed (token_change (Retired s ByModification)) trail (Retired s ByModification ∷ trail) now now
+    (λ t h. next_token (Retired s ByModification) trail now t can) ∙ sym (filter_is _ (token_rows trail now))

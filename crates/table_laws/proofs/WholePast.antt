@@ -36,11 +36,13 @@ use Rattle.table_laws.proofs.MoreCauses.{more_cause}
 use Rattle.table_laws.proofs.NotesOfAnswers.{action_follows}
 
 -- the notes of an entry may be added
-pub entry_follows : (rules : Setup) (past : List Event) (e : Event) → IsLegalPast rules past → IsNext rules past e → CanAllFollow (now_at past e.moment) (trail_of past) e.notes
+pub entry_follows : (rules : Setup) (past : List Event) (e : Event) → IsLegalPast rules past → IsNext rules past e
+    → CanAllFollow (now_at past e.moment) (trail_of past) e.notes
 entry_follows rules past e legal next =
     let supply = supply_at past e.moment e.draw in
     subst (CanAllFollow (now_at past e.moment) (trail_of past)) (sym next.notes)
-    (action_follows supply (trail_of past) e.call (action_of rules supply (trail_of past) e.call) (past_sound rules past legal) (past_known rules past legal) refl
+    (action_follows supply (trail_of past) e.call (action_of rules supply (trail_of past) e.call) (past_sound rules past legal) (past_known rules past legal)
+    refl
     (cause_of rules supply (trail_of past) e.call) (more_cause rules supply (trail_of past) e.call))
 
 -- ---- each grant is opened once
@@ -74,12 +76,14 @@ once_next (Retired s w) trail now can once o (inr h) = once o h
 once_after : (notes trail : List Note) (now : ℕ) → CanAllFollow now trail notes → IsOpenedOnce trail → IsOpenedOnce (reverse notes ++ trail)
 once_after [] trail now can once = once
 once_after (n ∷ notes) trail now can once =
-    let moved : reverse (n ∷ notes) ++ trail ≡ reverse notes ++ (n ∷ trail) = ap (λ (ns : List Note). ns ++ trail) (reverse-cons n notes) ∙ append_assoc (reverse notes) (n ∷ []) trail in
+    let moved : reverse (n ∷ notes) ++ trail ≡ reverse notes ++ (n ∷ trail) = ap (λ (ns : List Note). ns ++ trail) (reverse-cons n notes)
+    ∙ append_assoc (reverse notes) (n ∷ []) trail in
     subst IsOpenedOnce (sym moved) (once_after notes (n ∷ trail) now can.1 (once_next n trail now can.0 once))
 
 pub past_once : (rules : Setup) (past : List Event) → IsLegalPast rules past → IsOpenedOnce (trail_of past)
 past_once rules [] legal = λ o h. absurd h
-past_once rules (e ∷ past) legal = once_after e.notes (trail_of past) (now_at past e.moment) (entry_follows rules past e legal.1 legal.0) (past_once rules past legal.1)
+past_once rules (e ∷ past) legal = once_after e.notes (trail_of past) (now_at past e.moment) (entry_follows rules past e legal.1 legal.0)
+    (past_once rules past legal.1)
 
 -- ---- each grant has a continuation value
 
@@ -88,11 +92,13 @@ abbrev HasDoorNote : List Note → Note → Type 0
 HasDoorNote notes (Opened o) = (v : Text) × (x : ℕ) × HasNote notes (Door o.grant v x)
 HasDoorNote notes _ = Unit {0}
 
-tokens_doored : (notes : List Note) (supply : Supply) (o : OpeningNote) (asks : List Ask) (k : ℕ) → EachNote (HasDoorNote notes) (map Issued (tokens_for supply o asks k))
+tokens_doored : (notes : List Note) (supply : Supply) (o : OpeningNote) (asks : List Ask) (k : ℕ)
+    → EachNote (HasDoorNote notes) (map Issued (tokens_for supply o asks k))
 tokens_doored notes supply o [] k = tt
 tokens_doored notes supply o (ask ∷ asks) k = (tt, tokens_doored notes supply o asks (k + 2))
 
-retire_doored : (notes : List Note) (ts : List TokenNote) (rest : List Note) → EachNote (HasDoorNote notes) rest → EachNote (HasDoorNote notes) (retire ts ++ rest)
+retire_doored : (notes : List Note) (ts : List TokenNote) (rest : List Note) → EachNote (HasDoorNote notes) rest
+    → EachNote (HasDoorNote notes) (retire ts ++ rest)
 retire_doored notes [] rest h = h
 retire_doored notes (t ∷ ts) rest h = (tt, retire_doored notes ts rest h)
 
@@ -105,19 +111,29 @@ grant_doored supply o before asks notes h =
 action_doored : (supply : Supply) (action : Action) → EachNote (HasDoorNote (outcome_of supply action).notes) (outcome_of supply action).notes
 action_doored supply (TakeDecision r rights request) = (tt, tt)
 action_doored supply (OpenAtOnce o request) =
-    grant_doored supply o (Opened o ∷ Terms (terms_for o request) ∷ Approved o.grant [] ∷ []) request.asks (outcome_of supply (OpenAtOnce o request)).notes
-    ((_, _, note-append_right ((Opened o ∷ Terms (terms_for o request) ∷ Approved o.grant [] ∷ []) ++ map Issued (tokens_for supply o request.asks 0)) (door_note supply o (2 * length request.asks) ∷ []) (door_note supply o (2 * length request.asks)) (inl refl)), (tt, (tt, tt)))
+    grant_doored supply o (Opened o ∷ Terms (terms_for o request) ∷ Approved o.grant [] ∷ []) request.asks (outcome_of supply (OpenAtOnce o request)).notes (
+      (
+        _,
+        _,
+        note-append_right ((Opened o ∷ Terms (terms_for o request) ∷ Approved o.grant [] ∷ []) ++ map Issued (tokens_for supply o request.asks 0))
+            (door_note supply o (2 * length request.asks) ∷ []) (door_note supply o (2 * length request.asks)) (inl refl),
+      ),
+      (tt, (tt, tt)),
+    )
 action_doored supply (OpenAsking o request modes) = ((_, _, inr (inr (inl refl))), (tt, (tt, (tt, tt))))
 action_doored supply (RenewDoor o) = (tt, tt)
-action_doored supply (CollectDecision o w d asks) = grant_doored supply o (Approved o.grant d.rights ∷ []) asks (outcome_of supply (CollectDecision o w d asks)).notes (tt, tt)
+action_doored supply (CollectDecision o w d asks) = grant_doored supply o (Approved o.grant d.rights ∷ []) asks
+    (outcome_of supply (CollectDecision o w d asks)).notes (tt, tt)
 action_doored supply (WrongReference o) = (tt, tt)
 action_doored supply (LastWrongReference o) = (tt, (tt, tt))
 action_doored supply (RefuseAndFinalize o code) = (tt, tt)
 action_doored supply (ModifyAtOnce o consent retired request) =
-    grant_doored supply o (retire retired ++ Terms (terms_for o request) ∷ Approved o.grant consent ∷ []) request.asks (outcome_of supply (ModifyAtOnce o consent retired request)).notes
+    grant_doored supply o (retire retired ++ Terms (terms_for o request) ∷ Approved o.grant consent ∷ []) request.asks
+    (outcome_of supply (ModifyAtOnce o consent retired request)).notes
     (retire_doored _ retired (Terms (terms_for o request) ∷ Approved o.grant consent ∷ []) (tt, (tt, tt)))
 action_doored supply (ModifyAsking o retired request modes) =
-    each-append (HasDoorNote (outcome_of supply (ModifyAsking o retired request modes)).notes) (retire retired ++ Terms (terms_for o request) ∷ []) (door_note supply o 0 ∷ Pended (round_for supply o modes) ∷ [])
+    each-append (HasDoorNote (outcome_of supply (ModifyAsking o retired request modes)).notes) (retire retired ++ Terms (terms_for o request) ∷ [])
+    (door_note supply o 0 ∷ Pended (round_for supply o modes) ∷ [])
     (retire_doored _ retired (Terms (terms_for o request) ∷ []) (tt, tt)) (tt, (tt, tt))
 action_doored supply (CancelGrant o) = (tt, tt)
 action_doored supply (RotateToken o t key) = (tt, (tt, tt))
@@ -154,12 +170,15 @@ past_doors rules [] legal = λ o h. absurd h
 past_doors rules (e ∷ past) legal = λ o h. at o (past_doors rules past legal.1) (note_cases (reverse e.notes) (trail_of past) (Opened o) h)
   where
     new : EachNote (HasDoorNote e.notes) e.notes
-    new = subst (λ (ns : List Note). EachNote (HasDoorNote ns) ns) (sym legal.0.notes) (action_doored (supply_at past e.moment e.draw) (action_of rules (supply_at past e.moment e.draw) (trail_of past) e.call))
+    new = subst (λ (ns : List Note). EachNote (HasDoorNote ns) ns) (sym legal.0.notes)
+        (action_doored (supply_at past e.moment e.draw) (action_of rules (supply_at past e.moment e.draw) (trail_of past) e.call))
 
-    at : (o : OpeningNote) → HaveDoors (trail_of past) → HasNote (reverse e.notes) (Opened o) ⊎ HasNote (trail_of past) (Opened o) → HasDoor o.grant (reverse e.notes ++ trail_of past)
+    at : (o : OpeningNote) → HaveDoors (trail_of past) → HasNote (reverse e.notes) (Opened o) ⊎ HasNote (trail_of past) (Opened o)
+        → HasDoor o.grant (reverse e.notes ++ trail_of past)
     at o old (inl h) =
         let d = each_of (HasDoorNote e.notes) e.notes (Opened o) new (unreversed e.notes (Opened o) h) in
-        door_found o.grant d.0 d.1 (reverse e.notes ++ trail_of past) (note-append_left (reverse e.notes) (trail_of past) (Door o.grant d.0 d.1) (note-reverse e.notes (Door o.grant d.0 d.1) d.2))
+        door_found o.grant d.0 d.1 (reverse e.notes ++ trail_of past)
+        (note-append_left (reverse e.notes) (trail_of past) (Door o.grant d.0 d.1) (note-reverse e.notes (Door o.grant d.0 d.1) d.2))
     at o old (inr h) = door_more o.grant (reverse e.notes) (trail_of past) (old o h)
 
 -- ---- all of it

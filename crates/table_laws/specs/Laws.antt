@@ -22,11 +22,13 @@ RowsAnswer = (rules : Setup) (h : List Event) (now : ℕ) (draw : List ℕ) (cal
 -- The notes of the answer change the rows as each of them says.
 abbrev pub RowsChange : Type 0
 RowsChange = (rules : Setup) (h : List Event) (now : ℕ) (draw : List ℕ) (call : Call) → Legal grant_law rules h
-    → kept_of (notes_of h ++ (gnap_answer rules (notes_of h) now draw call).notes) now ≡ with_notes (gnap_answer rules (notes_of h) now draw call).notes (kept_of (notes_of h) now)
+    → kept_of (notes_of h ++ (gnap_answer rules (notes_of h) now draw call).notes) now
+    ≡ with_notes (gnap_answer rules (notes_of h) now draw call).notes (kept_of (notes_of h) now)
 
 -- Time takes out what it ends.
 abbrev pub RowsEnd : Type 0
-RowsEnd = (rules : Setup) (h : List Event) (latest now : ℕ) → Legal grant_law rules h → latest ≤ now → kept_of (notes_of h) now ≡ at_moment now (kept_of (notes_of h) latest)
+RowsEnd = (rules : Setup) (h : List Event) (latest now : ℕ) → Legal grant_law rules h → latest ≤ now
+    → kept_of (notes_of h) now ≡ at_moment now (kept_of (notes_of h) latest)
 
 -- the round has fewer wrong references than end the grant
 abbrev pub HasFewWrongs : GrantRow → Type 0

@@ -11,7 +11,8 @@ use Rattle.test_cores.specs.Taken.{HasTaken}
 pub short_enough : (stands : List GnapEntry → Type 0) (many : ℕ) → many < 2 ^ 58 → HasTaken stands many → (h : List GnapEntry) × stands h × (length h < 2 ^ 58)
 short_enough stands many few taken = let most = taken.2 in (taken.0, taken.1, omega (arith, most, few))
 
-pub takes_more : (rules : Setup) (stands after : List GnapEntry → Type 0) (many moment : ℕ) (draw : List ℕ) (signed : Signed) (reply : Reply) → HasTaken stands many
+pub takes_more : (rules : Setup) (stands after : List GnapEntry → Type 0) (many moment : ℕ) (draw : List ℕ) (signed : Signed) (reply : Reply)
+    → HasTaken stands many
     → ((h : List GnapEntry) → stands h → Answers gnap rules h moment draw signed reply after) → HasTaken after (many + 1)
 takes_more rules stands after many moment draw signed reply taken answers =
     let h = taken.0 in

@@ -126,7 +126,13 @@ decide moment handle verdict rights = at moment (Decide f1 (record { handle = ha
 
 -- by a redirect, with a finish
 abbrev pub by_redirect : Modes
-by_redirect = record { redirect = true; user_code = false; user_code_uri = false; finish = Some (record { push = false; uri = codes "https://client.example/cb"; nonce = codes "VJLO6A4CATR0KRO"; long = false }) }
+by_redirect = record {
+  redirect = true;
+  user_code = false;
+  user_code_uri = false;
+  finish = Some
+      (record { push = false; uri = codes "https://client.example/cb"; nonce = codes "VJLO6A4CATR0KRO"; long = false });
+}
 
 -- by a user code, without a finish
 abbrev pub by_code : Modes

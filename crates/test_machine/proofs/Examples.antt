@@ -34,7 +34,16 @@ unfolding value_text encode_symbols
 greatest_words = refl
 
 abbrev pub object : List (List ℕ) → List (List ℕ) → Right
-object actions locations = Object (record { kind = codes "t"; actions = Some actions; locations = Some locations; datatypes = None; privileges = None; identifier = None; further = codes "{}" })
+object actions locations = Object
+    (record {
+      kind = codes "t";
+      actions = Some actions;
+      locations = Some locations;
+      datatypes = None;
+      privileges = None;
+      identifier = None;
+      further = codes "{}";
+    })
 
 pub covered_by_two : covers (object (codes "read" ∷ codes "write" ∷ []) (codes "a" ∷ []) ∷ object (codes "read" ∷ []) (codes "b" ∷ []) ∷ [])
     (object (codes "read" ∷ []) (codes "a" ∷ codes "b" ∷ []) ∷ []) ≡ true
@@ -45,7 +54,8 @@ pub not_covered_crosswise : covers (object (codes "read" ∷ codes "write" ∷ [
 not_covered_crosswise = refl
 
 pub absent_is_no_wildcard : covers (object (codes "read" ∷ codes "write" ∷ []) (codes "a" ∷ []) ∷ object (codes "read" ∷ []) (codes "b" ∷ []) ∷ [])
-    (Object (record { kind = codes "t"; actions = None; locations = None; datatypes = None; privileges = None; identifier = None; further = codes "{}" }) ∷ []) ≡ false
+    (Object (record { kind = codes "t"; actions = None; locations = None; datatypes = None; privileges = None; identifier = None; further = codes "{}" }) ∷ [])
+    ≡ false
 absent_is_no_wildcard = refl
 
 abbrev pub two : GrantRequest
@@ -62,8 +72,10 @@ two = record {
 abbrev pub labelled : List ℕ → List ℕ → List ℕ → Bool → TokenOut
 labelled label value manage bearer = record { value = value; manage = manage; label = Some label; rights = photos; expires_in = 3600; bearer = bearer }
 
-pub two_labelled_tokens : replies setup [] (begin 1000 two ∷ at 1001 (Introspect r1 v3 (Some Httpsig) None) ∷ at 1001 (Introspect r1 v3 (Some Bearer) None) ∷ [])
-    ≡ Granted v5 (labelled (codes "a") v1 v2 false ∷ labelled (codes "b") v3 v4 true ∷ []) false None (Some c1) ∷ Inactive ∷ Active photos 1000 4600 c1 true ∷ []
+pub two_labelled_tokens : replies setup []
+    (begin 1000 two ∷ at 1001 (Introspect r1 v3 (Some Httpsig) None) ∷ at 1001 (Introspect r1 v3 (Some Bearer) None) ∷ [])
+    ≡ Granted v5 (labelled (codes "a") v1 v2 false ∷ labelled (codes "b") v3 v4 true ∷ []) false None (Some c1) ∷ Inactive ∷ Active photos 1000 4600 c1 true
+    ∷ []
 unfolding value_text encode_symbols
 two_labelled_tokens = refl
 
@@ -72,9 +84,15 @@ pub other_server : drop 1 (replies setup [] (begin 1000 for_photos ∷ at 1002 (
 unfolding value_text encode_symbols
 other_server = refl
 
-pub finished_interaction : replies setup [] (begin 1000 (ask_for mail (Some by_redirect)) ∷ decide 1010 v2 Grant None ∷ continue 1011 v1 (Some v4) ∷ continue 1012 v1 None ∷ at 1012 (Continue c2 v7 None) ∷ [])
+pub finished_interaction : replies setup []
+    (begin 1000 (ask_for mail (Some by_redirect)) ∷ decide 1010 v2 Grant None ∷ continue 1011 v1 (Some v4) ∷ continue 1012 v1 None
+    ∷ at 1012 (Continue c2 v7 None) ∷ [])
     ≡ Pending v1 by_redirect v2 zeros_8 v3 600 None
-    ∷ Decided (Some (record { finish = record { push = false; uri = codes "https://client.example/cb"; nonce = codes "VJLO6A4CATR0KRO"; long = false }; server_nonce = v3; reference = v4 }))
+    ∷ Decided (Some (record {
+      finish = record { push = false; uri = codes "https://client.example/cb"; nonce = codes "VJLO6A4CATR0KRO"; long = false };
+      server_nonce = v3;
+      reference = v4;
+    }))
     ∷ Granted v7 (token mail v5 v6 ∷ []) true None None ∷ Error InvalidContinuation ∷ Error InvalidClient ∷ []
 unfolding value_text encode_symbols
 finished_interaction = refl
@@ -84,8 +102,11 @@ pub polls : replies setup [] (begin 1000 (ask_for mail (Some by_code)) ∷ conti
 unfolding value_text encode_symbols code_text
 polls = refl
 
-pub interaction_runs_out : drop 1 (replies setup [] (begin 1000 (ask_for mail (Some by_code)) ∷ at 1001 (FindCode f1 (codes "BBBBBBBB")) ∷ at 1599 (Look f1 v2) ∷ at 1600 (Look f1 v2) ∷ continue 1600 v1 None ∷ continue 1600 v1 None ∷ []))
-    ≡ Handle v2 ∷ Shown (record { label = None; rights = mail; bearer = false } ∷ []) c1 1 false None ∷ Error UnknownInteraction ∷ Error InvalidInteraction ∷ Error InvalidContinuation ∷ []
+pub interaction_runs_out : drop 1
+    (replies setup [] (begin 1000 (ask_for mail (Some by_code)) ∷ at 1001 (FindCode f1 (codes "BBBBBBBB")) ∷ at 1599 (Look f1 v2) ∷ at 1600 (Look f1 v2)
+    ∷ continue 1600 v1 None ∷ continue 1600 v1 None ∷ []))
+    ≡ Handle v2 ∷ Shown (record { label = None; rights = mail; bearer = false } ∷ []) c1 1 false None ∷ Error UnknownInteraction ∷ Error InvalidInteraction
+    ∷ Error InvalidContinuation ∷ []
 unfolding value_text encode_symbols code_text
 interaction_runs_out = refl
 
@@ -109,41 +130,58 @@ decided_code_is_free = refl
 abbrev pub x : Option (List ℕ)
 x = Some (codes "x")
 
-pub wrong_references : drop 2 (replies setup [] (begin 1000 (ask_for mail (Some by_redirect)) ∷ decide 1010 v2 Grant None ∷ continue 1011 v1 None ∷ continue 1011 v1 x ∷ continue 1011 v1 x ∷ continue 1011 v1 x ∷ continue 1011 v1 x ∷ continue 1011 v1 x ∷ continue 1012 v1 (Some v4) ∷ []))
-    ≡ Error InvalidRequest ∷ Error InvalidInteraction ∷ Error InvalidInteraction ∷ Error InvalidInteraction ∷ Error InvalidInteraction ∷ Error TooManyAttempts ∷ Error InvalidContinuation ∷ []
+pub wrong_references : drop 2 (replies setup []
+    (begin 1000 (ask_for mail (Some by_redirect)) ∷ decide 1010 v2 Grant None ∷ continue 1011 v1 None ∷ continue 1011 v1 x ∷ continue 1011 v1 x
+    ∷ continue 1011 v1 x ∷ continue 1011 v1 x ∷ continue 1011 v1 x ∷ continue 1012 v1 (Some v4) ∷ []))
+    ≡ Error InvalidRequest ∷ Error InvalidInteraction ∷ Error InvalidInteraction ∷ Error InvalidInteraction ∷ Error InvalidInteraction ∷ Error TooManyAttempts
+    ∷ Error InvalidContinuation ∷ []
 unfolding value_text encode_symbols
 wrong_references = refl
 
-pub reference_when_approved : drop 1 (replies setup [] (begin 1000 for_photos ∷ continue 1001 v3 x ∷ introspect 1001 v1 ∷ [])) ≡ Error TooManyAttempts ∷ Inactive ∷ []
+pub reference_when_approved : drop 1 (replies setup [] (begin 1000 for_photos ∷ continue 1001 v3 x ∷ introspect 1001 v1 ∷ [])) ≡ Error TooManyAttempts
+    ∷ Inactive ∷ []
 unfolding value_text encode_symbols
 reference_when_approved = refl
 
-pub rotated_and_revoked : drop 1 (replies setup [] (begin 1000 for_photos ∷ at 1002 (Rotate c1 v2 None) ∷ introspect 1002 v1 ∷ introspect 1002 v4 ∷ at 1002 (Rotate c1 v2 None) ∷ at 1002 (Rotate c1 v5 (Some r1)) ∷ at 1002 (Revoke c1 v5) ∷ at 1002 (Revoke c1 v5) ∷ introspect 1002 v4 ∷ at 1002 (Revoke c1 v2) ∷ []))
-    ≡ Rotated (token photos v4 v5) ∷ Inactive ∷ Active photos 1002 4602 c1 false ∷ Error InvalidRotation ∷ Error InvalidRotation ∷ Done ∷ Done ∷ Inactive ∷ Error InvalidRequest ∷ []
+pub rotated_and_revoked : drop 1
+    (replies setup [] (begin 1000 for_photos ∷ at 1002 (Rotate c1 v2 None) ∷ introspect 1002 v1 ∷ introspect 1002 v4 ∷ at 1002 (Rotate c1 v2 None)
+    ∷ at 1002 (Rotate c1 v5 (Some r1)) ∷ at 1002 (Revoke c1 v5) ∷ at 1002 (Revoke c1 v5) ∷ introspect 1002 v4 ∷ at 1002 (Revoke c1 v2) ∷ []))
+    ≡ Rotated (token photos v4 v5) ∷ Inactive ∷ Active photos 1002 4602 c1 false ∷ Error InvalidRotation ∷ Error InvalidRotation ∷ Done ∷ Done ∷ Inactive
+    ∷ Error InvalidRequest ∷ []
 unfolding value_text encode_symbols
 rotated_and_revoked = refl
 
-pub rotated_to_a_key : drop 1 (replies setup [] (begin 1000 for_photos ∷ at 1002 (Rotate c1 v2 (Some c2)) ∷ introspect 1003 v4 ∷ at 1003 (Rotate c1 v5 None) ∷ at 1003 (Rotate c2 v5 None) ∷ introspect 1003 v6 ∷ at 1003 (Revoke c1 v7) ∷ at 1003 (Revoke c2 v7) ∷ []))
-    ≡ Rotated (token photos v4 v5) ∷ Active photos 1002 4602 c2 false ∷ Error InvalidClient ∷ Rotated (token photos v6 v7) ∷ Active photos 1003 4603 c2 false ∷ Error InvalidClient ∷ Done ∷ []
+pub rotated_to_a_key : drop 1 (replies setup []
+    (begin 1000 for_photos ∷ at 1002 (Rotate c1 v2 (Some c2)) ∷ introspect 1003 v4 ∷ at 1003 (Rotate c1 v5 None) ∷ at 1003 (Rotate c2 v5 None)
+    ∷ introspect 1003 v6 ∷ at 1003 (Revoke c1 v7) ∷ at 1003 (Revoke c2 v7) ∷ []))
+    ≡ Rotated (token photos v4 v5) ∷ Active photos 1002 4602 c2 false ∷ Error InvalidClient ∷ Rotated (token photos v6 v7) ∷ Active photos 1003 4603 c2 false
+    ∷ Error InvalidClient ∷ Done ∷ []
 unfolding value_text encode_symbols
 rotated_to_a_key = refl
 
-pub modified_and_cancelled : drop 1 (replies setup [] (begin 1000 for_photos ∷ at 1001 (Modify c1 v3 for_photos) ∷ introspect 1001 v1 ∷ at 1001 (Modify c1 v6 (ask_for mail None)) ∷ at 1001 (Modify c1 v6 for_photos) ∷ at 1001 (Cancel c1 v9) ∷ introspect 1001 v7 ∷ at 1001 (Revoke c1 v8) ∷ []))
-    ≡ Granted v6 (token photos v4 v5 ∷ []) true None None ∷ Inactive ∷ Error RequestDenied ∷ Granted v9 (token photos v7 v8 ∷ []) true None None ∷ Done ∷ Inactive ∷ Error InvalidRequest ∷ []
+pub modified_and_cancelled : drop 1
+    (replies setup [] (begin 1000 for_photos ∷ at 1001 (Modify c1 v3 for_photos) ∷ introspect 1001 v1 ∷ at 1001 (Modify c1 v6 (ask_for mail None))
+    ∷ at 1001 (Modify c1 v6 for_photos) ∷ at 1001 (Cancel c1 v9) ∷ introspect 1001 v7 ∷ at 1001 (Revoke c1 v8) ∷ []))
+    ≡ Granted v6 (token photos v4 v5 ∷ []) true None None ∷ Inactive ∷ Error RequestDenied ∷ Granted v9 (token photos v7 v8 ∷ []) true None None ∷ Done
+    ∷ Inactive ∷ Error InvalidRequest ∷ []
 unfolding value_text encode_symbols
 modified_and_cancelled = refl
 
-pub part_is_granted : drop 1 (replies setup [] (begin 1000 (ask_for (mail ++ photos) (Some by_code)) ∷ decide 1002 v2 Grant (Some mail) ∷ continue 1005 v1 None ∷ []))
+pub part_is_granted : drop 1 (replies setup []
+    (begin 1000 (ask_for (mail ++ photos) (Some by_code)) ∷ decide 1002 v2 Grant (Some mail) ∷ continue 1005 v1 None ∷ []))
     ≡ Decided None ∷ Granted v5 (token mail v3 v4 ∷ []) true None None ∷ []
 unfolding value_text encode_symbols code_text
 part_is_granted = refl
 
-pub more_than_was_asked : drop 1 (replies setup [] (begin 1000 (ask_for (mail ++ photos) (Some by_code)) ∷ decide 1002 v2 Grant (Some (mail ++ Reference (codes "files") ∷ [])) ∷ continue 1005 v1 None ∷ []))
+pub more_than_was_asked : drop 1
+    (replies setup [] (begin 1000 (ask_for (mail ++ photos) (Some by_code)) ∷ decide 1002 v2 Grant (Some (mail ++ Reference (codes "files") ∷ []))
+    ∷ continue 1005 v1 None ∷ []))
     ≡ Error InvalidRequest ∷ Continuing v3 ∷ []
 unfolding value_text encode_symbols code_text
 more_than_was_asked = refl
 
-pub user_denies : drop 1 (replies setup [] (begin 1000 (ask_for mail (Some by_code)) ∷ decide 1002 v2 Deny None ∷ continue 1005 v1 None ∷ continue 1005 v1 None ∷ []))
+pub user_denies : drop 1 (replies setup []
+    (begin 1000 (ask_for mail (Some by_code)) ∷ decide 1002 v2 Deny None ∷ continue 1005 v1 None ∷ continue 1005 v1 None ∷ []))
     ≡ Decided None ∷ Error UserDenied ∷ Error InvalidContinuation ∷ []
 unfolding value_text encode_symbols code_text
 user_denies = refl
@@ -156,7 +194,8 @@ user_is_unknown = refl
 pub unknown_client : replies setup [] (at 1000 (Begin (codes "c9") for_photos None) ∷ []) ≡ Error RequestDenied ∷ []
 unknown_client = refl
 
-pub another_key : drop 1 (replies setup [] (begin 1000 for_photos ∷ at 1001 (Modify c2 v3 for_photos) ∷ at 1001 (Cancel c2 v3) ∷ at 1001 (Rotate c2 v2 None) ∷ at 1001 (Revoke c2 v2) ∷ []))
+pub another_key : drop 1 (replies setup []
+    (begin 1000 for_photos ∷ at 1001 (Modify c2 v3 for_photos) ∷ at 1001 (Cancel c2 v3) ∷ at 1001 (Rotate c2 v2 None) ∷ at 1001 (Revoke c2 v2) ∷ []))
     ≡ Error InvalidClient ∷ Error InvalidClient ∷ Error InvalidClient ∷ Error InvalidClient ∷ []
 unfolding value_text encode_symbols
 another_key = refl
@@ -166,7 +205,9 @@ pub lapse_moves_time : drop 1 (replies setup [] (begin 1000 for_photos ∷ intro
 unfolding value_text encode_symbols
 lapse_moves_time = refl
 
-pub named_end : replies setup [] (at 1000 (Begin c1 for_photos (Some 1000)) ∷ at 1000 (Begin c1 (ask_for mail (Some by_code)) (Some 1300)) ∷ at 1001 (Look f1 v2) ∷ continue 1300 v1 None ∷ [])
+pub named_end : replies setup []
+    (at 1000 (Begin c1 for_photos (Some 1000)) ∷ at 1000 (Begin c1 (ask_for mail (Some by_code)) (Some 1300)) ∷ at 1001 (Look f1 v2) ∷ continue 1300 v1 None
+    ∷ [])
     ≡ Error RequestDenied ∷ Pending v1 by_code v2 (codes "BBBBBBBB") zeros_32 300 None
     ∷ Shown (record { label = None; rights = mail; bearer = false } ∷ []) c1 299 false None ∷ Error InvalidContinuation ∷ []
 unfolding value_text encode_symbols code_text
@@ -184,7 +225,9 @@ for_subject = record {
   modes = Some by_code;
 }
 
-pub subject_needs_the_user : replies setup [] (begin 1000 for_subject ∷ at 1002 (Decide f1 (record { handle = v2; verdict = Grant; rights = None; subject = Some (codes "u1") })) ∷ continue 1005 v1 None ∷ [])
+pub subject_needs_the_user : replies setup []
+    (begin 1000 for_subject ∷ at 1002 (Decide f1 (record { handle = v2; verdict = Grant; rights = None; subject = Some (codes "u1") })) ∷ continue 1005 v1 None
+    ∷ [])
     ≡ Pending v1 by_code v2 (codes "BBBBBBBB") zeros_32 600 (Some c1) ∷ Decided None ∷ Granted v5 (token photos v3 v4 ∷ []) true (Some (codes "u1")) None ∷ []
 unfolding value_text encode_symbols code_text
 subject_needs_the_user = refl

@@ -341,10 +341,26 @@ abbrev pub text_111 : Text
 text_111 = codes "AAAAAAAAABYAAAAAAAAAAAAAAAAAAAAA"
 
 abbrev pub rules_0 : Setup
-rules_0 = rules_with text_1 text_2 (key_with text_3 Client text_4 ((Reference text_5) ∷ []) ((Reference text_6) ∷ []) [] ∷ key_with text_7 Client text_8 ((Reference text_5) ∷ []) [] [] ∷ key_with text_9 Server text_10 [] [] (text_5 ∷ text_6 ∷ []) ∷ key_with text_11 Server text_12 [] [] (text_13 ∷ []) ∷ key_with text_14 Front text_15 [] [] [] ∷ [])
+rules_0 = rules_with text_1 text_2
+    (key_with text_3 Client text_4 ((Reference text_5) ∷ []) ((Reference text_6) ∷ []) [] ∷ key_with text_7 Client text_8 ((Reference text_5) ∷ []) [] []
+    ∷ key_with text_9 Server text_10 [] [] (text_5 ∷ text_6 ∷ []) ∷ key_with text_11 Server text_12 [] [] (text_13 ∷ [])
+    ∷ key_with text_14 Front text_15 [] [] [] ∷ [])
 
 abbrev pub rules_1 : Setup
-rules_1 = rules_with text_1 text_2 (key_with text_9 Server text_10 [] [] (text_5 ∷ text_16 ∷ []) ∷ key_with text_3 Client text_4 ((Reference text_5) ∷ (object text_16 (Some (text_17 ∷ text_18 ∷ [])) (Some (text_19 ∷ [])) None None None text_20) ∷ (object text_16 (Some (text_17 ∷ [])) (Some (text_21 ∷ [])) None None None text_20) ∷ []) ((Reference text_6) ∷ (object text_16 (Some (text_17 ∷ [])) (Some (text_19 ∷ [])) None None (Some text_22) text_20) ∷ (object text_5 None None (Some (text_23 ∷ text_24 ∷ [])) (Some (text_25 ∷ [])) None text_20) ∷ []) [] ∷ key_with text_7 Client text_8 [] ((Reference text_5) ∷ (Reference text_6) ∷ (object text_16 (Some (text_17 ∷ [])) (Some (text_19 ∷ [])) None None None text_26) ∷ []) [] ∷ key_with text_11 Server text_12 [] [] (text_6 ∷ []) ∷ key_with text_14 Front text_15 [] [] [] ∷ [])
+rules_1 = rules_with text_1 text_2
+    (key_with text_9 Server text_10 [] [] (text_5 ∷ text_16 ∷ [])
+    ∷ key_with text_3 Client text_4
+    ((Reference text_5) ∷ (object text_16 (Some (text_17 ∷ text_18 ∷ [])) (Some (text_19 ∷ [])) None None None text_20)
+    ∷ (object text_16 (Some (text_17 ∷ [])) (Some (text_21 ∷ [])) None None None text_20) ∷ [])
+    ((Reference text_6) ∷ (object text_16 (Some (text_17 ∷ [])) (Some (text_19 ∷ [])) None None (Some text_22) text_20)
+    ∷ (object text_5 None None (Some (text_23 ∷ text_24 ∷ [])) (Some (text_25 ∷ [])) None text_20) ∷ []) []
+    ∷ key_with text_7 Client text_8 []
+    ((Reference text_5) ∷ (Reference text_6) ∷ (object text_16 (Some (text_17 ∷ [])) (Some (text_19 ∷ [])) None None None text_26) ∷ []) []
+    ∷ key_with text_11 Server text_12 [] [] (text_6 ∷ []) ∷ key_with text_14 Front text_15 [] [] [] ∷ [])
 
 abbrev pub rules_2 : Setup
-rules_2 = rules_with text_1 text_2 (key_with text_14 Front text_15 [] [] [] ∷ key_with text_7 Client text_8 ((Reference text_6) ∷ (Reference text_16) ∷ []) ((Reference text_5) ∷ []) [] ∷ key_with text_3 Client text_4 ((object text_16 (Some (text_17 ∷ text_18 ∷ [])) (Some (text_19 ∷ [])) None None None text_20) ∷ []) ((object text_16 (Some (text_17 ∷ [])) (Some (text_21 ∷ [])) None None None text_20) ∷ (object text_16 None None None None None text_20) ∷ (Reference text_5) ∷ []) [] ∷ key_with text_9 Server text_10 [] [] (text_16 ∷ text_6 ∷ [] ∷ []) ∷ key_with text_11 Server text_12 [] [] [] ∷ [])
+rules_2 = rules_with text_1 text_2
+    (key_with text_14 Front text_15 [] [] [] ∷ key_with text_7 Client text_8 ((Reference text_6) ∷ (Reference text_16) ∷ []) ((Reference text_5) ∷ []) []
+    ∷ key_with text_3 Client text_4 ((object text_16 (Some (text_17 ∷ text_18 ∷ [])) (Some (text_19 ∷ [])) None None None text_20) ∷ [])
+    ((object text_16 (Some (text_17 ∷ [])) (Some (text_21 ∷ [])) None None None text_20) ∷ (object text_16 None None None None None text_20)
+    ∷ (Reference text_5) ∷ []) [] ∷ key_with text_9 Server text_10 [] [] (text_16 ∷ text_6 ∷ [] ∷ []) ∷ key_with text_11 Server text_12 [] [] [] ∷ [])

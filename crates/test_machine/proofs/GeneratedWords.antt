@@ -38,13 +38,23 @@ asked moment values = record { moment = moment; values = values }
 
 -- of each value whether requests and replies alone show that a token with it lasts, and whether the notes have a live token with it
 abbrev pub told_of : List Event → Query → List Bool
-told_of past query = flat_map (λ value. came past query.moment value (λ token. true) ∷ is_some (live_token (trail_of past) query.moment value) ∷ []) query.values
+told_of past query = flat_map (λ value. came past query.moment value (λ token. true) ∷ is_some (live_token (trail_of past) query.moment value) ∷ [])
+    query.values
 
 abbrev pub told : Setup → List Line → List Query → List Bool
 told rules lines queries = let past = played rules [] lines in flat_map (told_of past) queries
 
 abbrev pub object : Text → Option (List Text) → Option (List Text) → Option (List Text) → Option (List Text) → Option Text → Text → Right
-object kind actions locations datatypes privileges identifier further = Object (record { kind = kind; actions = actions; locations = locations; datatypes = datatypes; privileges = privileges; identifier = identifier; further = further })
+object kind actions locations datatypes privileges identifier further = Object
+    (record {
+      kind = kind;
+      actions = actions;
+      locations = locations;
+      datatypes = datatypes;
+      privileges = privileges;
+      identifier = identifier;
+      further = further;
+    })
 
 abbrev pub ask_of : Option Text → List Right → Bool → Ask
 ask_of label rights bearer = record { label = label; rights = rights; bearer = bearer }
@@ -56,13 +66,15 @@ abbrev pub modes_of : Bool → Bool → Bool → Option Finish → Modes
 modes_of redirect user_code user_code_uri finish = record { redirect = redirect; user_code = user_code; user_code_uri = user_code_uri; finish = finish }
 
 abbrev pub request_of : List Ask → Bool → Bool → Option Text → Bool → Option Text → Option Modes → GrantRequest
-request_of asks single subject client by_object user modes = record { asks = asks; single = single; subject = subject; client = client; by_object = by_object; user = user; modes = modes }
+request_of asks single subject client by_object user modes = record
+    { asks = asks; single = single; subject = subject; client = client; by_object = by_object; user = user; modes = modes }
 
 abbrev pub decide_of : Text → Verdict → Option (List Right) → Option Text → DecideRequest
 decide_of handle verdict rights subject = record { handle = handle; verdict = verdict; rights = rights; subject = subject }
 
 abbrev pub token_out : Text → Text → Option Text → List Right → ℕ → Bool → TokenOut
-token_out value manage label rights expires_in bearer = record { value = value; manage = manage; label = label; rights = rights; expires_in = expires_in; bearer = bearer }
+token_out value manage label rights expires_in bearer = record
+    { value = value; manage = manage; label = label; rights = rights; expires_in = expires_in; bearer = bearer }
 
 abbrev pub finish_out : Finish → Text → Text → FinishOut
 finish_out finish server_nonce reference = record { finish = finish; server_nonce = server_nonce; reference = reference }
@@ -74,16 +86,32 @@ abbrev pub terms : ℕ → List Ask → Bool → Bool → Note
 terms grant asks single subject = Terms (record { grant = grant; asks = asks; single = single; subject = subject })
 
 abbrev pub issued : ℕ → ℕ → Option Text → List Right → Bool → Text → ℕ → ℕ → Text → Text → Note
-issued serial grant label rights bearer key begun until value manage = Issued (record { serial = serial; grant = grant; label = label; rights = rights; bearer = bearer; key = key; issued = begun; until = until; value = value; manage = manage })
+issued serial grant label rights bearer key begun until value manage = Issued
+    (record {
+      serial = serial;
+      grant = grant;
+      label = label;
+      rights = rights;
+      bearer = bearer;
+      key = key;
+      issued = begun;
+      until = until;
+      value = value;
+      manage =
+          manage;
+    })
 
 abbrev pub pended : ℕ → ℕ → ℕ → Modes → Text → Option Text → Option Text → Note
-pended grant until over modes handle code nonce = Pended (record { grant = grant; until = until; over = over; modes = modes; handle = handle; code = code; nonce = nonce })
+pended grant until over modes handle code nonce = Pended
+    (record { grant = grant; until = until; over = over; modes = modes; handle = handle; code = code; nonce = nonce })
 
 abbrev pub decided : ℕ → Verdict → Option Text → List Right → Option Text → Note
-decided grant verdict reference rights subject = DecidedAs (record { grant = grant; verdict = verdict; reference = reference; rights = rights; subject = subject })
+decided grant verdict reference rights subject = DecidedAs
+    (record { grant = grant; verdict = verdict; reference = reference; rights = rights; subject = subject })
 
 abbrev pub key_with : Text → Role → Text → List Right → List Right → List Text → KeyRow
-key_with id role secret auto_rights ask_rights serves = record { id = id; role = role; secret = secret; auto_rights = auto_rights; ask_rights = ask_rights; serves = serves }
+key_with id role secret auto_rights ask_rights serves = record
+    { id = id; role = role; secret = secret; auto_rights = auto_rights; ask_rights = ask_rights; serves = serves }
 
 abbrev pub rules_with : Text → Text → List KeyRow → Setup
 rules_with base front keys = record { base = base; front = front; keys = keys }

@@ -6,7 +6,8 @@ use Rattle.gnap_model.specs.Legal.{IsLegalPast, grant_law}
 use Rattle.gnap_laws.proofs.NewestFirst.{past_legal}
 use Rattle.test_machine.proofs.ExampleHistories.{played, setup, for_photos, begin, introspect, at, c1, v1, v3, v6}
 
-past_example : IsLegalPast setup (played setup [] (begin 1000 for_photos ∷ introspect 1001 v1 ∷ at 1002 (Modify c1 v3 for_photos) ∷ at 1003 (Cancel c1 v6) ∷ []))
+past_example : IsLegalPast setup
+    (played setup [] (begin 1000 for_photos ∷ introspect 1001 v1 ∷ at 1002 (Modify c1 v3 for_photos) ∷ at 1003 (Cancel c1 v6) ∷ []))
 past_example = (
   record { fits = tt; moment = lit≤ tt; reply = refl; notes = refl },
   (
@@ -18,5 +19,7 @@ past_example = (
   ),
 )
 
-pub legal_example : Legal grant_law setup (reverse (played setup [] (begin 1000 for_photos ∷ introspect 1001 v1 ∷ at 1002 (Modify c1 v3 for_photos) ∷ at 1003 (Cancel c1 v6) ∷ [])))
-legal_example = past_legal setup (played setup [] (begin 1000 for_photos ∷ introspect 1001 v1 ∷ at 1002 (Modify c1 v3 for_photos) ∷ at 1003 (Cancel c1 v6) ∷ [])) past_example
+pub legal_example : Legal grant_law setup
+    (reverse (played setup [] (begin 1000 for_photos ∷ introspect 1001 v1 ∷ at 1002 (Modify c1 v3 for_photos) ∷ at 1003 (Cancel c1 v6) ∷ [])))
+legal_example = past_legal setup
+    (played setup [] (begin 1000 for_photos ∷ introspect 1001 v1 ∷ at 1002 (Modify c1 v3 for_photos) ∷ at 1003 (Cancel c1 v6) ∷ [])) past_example

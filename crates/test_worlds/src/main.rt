@@ -1,19 +1,14 @@
 //! Runs commands of the program over worlds in memory, by a table.
 //!
-//! Each line of standard input is a JSON object, a world and the words of a command, and a line of standard output tells what came of it; `case` has their
-//! forms.
+//! Each line of standard input is a JSON object, a world and the words of a command, and a line of standard output tells what came of it; `case` of
+//! `test_cases` has their forms.
 //!
 //! The table and what must be printed are written by `expected/write.py`, by the rules of docs/ in another language, apart from this code.
 #![tactic(auto)]
 
-mod case;
-mod fault;
-mod latin;
-mod ordered_gears;
-mod outcome;
-mod world;
+mod runs;
 
-use crate::outcome::outcome_line;
+use crate::runs::outcome_line;
 use std::io;
 use std::io::{BufRead, BufReader};
 

@@ -77,14 +77,16 @@ fn row_at(places: &[TokenPlace], at: usize) -> Option<&TokenRow>
 
 // The row, where it has this value.
 fn with_value<'a>(row: Option<&'a TokenRow>, value: &[u8]) -> Option<&'a TokenRow>
-    ensures { option_map (λ row. row.now) result ≡ option_and_then (λ (row : TokenRow). some_if (same_text row.value value.now) row) (option_map (λ row. row.now) row.entry) }
+    ensures { option_map (λ row. row.now) result
+        ≡ option_and_then (λ (row : TokenRow). some_if (same_text row.value value.now) row) (option_map (λ row. row.now) row.entry) }
 {
     row.filter(|row| row.value.as_slice() == value)
 }
 
 // The row, where it has this management value.
 fn with_manage<'a>(row: Option<&'a TokenRow>, value: &[u8]) -> Option<&'a TokenRow>
-    ensures { option_map (λ row. row.now) result ≡ option_and_then (λ (row : TokenRow). some_if (same_text row.manage value.now) row) (option_map (λ row. row.now) row.entry) }
+    ensures { option_map (λ row. row.now) result
+        ≡ option_and_then (λ (row : TokenRow). some_if (same_text row.manage value.now) row) (option_map (λ row. row.now) row.entry) }
 {
     row.filter(|row| row.manage.as_slice() == value)
 }

@@ -29,7 +29,8 @@ write_value-returns-in-String-clause-ok t c =
 pub write_value-returns-in-Number-clause-ok : goal.write_value-returns-in-Number-clause-ok
 write_value-returns-in-Number-clause-ok t c =
     let seen : number (number_view c.in-Number.n) ≡ view c.args.value.now = rw c.in-Number.is (search (rules, the_lemmas)) in
-    on_ok_weaker c.write_number.result (λ w. (json.number w.0, w.1, ap (option_map number) w.2 ∙ ap Some seen, omega arith, ap json.number w.3 ∙ ap outline seen)) c.write_number.ensures.ok
+    on_ok_weaker c.write_number.result
+    (λ w. (json.number w.0, w.1, ap (option_map number) w.2 ∙ ap Some seen, omega arith, ap json.number w.3 ∙ ap outline seen)) c.write_number.ensures.ok
 
 pub write_value-returns-in_ok-begin_array-in-Array-clause-ok : goal.write_value-returns-in_ok-begin_array-in-Array-clause-ok
 write_value-returns-in_ok-begin_array-in-Array-clause-ok t c =
@@ -48,7 +49,8 @@ write_items-loop-item-preserved t c =
     let l = c.loop-item in
     let xs = c.deref-item-items.result.now in
     let x = c.item-item.result in
-    let here : drop l.item-index xs ≡ x ∷ drop (l.item-index + 1) xs = drop_more xs l.item-index x (omega arith) ∙ ap (λ y. y ∷ drop (l.item-index + 1) xs) (sym c.item-item.is) in (
+    let here : drop l.item-index xs ≡ x ∷ drop (l.item-index + 1) xs = drop_more xs l.item-index x (omega arith)
+    ∙ ap (λ y. y ∷ drop (l.item-index + 1) xs) (sym c.item-item.is) in (
       c.write_value.ensures.before ∙ l.invariant.0,
       λ end rest. l.invariant.1 end (subst (λ ys. WritesItems (items_view ys) l.out.tokens end) (sym here)
           (item_written _ _ l.out.tokens _ end c.in_ok-write_value.ensures.ok rest)),
@@ -62,7 +64,8 @@ write_items-returns-clause-ok t c =
     let none : drop l.item-index xs ≡ [] = drop_all l.item-index xs (omega arith) in
     on_ok_weaker c.end_array.result (λ e.
     subst (λ ys. WritesItems (items_view ys) c.args.out.now.tokens end) c.deref-item-items.ensures.value
-    (l.invariant.1 end (subst (λ ys. WritesItems (items_view ys) l.out.tokens end) (sym none) (json.no_items, e, refl, omega arith, refl)))) c.end_array.ensures.ok
+    (l.invariant.1 end (subst (λ ys. WritesItems (items_view ys) l.out.tokens end) (sym none) (json.no_items, e, refl, omega arith, refl))))
+    c.end_array.ensures.ok
 
 pub write_members-loop-key-preserved : goal.write_members-loop-key-preserved
 write_members-loop-key-preserved t c =

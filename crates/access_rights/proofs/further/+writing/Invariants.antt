@@ -9,7 +9,8 @@ use Rattle.access_rights.proofs.further.+writing.Given as goal
 abbrev pub invariant-write_items-loop-item : goal.invariant-write_items-loop-item
 invariant-write_items-loop-item l =
     (l.out.before ≡ l.initial.out.before)
-    × ((end : List Token) → WritesItems (items_view (drop l.item-index l.item-items)) l.out.tokens end → WritesItems (items_view l.item-items) l.initial.out.tokens end)
+    × ((end : List Token) → WritesItems (items_view (drop l.item-index l.item-items)) l.out.tokens end
+    → WritesItems (items_view l.item-items) l.initial.out.tokens end)
 
 abbrev pub invariant-write_members-loop-key : goal.invariant-write_members-loop-key
 invariant-write_members-loop-key l =

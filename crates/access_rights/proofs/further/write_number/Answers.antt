@@ -25,23 +25,28 @@ returns-in-Some-as_i64-clause-ok c =
     let absent : as_u64 (number_view c.args.number.now) ≡ None = sym c.as_u64.ensures ∙ c.in_default.is in
     let seen = from_i64 (number_view c.args.number.now) c.in-Some-as_i64.n absent (sym c.as_i64.ensures ∙ c.in-Some-as_i64.is) in
     let told : signed_decimal (to_z w64 (of_z w64 c.in-Some-as_i64.n)) ≡ signed_decimal c.in-Some-as_i64.n = ap signed_decimal (search rules) in
-    let read = ap number_of told ∙ number_of-below_zero c.in-Some-as_i64.n (below_zero c.args.number.now.n c.in-Some-as_i64.n c.args.number.now.valid seen) (search rules) in
+    let read = ap number_of told ∙ number_of-below_zero c.in-Some-as_i64.n (below_zero c.args.number.now.n c.in-Some-as_i64.n c.args.number.now.valid seen)
+    (search rules) in
     on_ok_weaker c.i64.result (λ e. (_, e, read ∙ ap Some seen, unless_float-number_of _ _ read ∙ told ∙ ap number_text seen)) c.i64.ensures.ok
 
 pub float_with_plus-requires : goal.float_with_plus-requires
 float_with_plus-requires c =
     let absent : as_u64 (number_view c.args.number.now) ≡ None = sym c.as_u64.ensures ∙ c.in_default.is in
     let none : as_i64 (number_view c.args.number.now) ≡ None = sym c.as_i64.ensures ∙ c.in_default-as_i64.is in
-    let same : to_float (number_view c.args.number.now) ≡ c.in-Some-as_f64.x = ap (λ o. unwrap_or o c.in-Some-as_f64.x) (sym c.as_f64.ensures ∙ c.in-Some-as_f64.is) in
-    subst (λ x. float_is_finite x ≡ true) same (is_finite c.args.number.now.n c.args.number.now.valid (from_neither (number_view c.args.number.now) absent none))
+    let same : to_float (number_view c.args.number.now)
+    ≡ c.in-Some-as_f64.x = ap (λ o. unwrap_or o c.in-Some-as_f64.x) (sym c.as_f64.ensures ∙ c.in-Some-as_f64.is) in
+    subst (λ x. float_is_finite x ≡ true) same
+    (is_finite c.args.number.now.n c.args.number.now.valid (from_neither (number_view c.args.number.now) absent none))
 
 pub returns-clause-ok : goal.returns-clause-ok
 returns-clause-ok c =
     let absent : as_u64 (number_view c.args.number.now) ≡ None = sym c.as_u64.ensures ∙ c.in_default.is in
     let none : as_i64 (number_view c.args.number.now) ≡ None = sym c.as_i64.ensures ∙ c.in_default-as_i64.is in
-    let same : to_float (number_view c.args.number.now) ≡ c.in-Some-as_f64.x = ap (λ o. unwrap_or o c.in-Some-as_f64.x) (sym c.as_f64.ensures ∙ c.in-Some-as_f64.is) in
+    let same : to_float (number_view c.args.number.now)
+    ≡ c.in-Some-as_f64.x = ap (λ o. unwrap_or o c.in-Some-as_f64.x) (sym c.as_f64.ensures ∙ c.in-Some-as_f64.is) in
     let number = from_neither (number_view c.args.number.now) absent none in
-    let finite : float_is_finite c.in-Some-as_f64.x ≡ true = subst (λ x. float_is_finite x ≡ true) same (is_finite c.args.number.now.n c.args.number.now.valid number) in
+    let finite : float_is_finite c.in-Some-as_f64.x
+    ≡ true = subst (λ x. float_is_finite x ≡ true) same (is_finite c.args.number.now.n c.args.number.now.valid number) in
     let seen : float c.in-Some-as_f64.x ≡ number_view c.args.number.now = ap float (sym same) ∙ number in
     on_ok_weaker c.float_with_plus.result (λ w.
     let read = number_of-plus _ _ w.0 c.in-Some-as_f64.x w.2 w.3 finite in

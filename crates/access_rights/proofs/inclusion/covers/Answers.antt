@@ -7,4 +7,5 @@ use Rattle.access_rights.proofs.Atoms.{covers_each}
 use Rattle.access_rights.proofs.inclusion.covers.Goals as goal
 
 pub loop-right-init : goal.loop-right-init
-loop-right-init c = ap (λ (rs : List Right). list_all (λ r. list_all (has_atom c.args.granted.now) (right_atoms r)) rs) c.as_slice-right-items.ensures ∙ covers_each c.args.granted.now c.args.wanted.now
+loop-right-init c = ap (λ (rs : List Right). list_all (λ r. list_all (has_atom c.args.granted.now) (right_atoms r)) rs) c.as_slice-right-items.ensures
+    ∙ covers_each c.args.granted.now c.args.wanted.now

@@ -9,5 +9,6 @@ use Rattle.access_rights.proofs.inclusion.has_parts.Goals as goal
 
 pub loop-right-init : goal.loop-right-init
 loop-right-init c =
-    let a : Atom = atom_at c.args.wanted.now (option_map (λ b. b.now) c.args.action) (option_map (λ b. b.now) c.args.location) (option_map (λ b. b.now) c.args.datatype) (option_map (λ b. b.now) c.args.privilege) in
+    let a : Atom = atom_at c.args.wanted.now (option_map (λ b. b.now) c.args.action) (option_map (λ b. b.now) c.args.location)
+    (option_map (λ b. b.now) c.args.datatype) (option_map (λ b. b.now) c.args.privilege) in
     ap (λ (rs : List Right). list_any (λ r. list_any (same_atom a) (right_atoms r)) rs) c.as_slice-right-items.ensures ∙ has_each a c.args.granted.now

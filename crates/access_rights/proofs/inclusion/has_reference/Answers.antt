@@ -7,4 +7,5 @@ use Rattle.access_rights.proofs.Atoms.{has_each}
 use Rattle.access_rights.proofs.inclusion.has_reference.Goals as goal
 
 pub loop-right-init : goal.loop-right-init
-loop-right-init c = ap (λ (rs : List Right). list_any (λ r. list_any (same_atom (Name c.args.name.now)) (right_atoms r)) rs) c.as_slice-right-items.ensures ∙ has_each (Name c.args.name.now) c.args.granted.now
+loop-right-init c = ap (λ (rs : List Right). list_any (λ r. list_any (same_atom (Name c.args.name.now)) (right_atoms r)) rs) c.as_slice-right-items.ensures
+    ∙ has_each (Name c.args.name.now) c.args.granted.now

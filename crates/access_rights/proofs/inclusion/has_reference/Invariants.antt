@@ -6,4 +6,5 @@ use Rattle.access_rights.specs.Inclusion.{has_atom}
 use Rattle.access_rights.proofs.inclusion.has_reference.Given as goal
 
 abbrev pub invariant-loop-right : goal.invariant-loop-right
-invariant-loop-right l = list_any (λ r. list_any (same_atom (Name l.name)) (right_atoms r)) (drop l.right-index l.right-items) ≡ has_atom l.granted (Name l.name)
+invariant-loop-right l = list_any (λ r. list_any (same_atom (Name l.name)) (right_atoms r)) (drop l.right-index l.right-items)
+    ≡ has_atom l.granted (Name l.name)

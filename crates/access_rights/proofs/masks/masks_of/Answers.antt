@@ -12,7 +12,8 @@ loop-text-preserved c =
     let text = c.text-item.result in
     let masks = c.loop-text.masks.items in
     let rest = map f (map Some (drop (i + 1) texts)) in
-    let first : drop i texts ≡ text ∷ drop (i + 1) texts = drop-cons texts i text c.loop-text-test.true ∙ ap (λ t. t ∷ drop (suc i) texts) (sym c.text-item.is) ∙ ap (λ j. text ∷ drop j texts) (sym (add-one i)) in
+    let first : drop i texts ≡ text ∷ drop (i + 1) texts = drop-cons texts i text c.loop-text-test.true ∙ ap (λ t. t ∷ drop (suc i) texts) (sym c.text-item.is)
+    ∙ ap (λ j. text ∷ drop j texts) (sym (add-one i)) in
     ap (λ ms. ms ++ rest) c.in-Ok.ensures.ok
     ∙ append_assoc masks (c.in_ok-mask.mask ∷ []) rest
     ∙ ap (λ m. masks ++ m ∷ rest) c.in_ok-mask.ensures

@@ -42,7 +42,8 @@ returns-in-Err-reply_line-clause-turn g c h full seen same =
     let x = c.in-Ok.ensures.ok h seen in
     let rules = g.D.Desk.rules c.args.desk.now in
     let e = entry_of gnap rules (h ++ x.others) (g.D.Desk.number c.args.desk.now) c.in-Ok-Ask.moment c.in-Ok-Ask.draw c.in-Ok-Ask.signed in
-    with_entry _ _ _ full _ h _ _ _ c.in-Ok-Ask.moment [] false refl (refl, refl) rules c.in-Ok-Ask.draw c.in-Ok-Ask.signed c.in-Ok.reply x (unsaid full e asked)
+    with_entry _ _ _ full _ h _ _ _ c.in-Ok-Ask.moment [] false refl (refl, refl) rules c.in-Ok-Ask.draw c.in-Ok-Ask.signed c.in-Ok.reply x
+    (unsaid full e asked)
 
 pub returns-clause-turn : goal.returns-clause-turn
 returns-clause-turn g c h full seen same =
@@ -50,7 +51,8 @@ returns-clause-turn g c h full seen same =
     let x = c.in-Ok.ensures.ok h seen in
     let rules = g.D.Desk.rules c.args.desk.now in
     let e = entry_of gnap rules (h ++ x.others) (g.D.Desk.number c.args.desk.now) c.in-Ok-Ask.moment c.in-Ok-Ask.draw c.in-Ok-Ask.signed in
-    let P : List ℕ → Type 0 = λ text. Prints c.say-in-Ok-reply_line.result text (g.O.Device.told c.args.out.now) (g.O.Device.told c.say-in-Ok-reply_line.new.out) in
+    let P : List ℕ → Type 0 = λ text. Prints c.say-in-Ok-reply_line.result text (g.O.Device.told c.args.out.now)
+    (g.O.Device.told c.say-in-Ok-reply_line.new.out) in
     with_entry _ _ _ full _ h _ _ _ c.in-Ok-Ask.moment (reply_line c.args.setup.now e.reply) true (goes_on _ c.say-in-Ok-reply_line.ensures.fed)
     (subst P (c.in-Ok-reply_line.ensures ∙ ap (reply_line c.args.setup.now) x.reply_is) c.say-in-Ok-reply_line.ensures.prints)
     rules c.in-Ok-Ask.draw c.in-Ok-Ask.signed c.in-Ok.reply x (called full e asked)

@@ -12,7 +12,9 @@ returns-then-place-eq48 c =
     let values = c.deref-item-items.result.now in
     let i = c.loop-item.item-index in
     let front = take c.loop-item.place c.loop-item.words in
-    sym (full front (view c.item-item.result) (items_view (drop (i + 1) values)) (length-take-le c.loop-item.place c.loop-item.words (let size = inv.size in let at = c.if-place-eq48.true in omega (arith, size, at)) ∙ c.if-place-eq48.true))
+    sym (full front (view c.item-item.result) (items_view (drop (i + 1) values))
+    (length-take-le c.loop-item.place c.loop-item.words (let size = inv.size in let at = c.if-place-eq48.true in omega (arith, size, at))
+    ∙ c.if-place-eq48.true))
     ∙ ap (words_from front) (sym (view_next values i c.item-item.result c.loop-item-test.true c.item-item.is))
     ∙ inv.so_far ∙ ap (λ x. words_from [] (items_view x)) inv.items_are
 
@@ -28,7 +30,8 @@ loop-item-preserved c =
       within = omega (arith, short);
       size = length-set words place c.in_ok-word.word ∙ inv.size;
       rest = rest_next words place c.in_ok-word.word short inv.rest;
-      so_far = word_next words place c.in_ok-word.word (view c.item-item.result) (items_view (drop (i + 1) values)) (let size = inv.size in omega (arith, short, size)) (sym c.as_u64.ensures ∙ c.in_ok-word.was)
+      so_far = word_next words place c.in_ok-word.word (view c.item-item.result) (items_view (drop (i + 1) values))
+          (let size = inv.size in omega (arith, short, size)) (sym c.as_u64.ensures ∙ c.in_ok-word.was)
           ∙ ap (words_from (take place words)) (sym (view_next values i c.item-item.result c.loop-item-test.true c.item-item.is)) ∙ inv.so_far;
       items_are = inv.items_are;
     }

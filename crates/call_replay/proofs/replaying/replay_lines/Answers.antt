@@ -20,7 +20,8 @@ lines-init g c = record {
   number = refl;
   empty = c.new-line.ensures;
   line_number = refl;
-  goes = goes-start (Turns c.args.setup.now (g.D.Desk.number c.args.desk.now) (g.D.Desk.seen c.args.desk.now)) _ _ _ _ (none-had _ _ _ c.requires.fresh) c.requires.held;
+  goes = goes-start (Turns c.args.setup.now (g.D.Desk.number c.args.desk.now) (g.D.Desk.seen c.args.desk.now)) _ _ _ _ (none-had _ _ _ c.requires.fresh)
+      c.requires.held;
   reads = refl;
   writes = refl;
 }
@@ -64,7 +65,15 @@ lines-smaller g c =
     let none = sym c.in_default.ensures in
     let short = not_long c.next_line-end.result c.next_line-end.ensures.long in
     let parts = whole_parts _ _ _ _ _ _ _ _ c.next_line-end.result none (sym c.is_last.ensures ∙ c.if-is_last.false) short read in
-    omega (arith, most, read.came.counted, ap length parts, length-append (held_by c.lines.reader) read.bytes, length-append read.full (10 ∷ held_by c.next_line-end.new.self))
+    omega (
+      arith,
+      most,
+      read.came.counted,
+      ap length parts,
+      length-append (held_by c.lines.reader) read.bytes,
+      length-append read.full
+          (10 ∷ held_by c.next_line-end.new.self),
+    )
 
 pub lines-preserved : goal.lines-preserved
 unfolding goes-next
@@ -74,17 +83,23 @@ lines-preserved g c =
     let none = sym c.in_default.ensures in
     let short = not_long c.next_line-end.result c.next_line-end.ensures.long in
     let parts = whole_parts _ _ _ _ _ _ _ _ c.next_line-end.result none (sym c.is_last.ensures ∙ c.if-is_last.false) short read in
-    let same = kept_step c.args.setup.now c.lines.number read.full ∙ ap (line_step c.args.setup.now c.lines.number) (sym (read.kept (not_starved c.next_line-end.result none))) in
-    let A : ℕ → Type 0 = λ n. AnswersLine c.args.setup.now n c.lines.number read.full (g.D.Desk.seen c.answer_line.new.desk) inv.goes.had.history (g.O.Device.told c.lines.out) (g.O.Device.told c.answer_line.new.out) after.On in
-    let B : ℕ → Type 0 = λ n. AnswersLine c.args.setup.now (g.D.Desk.number c.args.desk.now) n read.full (g.D.Desk.seen c.answer_line.new.desk) inv.goes.had.history (g.O.Device.told c.lines.out) (g.O.Device.told c.answer_line.new.out) after.On in
+    let same = kept_step c.args.setup.now c.lines.number read.full
+    ∙ ap (line_step c.args.setup.now c.lines.number) (sym (read.kept (not_starved c.next_line-end.result none))) in
+    let A : ℕ → Type 0 = λ n. AnswersLine c.args.setup.now n c.lines.number read.full (g.D.Desk.seen c.answer_line.new.desk) inv.goes.had.history
+    (g.O.Device.told c.lines.out) (g.O.Device.told c.answer_line.new.out) after.On in
+    let B : ℕ → Type 0 = λ n. AnswersLine c.args.setup.now (g.D.Desk.number c.args.desk.now) n read.full (g.D.Desk.seen c.answer_line.new.desk)
+    inv.goes.had.history (g.O.Device.told c.lines.out) (g.O.Device.told c.answer_line.new.out) after.On in
     let answer = subst B inv.line_number (subst A inv.number (c.in-On.ensures.turn inv.goes.had.history read.full inv.goes.had.seen_now same)) in
-    let counted : c.lines.number + 1 ≡ first_call_line + length (inv.goes.turns ++ answer.turn ∷ []) = omega (arith, inv.line_number, length-next inv.goes.turns answer.turn) in
+    let counted : c.lines.number + 1 ≡ first_call_line
+    + length (inv.goes.turns ++ answer.turn ∷ []) = omega (arith, inv.line_number, length-next inv.goes.turns answer.turn) in
     record {
       rules = c.in-On.ensures.rules ∙ inv.rules;
       number = c.in-On.ensures.number ∙ inv.number;
       empty = c.emptied-line.ensures;
       line_number = counted;
-      goes = goes-next _ _ _ _ _ _ _ _ _ inv.goes read.full read.bytes _ _ read.came read.is_line (g.O.Device.told c.answer_line.new.out) (Turns c.args.setup.now (g.D.Desk.number c.args.desk.now) (g.D.Desk.seen c.answer_line.new.desk)) answer.turn (had-next _ _ _ _ inv.goes.turns _ _ _ _ inv.goes.had answer) answer.message _ parts answer.goes answer.prints;
+      goes = goes-next _ _ _ _ _ _ _ _ _ inv.goes read.full read.bytes _ _ read.came read.is_line (g.O.Device.told c.answer_line.new.out)
+          (Turns c.args.setup.now (g.D.Desk.number c.args.desk.now) (g.D.Desk.seen c.answer_line.new.desk)) answer.turn
+          (had-next _ _ _ _ inv.goes.turns _ _ _ _ inv.goes.had answer) answer.message _ parts answer.goes answer.prints;
       reads = read_counts c.next_line-end.result _ _ none c.next_line-end.ensures.cause ∙ inv.reads;
       writes = c.in-On.ensures.counts ∙ inv.writes;
     }
@@ -95,19 +110,27 @@ returns-then-is_last-clause-replays g c =
     let read = c.next_line-end.ensures.read in
     let none = sym c.in_default.ensures in
     let parts = last_parts _ _ _ _ _ _ _ _ c.next_line-end.result (sym c.is_last.ensures ∙ c.if-is_last.true) read in
-    let same = kept_step c.args.setup.now c.lines.number read.full ∙ ap (line_step c.args.setup.now c.lines.number) (sym (read.kept (not_starved c.next_line-end.result none))) in
-    let A : ℕ → Type 0 = λ n. AnswersLine c.args.setup.now n c.lines.number read.full (g.D.Desk.seen c.answer_line.new.desk) inv.goes.had.history (g.O.Device.told c.lines.out) (g.O.Device.told c.answer_line.new.out) after.On in
-    let B : ℕ → Type 0 = λ n. AnswersLine c.args.setup.now (g.D.Desk.number c.args.desk.now) n read.full (g.D.Desk.seen c.answer_line.new.desk) inv.goes.had.history (g.O.Device.told c.lines.out) (g.O.Device.told c.answer_line.new.out) after.On in
+    let same = kept_step c.args.setup.now c.lines.number read.full
+    ∙ ap (line_step c.args.setup.now c.lines.number) (sym (read.kept (not_starved c.next_line-end.result none))) in
+    let A : ℕ → Type 0 = λ n. AnswersLine c.args.setup.now n c.lines.number read.full (g.D.Desk.seen c.answer_line.new.desk) inv.goes.had.history
+    (g.O.Device.told c.lines.out) (g.O.Device.told c.answer_line.new.out) after.On in
+    let B : ℕ → Type 0 = λ n. AnswersLine c.args.setup.now (g.D.Desk.number c.args.desk.now) n read.full (g.D.Desk.seen c.answer_line.new.desk)
+    inv.goes.had.history (g.O.Device.told c.lines.out) (g.O.Device.told c.answer_line.new.out) after.On in
     let answer = subst B inv.line_number (subst A inv.number (c.in-On.ensures.turn inv.goes.had.history read.full inv.goes.had.seen_now same)) in
-    turned-done _ _ _ _ _ _ _ _ _ inv.goes read.full read.bytes _ _ read.came read.is_line (g.O.Device.told c.answer_line.new.out) (Turns c.args.setup.now (g.D.Desk.number c.args.desk.now) (g.D.Desk.seen c.answer_line.new.desk)) answer.turn (had-next _ _ _ _ inv.goes.turns _ _ _ _ inv.goes.had answer) answer.message parts.0 parts.2 answer.goes answer.prints
+    turned-done _ _ _ _ _ _ _ _ _ inv.goes read.full read.bytes _ _ read.came read.is_line (g.O.Device.told c.answer_line.new.out)
+    (Turns c.args.setup.now (g.D.Desk.number c.args.desk.now) (g.D.Desk.seen c.answer_line.new.desk)) answer.turn
+    (had-next _ _ _ _ inv.goes.turns _ _ _ _ inv.goes.had answer) answer.message parts.0 parts.2 answer.goes answer.prints
 
 pub returns-then-is_last-clause-reads : goal.returns-then-is_last-clause-reads
-returns-then-is_last-clause-reads g c = read_counts c.next_line-end.result _ _ (sym c.in_default.ensures) c.next_line-end.ensures.cause ∙ c.lines.invariant.reads
+returns-then-is_last-clause-reads g c = read_counts c.next_line-end.result _ _ (sym c.in_default.ensures) c.next_line-end.ensures.cause
+    ∙ c.lines.invariant.reads
 
 pub returns-then-is_last-clause-took : goal.returns-then-is_last-clause-took
 returns-then-is_last-clause-took g c =
-    let last = sym c.is_last.ensures ∙ c.if-is_last.true in
-    (last_counts c.next_line-end.result _ last c.next_line-end.ensures.full, (last_parts _ _ _ _ _ _ _ _ c.next_line-end.result last c.next_line-end.ensures.read).2)
+    let last = sym c.is_last.ensures ∙ c.if-is_last.true in (
+      last_counts c.next_line-end.result _ last c.next_line-end.ensures.full,
+      (last_parts _ _ _ _ _ _ _ _ c.next_line-end.result last c.next_line-end.ensures.read).2,
+    )
 
 pub returns-in-Starved-clause-replays : goal.returns-in-Starved-clause-replays
 returns-in-Starved-clause-replays g c =
@@ -115,11 +138,17 @@ returns-in-Starved-clause-replays g c =
     let read = c.next_line-end.ensures.read in
     let none = sym c.in_default.ensures in
     let short = not_long c.next_line-end.result c.next_line-end.ensures.long in
-    let same = kept_step c.args.setup.now c.lines.number read.full ∙ ap (line_step c.args.setup.now c.lines.number) (sym (read.kept (not_starved c.next_line-end.result none))) in
-    let A : ℕ → Type 0 = λ n. AnswersLine c.args.setup.now n c.lines.number read.full (g.D.Desk.seen c.answer_line.new.desk) inv.goes.had.history (g.O.Device.told c.lines.out) (g.O.Device.told c.answer_line.new.out) after.Starved in
-    let B : ℕ → Type 0 = λ n. AnswersLine c.args.setup.now (g.D.Desk.number c.args.desk.now) n read.full (g.D.Desk.seen c.answer_line.new.desk) inv.goes.had.history (g.O.Device.told c.lines.out) (g.O.Device.told c.answer_line.new.out) after.Starved in
+    let same = kept_step c.args.setup.now c.lines.number read.full
+    ∙ ap (line_step c.args.setup.now c.lines.number) (sym (read.kept (not_starved c.next_line-end.result none))) in
+    let A : ℕ → Type 0 = λ n. AnswersLine c.args.setup.now n c.lines.number read.full (g.D.Desk.seen c.answer_line.new.desk) inv.goes.had.history
+    (g.O.Device.told c.lines.out) (g.O.Device.told c.answer_line.new.out) after.Starved in
+    let B : ℕ → Type 0 = λ n. AnswersLine c.args.setup.now (g.D.Desk.number c.args.desk.now) n read.full (g.D.Desk.seen c.answer_line.new.desk)
+    inv.goes.had.history (g.O.Device.told c.lines.out) (g.O.Device.told c.answer_line.new.out) after.Starved in
     let answer = subst B inv.line_number (subst A inv.number (c.in-Starved.ensures.turn inv.goes.had.history read.full inv.goes.had.seen_now same)) in
-    turned-starved _ _ _ _ _ _ _ _ _ inv.goes read.full read.bytes _ _ read.came read.is_line (g.O.Device.told c.answer_line.new.out) (Turns c.args.setup.now (g.D.Desk.number c.args.desk.now) (g.D.Desk.seen c.answer_line.new.desk)) answer.turn (had-next _ _ _ _ inv.goes.turns _ _ _ _ inv.goes.had answer) answer.message (line_later _ _ _ _ _ _ _ _ c.next_line-end.result none short read) answer.prints
+    turned-starved _ _ _ _ _ _ _ _ _ inv.goes read.full read.bytes _ _ read.came read.is_line (g.O.Device.told c.answer_line.new.out)
+    (Turns c.args.setup.now (g.D.Desk.number c.args.desk.now) (g.D.Desk.seen c.answer_line.new.desk)) answer.turn
+    (had-next _ _ _ _ inv.goes.turns _ _ _ _ inv.goes.had answer) answer.message (line_later _ _ _ _ _ _ _ _ c.next_line-end.result none short read)
+    answer.prints
 
 pub returns-in-Starved-clause-reads : goal.returns-in-Starved-clause-reads
 returns-in-Starved-clause-reads g c = read_counts c.next_line-end.result _ _ (sym c.in_default.ensures) c.next_line-end.ensures.cause ∙ c.lines.invariant.reads
@@ -130,11 +159,17 @@ returns-in-Cut-clause-replays g c =
     let read = c.next_line-end.ensures.read in
     let none = sym c.in_default.ensures in
     let short = not_long c.next_line-end.result c.next_line-end.ensures.long in
-    let same = kept_step c.args.setup.now c.lines.number read.full ∙ ap (line_step c.args.setup.now c.lines.number) (sym (read.kept (not_starved c.next_line-end.result none))) in
-    let A : ℕ → Type 0 = λ n. AnswersLine c.args.setup.now n c.lines.number read.full (g.D.Desk.seen c.answer_line.new.desk) inv.goes.had.history (g.O.Device.told c.lines.out) (g.O.Device.told c.answer_line.new.out) after.Cut in
-    let B : ℕ → Type 0 = λ n. AnswersLine c.args.setup.now (g.D.Desk.number c.args.desk.now) n read.full (g.D.Desk.seen c.answer_line.new.desk) inv.goes.had.history (g.O.Device.told c.lines.out) (g.O.Device.told c.answer_line.new.out) after.Cut in
+    let same = kept_step c.args.setup.now c.lines.number read.full
+    ∙ ap (line_step c.args.setup.now c.lines.number) (sym (read.kept (not_starved c.next_line-end.result none))) in
+    let A : ℕ → Type 0 = λ n. AnswersLine c.args.setup.now n c.lines.number read.full (g.D.Desk.seen c.answer_line.new.desk) inv.goes.had.history
+    (g.O.Device.told c.lines.out) (g.O.Device.told c.answer_line.new.out) after.Cut in
+    let B : ℕ → Type 0 = λ n. AnswersLine c.args.setup.now (g.D.Desk.number c.args.desk.now) n read.full (g.D.Desk.seen c.answer_line.new.desk)
+    inv.goes.had.history (g.O.Device.told c.lines.out) (g.O.Device.told c.answer_line.new.out) after.Cut in
     let answer = subst B inv.line_number (subst A inv.number (c.in-Cut.ensures.turn inv.goes.had.history read.full inv.goes.had.seen_now same)) in
-    turned-cut _ _ _ _ _ _ _ _ _ inv.goes read.full read.bytes _ _ read.came read.is_line (g.O.Device.told c.answer_line.new.out) (Turns c.args.setup.now (g.D.Desk.number c.args.desk.now) (g.D.Desk.seen c.answer_line.new.desk)) answer.turn (had-next _ _ _ _ inv.goes.turns _ _ _ _ inv.goes.had answer) answer.message (line_later _ _ _ _ _ _ _ _ c.next_line-end.result none short read) answer.prints
+    turned-cut _ _ _ _ _ _ _ _ _ inv.goes read.full read.bytes _ _ read.came read.is_line (g.O.Device.told c.answer_line.new.out)
+    (Turns c.args.setup.now (g.D.Desk.number c.args.desk.now) (g.D.Desk.seen c.answer_line.new.desk)) answer.turn
+    (had-next _ _ _ _ inv.goes.turns _ _ _ _ inv.goes.had answer) answer.message (line_later _ _ _ _ _ _ _ _ c.next_line-end.result none short read)
+    answer.prints
 
 pub returns-in-Cut-clause-reads : goal.returns-in-Cut-clause-reads
 returns-in-Cut-clause-reads g c = read_counts c.next_line-end.result _ _ (sym c.in_default.ensures) c.next_line-end.ensures.cause ∙ c.lines.invariant.reads

@@ -18,4 +18,10 @@ pub returns-in-Err-clause-read : goal.returns-in-Err-clause-read
 returns-in-Err-clause-read g c =
     let comes = c.in-More.ensures.0 in
     let more = came-more _ _ _ _ _ _ _ _ c.loop-reader.invariant.came comes.takes comes.counted in
-    record { bytes = c.loop-reader.text ++ held_by c.refill.new.self; takes = more.takes; most = omega (arith, more.counted, c.refill.new.self.limited); ends = tt }
+    record {
+      bytes = c.loop-reader.text
+          ++ held_by c.refill.new.self;
+      takes = more.takes;
+      most = omega (arith, more.counted, c.refill.new.self.limited);
+      ends = tt;
+    }

@@ -17,7 +17,8 @@ returns-in-Ok-Some-clause-read c =
     let same : Some own ≡ exactly c.count_among-count.result words = search rules in
     let items : c.as_slice.result.now ≡ c.in-Ok-Some.taken.items = search rules in
     read_again c.command_named.result c.args.name.now c.count_among-count.result words own same
-    (subst (λ ws. AreRead c.command_named.result (map string_bytes ws) (command_named c.args.name.now (map string_bytes ws))) items c.command_named.ensures.read)
+    (subst (λ ws. AreRead c.command_named.result (map string_bytes ws) (command_named c.args.name.now (map string_bytes ws))) items
+    c.command_named.ensures.read)
 
 pub returns-in-Ok-None-clause-read : goal.returns-in-Ok-None-clause-read
 returns-in-Ok-None-clause-read c =

@@ -16,7 +16,8 @@ returns c = λ words is.
     let range = c.requires in
     let command_is : app_of c.in_ok-command.command ≡ taking count = c.in_ok-command.ensures in
     let own = c.in-Err.ensures.kinds (ap is_simple_and_free command_is ∙ simple_and_free count range.0 range.1) in
-    let other : sameb the_type (kind_of c.in-Err.error) kind.OutOfMemory ≡ false = ap (λ k. sameb the_type k kind.OutOfMemory) (sym c.kind.ensures) ∙ sym c.eq.ensures ∙ c.if-eq.false in
+    let other : sameb the_type (kind_of c.in-Err.error) kind.OutOfMemory ≡ false = ap (λ k. sameb the_type k kind.OutOfMemory) (sym c.kind.ensures)
+    ∙ sym c.eq.ensures ∙ c.if-eq.false in
     refused c.in-Err.error count range.0 range.1 _ _ words command_is is own other
 
 pub returns-in-Ok : goal.returns-in-Ok

@@ -6,4 +6,5 @@ use Rattle.command_words.proofs.positionals.values_of.Given as goal
 
 -- the values of the arguments before this place
 abbrev pub invariant-loop-place : goal.invariant-loop-place
-invariant-loop-place l = (words : List Text) → length words ≡ l.count → HasValues (found_of l.matches) words → map string_bytes l.values.items ≡ take l.place words
+invariant-loop-place l = (words : List Text) → length words ≡ l.count → HasValues (found_of l.matches) words
+    → map string_bytes l.values.items ≡ take l.place words

@@ -22,18 +22,22 @@ say_reply-requires g c =
 
 pub returns-in-Direct : goal.returns-in-Direct
 returns-in-Direct g c h gear seen first =
-    direct-turn g.D.Desk.rules g.D.Desk.number g.D.Desk.home g.D.Desk.seen c.args.server.now.pairs c.args.server.now.setup c.args.last c.args.message.now _ h seen c.args.moment gear _ first
+    direct-turn g.D.Desk.rules g.D.Desk.number g.D.Desk.home g.D.Desk.seen c.args.server.now.pairs c.args.server.now.setup c.args.last c.args.message.now _ h
+    seen c.args.moment gear _ first
     _ _ _ _ _ c.in-Direct.answer (c.requires.step ∙ ap Plain c.in-Direct.is) c.say_direct.ensures
 
 pub returns-in-Ok : goal.returns-in-Ok
 returns-in-Ok g c h gear seen first =
     let x = c.in-Ok.ensures.entered h seen in
-    ask-answered g.D.Desk.rules g.D.Desk.number g.D.Desk.home g.D.Desk.seen c.args.server.now.pairs c.args.server.now.setup c.args.last c.args.message.now _ h seen c.args.moment gear _ first
-    _ _ _ _ _ _ _ c.in-Ok.ensures.rules c.in-Ok.ensures.number c.in-Ok.ensures.home x.0 x.1 c.in-Ask.call c.in-Ok.reply (c.requires.step ∙ ap Plain c.in-Ask.is) x.2 c.say_reply.ensures
+    ask-answered g.D.Desk.rules g.D.Desk.number g.D.Desk.home g.D.Desk.seen c.args.server.now.pairs c.args.server.now.setup c.args.last c.args.message.now _ h
+    seen c.args.moment gear _ first
+    _ _ _ _ _ _ _ c.in-Ok.ensures.rules c.in-Ok.ensures.number c.in-Ok.ensures.home x.0 x.1 c.in-Ask.call c.in-Ok.reply (c.requires.step ∙ ap Plain c.in-Ask.is)
+    x.2 c.say_reply.ensures
 
 pub returns-in-Err : goal.returns-in-Err
 returns-in-Err g c h gear seen first =
     let x = c.in-Err.ensures.entered h seen in
-    ask-lapsed g.D.Desk.rules g.D.Desk.number g.D.Desk.home g.D.Desk.seen c.args.server.now.pairs c.args.server.now.setup c.args.last c.args.message.now _ h seen c.args.moment gear _ first
+    ask-lapsed g.D.Desk.rules g.D.Desk.number g.D.Desk.home g.D.Desk.seen c.args.server.now.pairs c.args.server.now.setup c.args.last c.args.message.now _ h
+    seen c.args.moment gear _ first
     _ _ _ _ _ _ _ c.in-Err.ensures.rules c.in-Err.ensures.number c.in-Err.ensures.home x.0 x.1 c.in-Ask.call (c.requires.step ∙ ap Plain c.in-Ask.is) x.2
     c.say_starved.ensures.written c.say_starved.ensures.starved

@@ -15,11 +15,13 @@ loop-grant-preserved g c =
       same_rules = ◌∙◌ {a = D.rules c.do_part.new.desk} c.do_part.ensures.rules i.same_rules;
       same_number = ◌∙◌ {a = D.number c.do_part.new.desk} c.do_part.ensures.number i.same_number;
       same_home = ◌∙◌ {a = D.home c.do_part.new.desk} c.do_part.ensures.home i.same_home;
-      room = part.ensures.room refl (7 * (grants - (grant + 1))) (less-room _ _ _ (7 * (grants - grant)) (7 * (grants - (grant + 1)) + 7) refl (omega (arith, turn)) i.room);
+      room = part.ensures.room refl (7 * (grants - (grant + 1)))
+          (less-room _ _ _ (7 * (grants - grant)) (7 * (grants - (grant + 1)) + 7) refl (omega (arith, turn)) i.room);
       most = let a = i.most in let b = c.do_part.ensures.most in omega (arith, a, b);
       shares = λ h s.
           let first = i.shares h s in
-          share-next c.args.workers c.args.worker grant _ _ _ _ h (begun c.args.start c.args.worker) c.loop-grant.progress c.do_part.new.progress i.same_number first
+          share-next c.args.workers c.args.worker grant _ _ _ _ h (begun c.args.start c.args.worker) c.loop-grant.progress c.do_part.new.progress i.same_number
+          first
           (part.ensures.does first.grows.history first.grows.seen_now);
     }
 

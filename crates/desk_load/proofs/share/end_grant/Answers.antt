@@ -8,7 +8,8 @@ use Rattle.desk_load.proofs.share.end_grant.Goals as goal
 pub returns-then-not-ends-clause-ends : goal.returns-then-not-ends-clause-ends
 returns-then-not-ends-clause-ends g c = λ h s.
     let D = g.D.Desk in
-    subst (λ b. PutsThrough (EndsGrant b c.args.grant c.args.opened.now c.args.rotated.now) (D.number c.args.desk.now) (D.seen c.args.desk.now) h c.args.progress.now c.args.progress.now)
+    subst (λ b. PutsThrough (EndsGrant b c.args.grant c.args.opened.now c.args.rotated.now) (D.number c.args.desk.now) (D.seen c.args.desk.now) h
+    c.args.progress.now c.args.progress.now)
     (sym c.if-not-ends.true) (not_ended c.args.grant c.args.opened.now c.args.rotated.now _ (D.seen c.args.desk.now) h c.args.progress.now s)
 
 pub ask-requires-clause-may : goal.ask-requires-clause-may
@@ -21,10 +22,13 @@ ask-requires-2-clause-may g c = subst MayBeMade (sym c.in_ok-question_about.ensu
 pub returns-clause-ends : goal.returns-clause-ends
 returns-clause-ends g c = λ h s.
     let D = g.D.Desk in
-    subst (λ b. PutsThrough (EndsGrant b c.args.grant c.args.opened.now c.args.rotated.now) (D.number c.args.desk.now) (D.seen c.ask-2.new.desk) h c.args.progress.now c.ask-2.new.progress)
+    subst (λ b. PutsThrough (EndsGrant b c.args.grant c.args.opened.now c.args.rotated.now) (D.number c.args.desk.now) (D.seen c.ask-2.new.desk) h
+    c.args.progress.now c.ask-2.new.progress)
     (sym c.if-not-ends.false)
-    (ended c.args.grant (D.number c.args.desk.now) (D.number c.ask.new.desk) (D.number c.ask-2.new.desk) (D.seen c.args.desk.now) (D.seen c.ask.new.desk) (D.seen c.ask-2.new.desk)
-    c.args.progress.now c.ask.new.progress c.ask-2.new.progress c.args.opened.now c.args.rotated.now c.in_ok-ask.field-0 c.in_ok-ask-2.field-0 c.ask.ensures.number
+    (ended c.args.grant (D.number c.args.desk.now) (D.number c.ask.new.desk) (D.number c.ask-2.new.desk) (D.seen c.args.desk.now) (D.seen c.ask.new.desk)
+    (D.seen c.ask-2.new.desk)
+    c.args.progress.now c.ask.new.progress c.ask-2.new.progress c.args.opened.now c.args.rotated.now c.in_ok-ask.field-0 c.in_ok-ask-2.field-0
+    c.ask.ensures.number
     (asks-as _ _ _ _ _ _ _ _ c.in_ok-cancellation_of.ensures.call c.in_ok-ask.ensures.asks)
     (asks-as _ _ _ _ _ _ _ _ c.in_ok-question_about.ensures.call c.in_ok-ask-2.ensures.asks) h s)
 

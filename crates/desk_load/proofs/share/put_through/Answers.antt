@@ -34,12 +34,14 @@ ask-requires-4-clause-room g c =
 pub ask-requires-5-clause-room : goal.ask-requires-5-clause-room
 ask-requires-5-clause-room g c =
     less-room _ _ _ 3 1 refl (omega arith)
-    (c.in_ok-ask-2.ensures.room refl 3 (c.in_ok-rotated.ensures.room refl 4 (c.in_ok-ask.ensures.room refl 5 (c.in_ok-opened.ensures.room refl 6 c.requires.room))))
+    (c.in_ok-ask-2.ensures.room refl 3
+    (c.in_ok-rotated.ensures.room refl 4 (c.in_ok-ask.ensures.room refl 5 (c.in_ok-opened.ensures.room refl 6 c.requires.room))))
 
 pub end_grant-requires-clause-room : goal.end_grant-requires-clause-room
 end_grant-requires-clause-room g c =
     c.in_ok-ask-3.ensures.room refl 2
-    (c.in_ok-ask-2.ensures.room refl 3 (c.in_ok-rotated.ensures.room refl 4 (c.in_ok-ask.ensures.room refl 5 (c.in_ok-opened.ensures.room refl 6 c.requires.room))))
+    (c.in_ok-ask-2.ensures.room refl 3
+    (c.in_ok-rotated.ensures.room refl 4 (c.in_ok-ask.ensures.room refl 5 (c.in_ok-opened.ensures.room refl 6 c.requires.room))))
 
 pub returns-clause-room : goal.returns-clause-room
 returns-clause-room g c = λ ok m room.
@@ -55,8 +57,10 @@ returns-clause-puts g c =
     let D = g.D.Desk in
     let s0 = D.seen c.args.desk.now in
     if-ok-then c.end_grant.result _ _ c.end_grant.ensures.ends (λ u end.
-    put_through c.args.grant (D.number c.args.desk.now) (D.number c.ask.new.desk) (D.number c.ask-2.new.desk) (D.number c.ask-3.new.desk) (D.number c.ask-4.new.desk) (D.number c.ask-5.new.desk)
-    s0 (D.seen c.ask.new.desk) (D.seen c.ask-2.new.desk) (D.seen c.ask-3.new.desk) (D.seen c.ask-4.new.desk) (D.seen c.ask-5.new.desk) (D.seen c.end_grant.new.desk)
+    put_through c.args.grant (D.number c.args.desk.now) (D.number c.ask.new.desk) (D.number c.ask-2.new.desk) (D.number c.ask-3.new.desk)
+    (D.number c.ask-4.new.desk) (D.number c.ask-5.new.desk)
+    s0 (D.seen c.ask.new.desk) (D.seen c.ask-2.new.desk) (D.seen c.ask-3.new.desk) (D.seen c.ask-4.new.desk) (D.seen c.ask-5.new.desk)
+    (D.seen c.end_grant.new.desk)
     c.args.progress.now c.ask.new.progress c.ask-2.new.progress c.ask-3.new.progress c.ask-4.new.progress c.ask-5.new.progress c.end_grant.new.progress
     c.args.ends c.in_ok-opened.opened c.in_ok-ask.field-0 c.in_ok-rotated.rotated c.in_ok-ask-2.field-0 c.in_ok-ask-3.field-0
     c.ask.ensures.number c.ask-2.ensures.number c.ask-3.ensures.number c.ask-4.ensures.number c.ask-5.ensures.number

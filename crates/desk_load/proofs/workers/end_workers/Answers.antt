@@ -24,11 +24,13 @@ loop-worker-preserved g c =
       tt,
       parts-next c.loop-worker.yielded _ _ _ w i.2 c.in-Some.ensures.steps.0,
       (let a = ap length pushed in let b = i.3 in omega (arith, a, b, size, done)),
-      done-next c.args.shared.now c.args.grants c.args.start c.loop-worker.passes.items _ pass c.loop-worker.total c.add.new.self tally i.4 pushed c.add.ensures (record {
-        of = subst (λ h. IsPassOf h pass) placed.home c.leave-pass.ensures.of;
-        number = c.leave-pass.ensures.number ∙ placed.number;
-        counted = counted;
-      }),
-      (let a = ap length pushed in let b = i.5 in let x = c.add.ensures.active in let y = c.add.ensures.inactive in let z = c.add.ensures.done in omega (arith, a, b, x, y, z, most, size)),
+      done-next c.args.shared.now c.args.grants c.args.start c.loop-worker.passes.items _ pass c.loop-worker.total c.add.new.self tally i.4 pushed c.add.ensures
+          (record {
+            of = subst (λ h. IsPassOf h pass) placed.home c.leave-pass.ensures.of;
+            number = c.leave-pass.ensures.number ∙ placed.number;
+            counted = counted;
+          }),
+      (let a = ap length pushed in let b = i.5 in let x = c.add.ensures.active in let y = c.add.ensures.inactive in let z = c.add.ensures.done in omega
+          (arith, a, b, x, y, z, most, size)),
       (let a = c.in-Some.ensures.steps.1 in let b = ap length c.in-Some.ensures.steps.0 in let d = i.6 in omega (arith, a, b, d)),
     )

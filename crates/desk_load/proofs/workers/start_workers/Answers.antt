@@ -32,7 +32,8 @@ loop-pass-preserved g c =
       subst (λ l. (k : _) (v : _) → get_elem? l k ≡ some v → IsWorker c.args.shared.now c.args.grants c.args.start k v) (sym pushed)
           (each-next (λ k v. IsWorker c.args.shared.now c.args.grants c.args.start k v) c.loop-pass.workers.items w i.4 (record {
             home = ap (λ (s : StationState Setup GnapEntry). s.home) c.new.ensures.station;
-            number = ap (λ (s : StationState Setup GnapEntry). s.number) c.new.ensures.station ∙ (c.requires.new.all.each (length c.loop-pass.yielded) c.in-Some.pass at).1 ∙ sym i.3;
+            number = ap (λ (s : StationState Setup GnapEntry). s.number) c.new.ensures.station
+                ∙ (c.requires.new.all.each (length c.loop-pass.yielded) c.in-Some.pass at).1 ∙ sym i.3;
             grants_are = c.new.ensures.share.0;
             start_is = c.new.ensures.share.1;
             workers_are = c.new.ensures.share.2 ∙ (let long = c.args.passes.ok in omega (arith, long, count));

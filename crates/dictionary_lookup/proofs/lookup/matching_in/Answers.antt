@@ -16,7 +16,8 @@ returns-in_err-skipped-clause-err c = let p = err_from_is_err_and c.from_residua
 
 pub returns-in_err-next-clause-err : goal.returns-in_err-next-clause-err
 returns-in_err-next-clause-err c = let p = err_from_is_err_and c.from_residual-in_err-next.result c.from_residual-in_err-next.ensures.1 in rw (p.1, p.2)
-    (entries_refused (Tells c.args.name.now c.args.s.now c.loop.found) (Tells c.args.name.now c.args.s.now c.with_skipped-found.result) c.args.name.now c.args.s.now
+    (entries_refused (Tells c.args.name.now c.args.s.now c.loop.found) (Tells c.args.name.now c.args.s.now c.with_skipped-found.result) c.args.name.now
+    c.args.s.now
     (length c.args.bytes.now) c.loop.counter c.loop.left.now _ c.loop-test.true c.loop.invariant
     c.in_ok-skipped.skipped.at.key.now c.in_ok-skipped.skipped.at.value.now c.in_ok-skipped.skipped.matched c.in_ok-skipped.skipped.rest.now
     c.in_ok-skipped.ensures.key c.in_ok-skipped.ensures.entry (c.with_skipped-found.ensures c.args.name.now c.args.s.now)
@@ -39,4 +40,5 @@ loop-preserved c =
     c.in-Some.next.now (rw c.in-Some.is at c.in_ok-next.ensures)
 
 pub returns-clause-err : goal.returns-clause-err
-returns-clause-err c = entries_over (Tells c.args.name.now c.args.s.now c.loop.found) (length c.args.bytes.now - c.loop.counter) c.loop.left.now _ (omega arith) c.loop.invariant
+returns-clause-err c = entries_over (Tells c.args.name.now c.args.s.now c.loop.found) (length c.args.bytes.now - c.loop.counter) c.loop.left.now _ (omega arith)
+    c.loop.invariant

@@ -14,4 +14,5 @@ returns-in-None c =
 pub returns-in-Some : goal.returns-in-Some
 returns-in-Some c =
     let there = rw c.in-Some.is at c.in_ok-found.ensures.ok in
-    single_given c.args.text.now c.args.key.now c.single_behind.result c.in-Some.value.now there.0 there.1 there.2 c.single_behind.ensures.ok c.single_behind.ensures.err
+    single_given c.args.text.now c.args.key.now c.single_behind.result c.in-Some.value.now there.0 there.1 there.2 c.single_behind.ensures.ok
+    c.single_behind.ensures.err

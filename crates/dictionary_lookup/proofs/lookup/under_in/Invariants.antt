@@ -7,4 +7,5 @@ use Rattle.dictionary_lookup.proofs.SkippedEntries.{EntriesSoFar}
 use Rattle.dictionary_lookup.proofs.lookup.under_in.Given as goal
 
 abbrev pub invariant-loop : goal.invariant-loop
-invariant-loop l = EntriesSoFar (λ d. IsUnder (option_copied l.found) (value_at d l.key)) (length l.bytes - l.counter) l.left (members_from entry_at with_entry (length l.bytes) [] l.bytes)
+invariant-loop l = EntriesSoFar (λ d. IsUnder (option_copied l.found) (value_at d l.key)) (length l.bytes - l.counter) l.left
+    (members_from entry_at with_entry (length l.bytes) [] l.bytes)

@@ -20,12 +20,14 @@ returns-in_err-rest c = let p = err_from_is_err_and c.from_residual.result c.fro
 pub returns-then-not-is_item_end : goal.returns-then-not-is_item_end
 returns-then-not-is_item_end c =
     items_stuck (length c.args.bytes.now) c.loop.counter c.loop.left.now c.without_spaces-next.result.now (items_at c.args.bytes.now)
-    c.without_spaces-next.ensures c.loop.invariant c.loop-test.true c.in_default.ensures c.in_ok-rest.rest.now c.in_ok-rest.ensures (sym c.is_item_end.ensures ∙ c.if-not-is_item_end.true)
+    c.without_spaces-next.ensures c.loop.invariant c.loop-test.true c.in_default.ensures c.in_ok-rest.rest.now c.in_ok-rest.ensures
+    (sym c.is_item_end.ensures ∙ c.if-not-is_item_end.true)
 
 pub loop-preserved : goal.loop-preserved
 loop-preserved c =
     items_next (length c.args.bytes.now) c.loop.counter c.loop.left.now c.without_spaces-next.result.now (items_at c.args.bytes.now)
-    c.without_spaces-next.ensures c.loop.invariant c.loop-test.true c.in_default.ensures c.in_ok-rest.rest.now c.in_ok-rest.ensures (sym c.is_item_end.ensures ∙ c.if-not-is_item_end.false)
+    c.without_spaces-next.ensures c.loop.invariant c.loop-test.true c.in_default.ensures c.in_ok-rest.rest.now c.in_ok-rest.ensures
+    (sym c.is_item_end.ensures ∙ c.if-not-is_item_end.false)
 
 pub returns : goal.returns
 returns c = items_over (length c.args.bytes.now - c.loop.counter) c.loop.left.now (items_at c.args.bytes.now) (omega arith) c.loop.invariant

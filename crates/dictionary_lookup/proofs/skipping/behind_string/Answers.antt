@@ -12,9 +12,11 @@ loop-i-init c =
     rw rest (string_begins c.args.bytes.now)
 
 pub returns-then-c-eq34 : goal.returns-then-c-eq34
-returns-then-c-eq34 c = string_closed c.split_at.result.1.now c.loop-i.i (rest_of (string_rest false c.args.bytes.now)) c.loop-i-test.true (rw c.if-escaped.false at c.loop-i.invariant) c.if-c-eq34.true
+returns-then-c-eq34 c = string_closed c.split_at.result.1.now c.loop-i.i (rest_of (string_rest false c.args.bytes.now)) c.loop-i-test.true
+    (rw c.if-escaped.false at c.loop-i.invariant) c.if-c-eq34.true
 
 pub returns-then-not-is_string_byte : goal.returns-then-not-is_string_byte
 returns-then-not-is_string_byte c =
-    string_refused c.split_at.result.1.now c.loop-i.i (rest_of (string_rest false c.args.bytes.now)) c.loop-i-test.true (rw c.if-escaped.false at c.loop-i.invariant)
+    string_refused c.split_at.result.1.now c.loop-i.i (rest_of (string_rest false c.args.bytes.now)) c.loop-i-test.true
+    (rw c.if-escaped.false at c.loop-i.invariant)
     c.if-c-eq34.false c.if-c-eq92.false (sym c.is_string_byte.ensures ∙ c.if-not-is_string_byte.true)

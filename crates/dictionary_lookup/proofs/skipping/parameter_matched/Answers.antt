@@ -6,5 +6,6 @@ returns-in_default c = parameter_none c.args.name.now c.args.s.now c.args.before
 
 pub returns : goal.returns
 returns c =
-    rw (parameter_is c.args.name.now c.args.s.now c.args.before c.args.bytes.now c.in-Some.key.now c.in-Some.rest.now (rw c.without_spaces.ensures at c.in-Some.ensures))
+    rw (parameter_is c.args.name.now c.args.s.now c.args.before c.args.bytes.now c.in-Some.key.now c.in-Some.rest.now
+    (rw c.without_spaces.ensures at c.in-Some.ensures))
     (rw c.eq.ensures at c.value_matched.ensures)

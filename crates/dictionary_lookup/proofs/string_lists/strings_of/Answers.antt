@@ -22,20 +22,25 @@ returns-in_err-item-clause-err c items rest is = let p = err_from_is_err_and c.f
 pub returns-then-not-is_item_end-clause-err : goal.returns-then-not-is_item_end-clause-err
 returns-then-not-is_item_end-clause-err c items rest is = unread (items_at c.args.bytes.now) (items, rest)
     (items_refused (length c.args.bytes.now) c.loop.counter c.loop.items c.loop.left.now c.without_spaces-next.result.now (items_at c.args.bytes.now)
-    c.without_spaces-next.ensures c.loop.invariant.reads c.loop-test.true c.in_default.ensures c.in_ok-item.item c.in_ok-item.rest.now c.in_ok-item.ensures (sym c.is_item_end.ensures ∙ c.if-not-is_item_end.true)) is
+    c.without_spaces-next.ensures c.loop.invariant.reads c.loop-test.true c.in_default.ensures c.in_ok-item.item c.in_ok-item.rest.now c.in_ok-item.ensures
+    (sym c.is_item_end.ensures ∙ c.if-not-is_item_end.true)) is
 
 pub returns-then-not-is_any_string-clause-ok : goal.returns-then-not-is_any_string-clause-ok
 returns-then-not-is_any_string-clause-ok c items rest is =
-    not_all_strings (length c.args.bytes.now - (c.loop.counter + 1)) c.loop.items c.in_ok-item.item c.in_ok-item.rest.now items rest c.loop.invariant.strings (sym c.is_any_string.ensures ∙ c.if-not-is_any_string.true)
+    not_all_strings (length c.args.bytes.now - (c.loop.counter + 1)) c.loop.items c.in_ok-item.item c.in_ok-item.rest.now items rest c.loop.invariant.strings
+    (sym c.is_any_string.ensures ∙ c.if-not-is_any_string.true)
     (items_more (length c.args.bytes.now) c.loop.counter c.loop.items c.loop.left.now c.without_spaces-next.result.now (items_at c.args.bytes.now)
-    c.without_spaces-next.ensures c.loop.invariant.reads c.loop-test.true c.in_default.ensures c.in_ok-item.item c.in_ok-item.rest.now c.in_ok-item.ensures (sym c.is_item_end.ensures ∙ c.if-not-is_item_end.false) ∙ is)
+    c.without_spaces-next.ensures c.loop.invariant.reads c.loop-test.true c.in_default.ensures c.in_ok-item.item c.in_ok-item.rest.now c.in_ok-item.ensures
+    (sym c.is_item_end.ensures ∙ c.if-not-is_item_end.false) ∙ is)
 
 pub loop-preserved : goal.loop-preserved
 loop-preserved c = rw c.in_ok-push.ensures.ok (record {
   reads = items_more (length c.args.bytes.now) c.loop.counter c.loop.items c.loop.left.now c.without_spaces-next.result.now (items_at c.args.bytes.now)
-      c.without_spaces-next.ensures c.loop.invariant.reads c.loop-test.true c.in_default.ensures c.in_ok-item.item c.in_ok-item.rest.now c.in_ok-item.ensures (sym c.is_item_end.ensures ∙ c.if-not-is_item_end.false);
+      c.without_spaces-next.ensures c.loop.invariant.reads c.loop-test.true c.in_default.ensures c.in_ok-item.item c.in_ok-item.rest.now c.in_ok-item.ensures
+      (sym c.is_item_end.ensures ∙ c.if-not-is_item_end.false);
   strings = with_string c.loop.items c.in_ok-item.item c.loop.invariant.strings (sym c.is_any_string.ensures ∙ c.if-not-is_any_string.false);
 })
 
 pub returns-clause-err : goal.returns-clause-err
-returns-clause-err c items rest is = unread (items_at c.args.bytes.now) (items, rest) (items_spent (length c.args.bytes.now - c.loop.counter) c.loop.items c.loop.left.now (items_at c.args.bytes.now) (omega arith) c.loop.invariant.reads) is
+returns-clause-err c items rest is = unread (items_at c.args.bytes.now) (items, rest)
+    (items_spent (length c.args.bytes.now - c.loop.counter) c.loop.items c.loop.left.now (items_at c.args.bytes.now) (omega arith) c.loop.invariant.reads) is

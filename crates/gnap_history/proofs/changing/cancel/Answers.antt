@@ -10,7 +10,8 @@ pub returns-in-Ok : goal.returns-in-Ok
 returns-in-Ok c =
     let drawing = c.args.drawing.now in
     acts_as (supply drawing) c.noted.result (CancelGrant c.in-Ok.opening.now) _
-    (with_grant_as CancelGrant c.args.key.now (named_grant (trail drawing) drawing.moment c.args.value.now) (option_map (λ o. o.now) c.named_grant-grant.result) _
+    (with_grant_as CancelGrant c.args.key.now (named_grant (trail drawing) drawing.moment c.args.value.now) (option_map (λ o. o.now) c.named_grant-grant.result)
+    _
     (search rules) (search (rules, c.in-Ok.ensures.ok CancelGrant)))
     c.noted.ensures
 
@@ -18,6 +19,7 @@ pub returns-in-Err : goal.returns-in-Err
 returns-in-Err c =
     let drawing = c.args.drawing.now in
     answers_as (supply drawing) c.refuse.result (Refuse c.in-Err.code) _
-    (with_grant_as CancelGrant c.args.key.now (named_grant (trail drawing) drawing.moment c.args.value.now) (option_map (λ o. o.now) c.named_grant-grant.result) _
+    (with_grant_as CancelGrant c.args.key.now (named_grant (trail drawing) drawing.moment c.args.value.now) (option_map (λ o. o.now) c.named_grant-grant.result)
+    _
     (search rules) (search (rules, c.in-Err.ensures.err CancelGrant)))
     (c.refuse.ensures.reply, c.refuse.ensures.notes)

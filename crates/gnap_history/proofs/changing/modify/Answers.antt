@@ -12,7 +12,8 @@ use Rattle.gnap_history.proofs.changing.modify.Goals as goal
 pub returns-in-Ok : goal.returns-in-Ok
 returns-in-Ok c =
     let drawing = c.args.drawing.now in
-    let act : OpeningNote → Action = λ o. modify_by (settle c.args.setup.now o.key (consent_of (trail drawing) o.grant) c.args.request.now) (trail drawing) drawing.moment o c.args.request.now in
+    let act : OpeningNote → Action = λ o. modify_by (settle c.args.setup.now o.key (consent_of (trail drawing) o.grant) c.args.request.now) (trail drawing)
+    drawing.moment o c.args.request.now in
     acts_as (supply drawing) c.modify_grant.result (act c.in-Ok.opening.now) _
     (with_grant_as act c.args.key.now (named_grant (trail drawing) drawing.moment c.args.value.now) (option_map (λ o. o.now) c.named_grant-grant.result) _
     (rw (c.as_slice.ensures, c.as_slice-2.ensures.value) at c.named_grant-grant.ensures) (rw c.as_slice-3.ensures.value at (c.in-Ok.ensures.ok act)))
@@ -21,7 +22,8 @@ returns-in-Ok c =
 pub returns-in-Err : goal.returns-in-Err
 returns-in-Err c =
     let drawing = c.args.drawing.now in
-    let act : OpeningNote → Action = λ o. modify_by (settle c.args.setup.now o.key (consent_of (trail drawing) o.grant) c.args.request.now) (trail drawing) drawing.moment o c.args.request.now in
+    let act : OpeningNote → Action = λ o. modify_by (settle c.args.setup.now o.key (consent_of (trail drawing) o.grant) c.args.request.now) (trail drawing)
+    drawing.moment o c.args.request.now in
     answers_as (supply drawing) c.refuse.result (Refuse c.in-Err.code) _
     (with_grant_as act c.args.key.now (named_grant (trail drawing) drawing.moment c.args.value.now) (option_map (λ o. o.now) c.named_grant-grant.result) _
     (rw (c.as_slice.ensures, c.as_slice-2.ensures.value) at c.named_grant-grant.ensures) (rw c.as_slice-3.ensures.value at (c.in-Err.ensures.err act)))

@@ -30,4 +30,5 @@ returns c =
     (rw c.as_slice-notes.ensures at c.in_ok-before.ensures) c.in_ok-push.ensures.ok c.in_ok-push-2.ensures.ok
     (ap (λ (t : TermsNote). Terms t) c.in_ok-terms.ensures) (cc (c.in_ok-copy.ensures, c.requires.consent)) in
     acts_as (supply drawing) c.grant.result _ _ (modified_within_limit (trail drawing) drawing.moment o request within)
-    (granted_after (supply drawing) o c.push-2.new.self _ c.as_slice.result.now request.asks request.single None None c.grant.result before c.as_slice.ensures c.grant.ensures)
+    (granted_after (supply drawing) o c.push-2.new.self _ c.as_slice.result.now request.asks request.single None None c.grant.result before c.as_slice.ensures
+    c.grant.ensures)

@@ -13,7 +13,8 @@ returns-in-AtOnce c =
     let o = c.args.opening.now in
     let is : AtOnce ≡ settle c.args.setup.now o.key (consent_of (trail drawing) o.grant) c.args.request.now =
     rw (c.in-AtOnce.is, c.as_slice-2.ensures.value, c.consent_of-consent.ensures, c.as_slice.ensures) at c.in_ok-settle.ensures in
-    acts_as (supply drawing) c.modify_at_once.result _ _ (modified_as c.args.setup.now (trail drawing) drawing.moment o c.args.request.now AtOnce is) c.modify_at_once.ensures
+    acts_as (supply drawing) c.modify_at_once.result _ _ (modified_as c.args.setup.now (trail drawing) drawing.moment o c.args.request.now AtOnce is)
+    c.modify_at_once.ensures
 
 pub returns-in-ByAsking : goal.returns-in-ByAsking
 returns-in-ByAsking c =
@@ -21,7 +22,8 @@ returns-in-ByAsking c =
     let o = c.args.opening.now in
     let is : ByAsking ≡ settle c.args.setup.now o.key (consent_of (trail drawing) o.grant) c.args.request.now =
     rw (c.in-ByAsking.is, c.as_slice-2.ensures.value, c.consent_of-consent.ensures, c.as_slice.ensures) at c.in_ok-settle.ensures in
-    acts_as (supply drawing) c.modify_by_asking.result _ _ (modified_as c.args.setup.now (trail drawing) drawing.moment o c.args.request.now ByAsking is) c.modify_by_asking.ensures
+    acts_as (supply drawing) c.modify_by_asking.result _ _ (modified_as c.args.setup.now (trail drawing) drawing.moment o c.args.request.now ByAsking is)
+    c.modify_by_asking.ensures
 
 pub returns : goal.returns
 returns c =

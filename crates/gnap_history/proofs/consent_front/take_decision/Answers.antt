@@ -14,5 +14,6 @@ returns c =
     let drawing = c.args.drawing.now in
     let round = c.args.round.now in
     let told : c.reference_in.result ≡ some_if (is_some round.modes.finish) (drawn_value (supply drawing) 0) =
-    c.reference_in.ensures ∙ ap (λ (finish : Option FinishOut). option_map (λ ending. ending.reference) finish) c.in_ok-finish.ensures ∙ reference_told (supply drawing) round round.modes.finish in
+    c.reference_in.ensures ∙ ap (λ (finish : Option FinishOut). option_map (λ ending. ending.reference) finish) c.in_ok-finish.ensures
+    ∙ reference_told (supply drawing) round round.modes.finish in
     IfOk-weaker c.noted.result _ _ (λ answered both. (cc (both.0, c.in_ok-finish.ensures), cc (both.1, told, c.in_ok-copy.ensures))) c.noted.ensures

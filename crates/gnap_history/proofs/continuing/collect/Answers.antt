@@ -7,7 +7,8 @@ use Rattle.gnap_history.proofs.continuing.collect.Goals as goal
 
 pub returns-in-Deny : goal.returns-in-Deny
 returns-in-Deny c =
-    acts_as (supply c.args.drawing.now) c.refuse_and_finalize.result (RefuseAndFinalize c.args.opening.now UserDenied) _ (rw c.in-Deny.is refl) c.refuse_and_finalize.ensures
+    acts_as (supply c.args.drawing.now) c.refuse_and_finalize.result (RefuseAndFinalize c.args.opening.now UserDenied) _ (rw c.in-Deny.is refl)
+    c.refuse_and_finalize.ensures
 
 pub returns-in-Unknown : goal.returns-in-Unknown
 returns-in-Unknown c =

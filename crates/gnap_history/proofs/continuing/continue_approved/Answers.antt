@@ -9,4 +9,5 @@ use Rattle.gnap_history.proofs.continuing.continue_approved.Goals as goal
 pub returns-then-is_some : goal.returns-then-is_some
 returns-then-is_some c =
     let some : is_some c.args.reference.now ≡ true = search rules in
-    acts_as (supply c.args.drawing.now) c.refuse_and_finalize.result (RefuseAndFinalize c.args.opening.now TooManyAttempts) _ (rw some refl) c.refuse_and_finalize.ensures
+    acts_as (supply c.args.drawing.now) c.refuse_and_finalize.result (RefuseAndFinalize c.args.opening.now TooManyAttempts) _ (rw some refl)
+    c.refuse_and_finalize.ensures

@@ -11,7 +11,8 @@ use Rattle.gnap_history.proofs.continuing.continue_grant.Goals as goal
 pub returns-in-Ok : goal.returns-in-Ok
 returns-in-Ok c =
     let drawing = c.args.drawing.now in
-    let act : OpeningNote → Action = λ o. continue_at (grant_state (trail drawing) o.grant drawing.moment) (trail drawing) drawing.moment o c.args.reference.now in
+    let act : OpeningNote → Action = λ o. continue_at (grant_state (trail drawing) o.grant drawing.moment) (trail drawing) drawing.moment o
+    c.args.reference.now in
     acts_as (supply drawing) c.continue_by_state.result (act c.in-Ok.opening.now) _
     (with_grant_as act c.args.key.now (named_grant (trail drawing) drawing.moment c.args.value.now) (option_map (λ o. o.now) c.named_grant-grant.result) _
     (rw (c.as_slice.ensures, c.as_slice-2.ensures.value) at c.named_grant-grant.ensures) (rw c.as_slice-3.ensures.value at (c.in-Ok.ensures.ok act)))
@@ -20,7 +21,8 @@ returns-in-Ok c =
 pub returns-in-Err : goal.returns-in-Err
 returns-in-Err c =
     let drawing = c.args.drawing.now in
-    let act : OpeningNote → Action = λ o. continue_at (grant_state (trail drawing) o.grant drawing.moment) (trail drawing) drawing.moment o c.args.reference.now in
+    let act : OpeningNote → Action = λ o. continue_at (grant_state (trail drawing) o.grant drawing.moment) (trail drawing) drawing.moment o
+    c.args.reference.now in
     answers_as (supply drawing) c.refuse.result (Refuse c.in-Err.code) _
     (with_grant_as act c.args.key.now (named_grant (trail drawing) drawing.moment c.args.value.now) (option_map (λ o. o.now) c.named_grant-grant.result) _
     (rw (c.as_slice.ensures, c.as_slice-2.ensures.value) at c.named_grant-grant.ensures) (rw c.as_slice-3.ensures.value at (c.in-Err.ensures.err act)))

@@ -12,5 +12,6 @@ returns-then-round-drawing c =
     let undecided : is_some (decision_of (trail drawing) c.args.opening.now.grant) ≡ false = none_mapped (λ d. d.now) c.decision_of-decision.result _
     (rw c.as_slice.ensures at c.decision_of-decision.ensures) none in
     acts_as (supply drawing) c.refuse_and_finalize.result _ _
-    (ran_out (trail drawing) drawing.moment c.args.opening.now c.args.reference.now (decision_of (trail drawing) c.args.opening.now.grant) c.args.round.now undecided c.if-round-drawing.true)
+    (ran_out (trail drawing) drawing.moment c.args.opening.now c.args.reference.now (decision_of (trail drawing) c.args.opening.now.grant) c.args.round.now
+    undecided c.if-round-drawing.true)
     c.refuse_and_finalize.ensures

@@ -19,6 +19,7 @@ loop-ask-preserved c =
       next = omega arith;
       handed = made_more (token_out drawing.moment) before after c.in_ok-issued.issued [] c.loop-ask.tokens c.push.new.self c.in_ok-token_out.field-0
           more c.loop-ask.invariant.handed c.in_ok-token_out.ensures c.in_ok-push.ensures.ok;
-      noted = made_more (λ t. Issued t) before after c.in_ok-issued.issued c.args.added.now c.loop-ask.added c.push-in-loop-ask.new.self (Issued c.in_ok-issued.issued)
+      noted = made_more (λ t. Issued t) before after c.in_ok-issued.issued c.args.added.now c.loop-ask.added c.push-in-loop-ask.new.self
+          (Issued c.in_ok-issued.issued)
           more c.loop-ask.invariant.noted refl c.in_ok-push-2.ensures.ok;
     }

@@ -17,7 +17,8 @@ returns-in-Ok c =
     let t = c.args.token.now in
     let act : OpeningNote → Action = λ o. RevokeToken t (list_any (is_retirement t.serial) (trail drawing)) in
     acts_as (supply drawing) c.retire.result (RevokeToken t (list_any (is_retirement t.serial) (trail drawing))) _
-    (on_grant_as InvalidRequest (trail drawing) c.args.key.now t act (option_map (λ o. o.now) c.opening_of-grant.result) (RevokeToken t (list_any (is_retirement t.serial) (trail drawing))) (search rules) (search (rules, c.in-Ok.ensures.ok act)))
+    (on_grant_as InvalidRequest (trail drawing) c.args.key.now t act (option_map (λ o. o.now) c.opening_of-grant.result)
+    (RevokeToken t (list_any (is_retirement t.serial) (trail drawing))) (search rules) (search (rules, c.in-Ok.ensures.ok act)))
     (IfOk-weaker c.retire.result _ _ (λ answered each. each (supply drawing)) c.retire.ensures)
 
 pub returns-in-Err : goal.returns-in-Err
@@ -26,5 +27,6 @@ returns-in-Err c =
     let t = c.args.token.now in
     let act : OpeningNote → Action = λ o. RevokeToken t (list_any (is_retirement t.serial) (trail drawing)) in
     answers_as (supply drawing) c.refuse.result (Refuse c.in-Err.code) _
-    (on_grant_as InvalidRequest (trail drawing) c.args.key.now t act (option_map (λ o. o.now) c.opening_of-grant.result) (Refuse c.in-Err.code) (search rules) (search (rules, c.in-Err.ensures.err act)))
+    (on_grant_as InvalidRequest (trail drawing) c.args.key.now t act (option_map (λ o. o.now) c.opening_of-grant.result) (Refuse c.in-Err.code) (search rules)
+    (search (rules, c.in-Err.ensures.err act)))
     (c.refuse.ensures.reply, c.refuse.ensures.notes)

@@ -26,7 +26,8 @@ returns-in-AtOnce c =
     rw (c.in-AtOnce.is, c.as_slice.ensures.value, c.new.ensures) at c.in_ok-settle.ensures in
     acts_as (supply drawing) c.begin_at_once.result _ _
     (begin_as c.args.setup.now (trail drawing) drawing.moment c.args.key.now c.args.request.now c.args.not_after AtOnce (search rules) (search rules) (sym is))
-    (subst (λ (o : OpeningNote). IfOk c.begin_at_once.result (IsAnswer (outcome_of (supply drawing) (begin_by AtOnce (trail drawing) drawing.moment o c.args.request.now))))
+    (subst (λ (o : OpeningNote). IfOk c.begin_at_once.result
+    (IsAnswer (outcome_of (supply drawing) (begin_by AtOnce (trail drawing) drawing.moment o c.args.request.now))))
     c.in_ok-opening-in-AtOnce.ensures c.begin_at_once.ensures)
 
 pub returns : goal.returns
@@ -35,6 +36,8 @@ returns c =
     let is : ByAsking ≡ settle c.args.setup.now c.args.key.now [] c.args.request.now =
     rw (c.in-ByAsking.is, c.as_slice.ensures.value, c.new.ensures) at c.in_ok-settle.ensures in
     acts_as (supply drawing) c.begin_by_asking.result _ _
-    (begin_as c.args.setup.now (trail drawing) drawing.moment c.args.key.now c.args.request.now c.args.not_after ByAsking (search rules) (search rules) (sym is))
-    (subst (λ (o : OpeningNote). IfOk c.begin_by_asking.result (IsAnswer (outcome_of (supply drawing) (begin_by ByAsking (trail drawing) drawing.moment o c.args.request.now))))
+    (begin_as c.args.setup.now (trail drawing) drawing.moment c.args.key.now c.args.request.now c.args.not_after ByAsking (search rules) (search rules)
+    (sym is))
+    (subst (λ (o : OpeningNote). IfOk c.begin_by_asking.result
+    (IsAnswer (outcome_of (supply drawing) (begin_by ByAsking (trail drawing) drawing.moment o c.args.request.now))))
     c.in_ok-opening-in-ByAsking.ensures c.begin_by_asking.ensures)

@@ -22,6 +22,7 @@ returns c = λ rules before entry after rotation token key legal few among rotat
     let bound : length (reverse before) ≤ 2 ^ 58 = (let k = length-reverse before in omega arith) in
     let follows : Follows grant_law rules before entry = legal before entry after refl in
     bound_to rules (supply_of trail (now before entry.moment) entry.draw) trail entry.call entry.reply token key
-    (subst (λ (ns : List Note). AreDistinct (trail_values ns)) (trail-back before) (distinct rules (reverse before) past (is_short rules (reverse before) past bound)))
+    (subst (λ (ns : List Note). AreDistinct (trail_values ns)) (trail-back before)
+    (distinct rules (reverse before) past (is_short rules (reverse before) past bound)))
     (subst HaveOrigins (trail-back before) (past_origins rules (reverse before) past))
     (rotation_noted rules before rotation token key front among rotates) follows.reply

@@ -17,9 +17,11 @@ loop-ask-preserved c =
     let size = c.loop-ask.size in
     let ask = c.ask-item.result in
     let rest = drop (i + 1) asks in
-    let first : drop i asks ≡ ask ∷ rest = drop-cons asks i ask c.loop-ask-test.true ∙ ap (λ a. a ∷ drop (suc i) asks) (sym c.ask-item.is) ∙ ap (λ j. ask ∷ drop j asks) (sym (add-one i)) in
+    let first : drop i asks ≡ ask ∷ rest = drop-cons asks i ask c.loop-ask-test.true ∙ ap (λ a. a ∷ drop (suc i) asks) (sym c.ask-item.is)
+    ∙ ap (λ j. ask ∷ drop j asks) (sym (add-one i)) in
     record {
-      size = ap (λ n. capped (n + items_size (items (map right_data (asked_rights rest))))) (c.saturating_add-size.ensures ∙ ap (λ n. capped (size + n)) c.listed_size.ensures)
+      size = ap (λ n. capped (n + items_size (items (map right_data (asked_rights rest)))))
+          (c.saturating_add-size.ensures ∙ ap (λ n. capped (size + n)) c.listed_size.ensures)
           ∙ asked_size-next size ask rest
           ∙ ap (λ (left : List Ask). capped (size + items_size (items (map right_data (asked_rights left))))) (sym first)
           ∙ c.loop-ask.invariant.size;

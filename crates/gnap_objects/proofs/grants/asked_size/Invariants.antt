@@ -9,7 +9,8 @@ use Rattle.gnap_objects.proofs.grants.asked_size.Given as goal
 
 abbrev pub invariant-loop-ask : goal.invariant-loop-ask
 invariant-loop-ask l = record {
-  size : capped (l.size + items_size (items (map right_data (asked_rights (drop l.ask-index l.ask-items))))) ≡ capped (items_size (items (map right_data (asked_rights l.asks))));
+  size : capped (l.size + items_size (items (map right_data (asked_rights (drop l.ask-index l.ask-items)))))
+      ≡ capped (items_size (items (map right_data (asked_rights l.asks))));
   bounded : l.size < 2 ^ 64;
   fits : AllByRecursion AskFits (drop l.ask-index l.ask-items);
 }

@@ -21,7 +21,8 @@ in_front test found text (Ok texts) = ap Ok (or_again found (test text) (list_an
 in_front test found text (Err e) = refl
 
 next : (name wanted : List ℕ) (found : Bool) (d : Data) (ds : Items) (text : List ℕ) → Some text ≡ as_str d
-    → (has_string name wanted ds >>= λ later. Ok ((found || bytes_eq text wanted) || later)) ≡ (has_string name wanted (item d ds) >>= λ later. Ok (found || later))
+    → (has_string name wanted ds >>= λ later. Ok ((found || bytes_eq text wanted) || later))
+    ≡ (has_string name wanted (item d ds) >>= λ later. Ok (found || later))
 unfolding text_of
 next name wanted found d ds text is = rw (← is) (in_front (λ t. bytes_eq t wanted) found text (each (text_of name) ds))
 

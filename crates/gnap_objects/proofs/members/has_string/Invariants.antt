@@ -5,4 +5,5 @@ use Rattle.gnap_objects.specs.Reading.{has_string}
 use Rattle.gnap_objects.proofs.members.has_string.Given as goal
 
 abbrev pub invariant-loop-item : goal.invariant-loop-item
-invariant-loop-item l = (has_string l.name l.wanted (items_view (drop l.item-index l.item-items)) >>= λ later. Ok (l.found || later)) ≡ has_string l.name l.wanted (items_view l.item-items)
+invariant-loop-item l = (has_string l.name l.wanted (items_view (drop l.item-index l.item-items)) >>= λ later. Ok (l.found || later))
+    ≡ has_string l.name l.wanted (items_view l.item-items)

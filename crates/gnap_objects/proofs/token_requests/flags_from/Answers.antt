@@ -10,7 +10,8 @@ use Rattle.gnap_objects.specs.TokenRequests.{has_flag, flags_from}
 use Rattle.gnap_objects.proofs.token_requests.flags_from.Goals as goal
 
 has_flag-last : (flag other : List ℕ) (before : List (List ℕ)) → has_flag flag (before ++ other ∷ []) ≡ (bytes_eq other flag || has_flag flag before)
-has_flag-last flag other before = list_any-append (λ f. bytes_eq f flag) before (other ∷ []) ∙ ap (λ b. has_flag flag before || b) (or-false (bytes_eq other flag)) ∙ or_comm (has_flag flag before) (bytes_eq other flag)
+has_flag-last flag other before = list_any-append (λ f. bytes_eq f flag) before (other ∷ [])
+    ∙ ap (λ b. has_flag flag before || b) (or-false (bytes_eq other flag)) ∙ or_comm (has_flag flag before) (bytes_eq other flag)
 
 next : (before : List (List ℕ)) (repeated new : Bool) (d : Data) (ds : Items) (flag : List ℕ) → Some flag ≡ as_str d → new ≡ not (has_flag flag before)
     → flags_from (before ++ flag ∷ []) (repeated || not new) ds ≡ flags_from before repeated (item d ds)
@@ -23,7 +24,9 @@ loop-item-preserved c =
     let flag = c.in-Some.flag.now in (
       before ++ flag ∷ [],
       next before c.loop-item.repeated c.in_ok-new.new _ _ flag c.in-Some.ensures (c.in_ok-new.ensures.new ∙ ap not (c.loop-item.invariant.2 flag))
-          ∙ ap (flags_from before c.loop-item.repeated) (sym (items_view-drop c.deref-item-items.result.now c.loop-item.item-index c.item-item.result c.loop-item-test.true c.item-item.is)) ∙ c.loop-item.invariant.1,
+          ∙ ap (flags_from before c.loop-item.repeated)
+          (sym (items_view-drop c.deref-item-items.result.now c.loop-item.item-index c.item-item.result c.loop-item-test.true c.item-item.is))
+          ∙ c.loop-item.invariant.1,
       λ other. c.in_ok-new.ensures.added other ∙ ap (λ b. bytes_eq flag other || b) (c.loop-item.invariant.2 other) ∙ sym (has_flag-last other flag before),
       or_comm c.loop-item.bearer c.eq-bearer.result ∙ rw (c.eq-bearer.ensures, c.loop-item.invariant.3) (sym (has_flag-last _ flag before)),
     )

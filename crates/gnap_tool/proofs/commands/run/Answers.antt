@@ -17,7 +17,8 @@ use Rattle.world_uses.proofs.Uses.{failed_at_4, full_at_8, whole_at_0, short_at_
 use Rattle.gnap_tool.proofs.commands.run.Goals as goal
 
 -- where nothing went wrong in a command, in a world and with a count that are the same
-right_at : (command named : Command) (before between after : WorldState) (count count_between count_now : ℕ) → command ≡ named → before ≡ between → count ≡ count_between
+right_at : (command named : Command) (before between after : WorldState) (count count_between count_now : ℕ) → command ≡ named → before ≡ between
+    → count ≡ count_between
     → NothingWentWrong command before after count count_now → NothingWentWrong named between after count_between count_now
 right_at command named before between after count count_between count_now same was counted right =
     subst (λ (n : ℕ). NothingWentWrong named between after n count_now) counted

@@ -72,7 +72,8 @@ returns-in-Some-clause-complete g c = λ command found right.
     let both : Some c.in-Ok.command ≡ Some command = sym c.in-Ok.ensures.read ∙ found in
     let same : c.in-Ok.command ≡ command = cc in
     let P : Command → Type 0 = λ k.
-    NothingWentWrong k (g.W.World.state c.args.world.now) (g.W.World.state c.carry_out.new.world) (g.O.Device.faults c.args.out.now) (g.O.Device.faults c.carry_out.new.out) in
+    NothingWentWrong k (g.W.World.state c.args.world.now) (g.W.World.state c.carry_out.new.world) (g.O.Device.faults c.args.out.now)
+    (g.O.Device.faults c.carry_out.new.out) in
     subst IsCompleted (sym c.status_of.ensures)
     (completes _ _ _ _ _ _ _ _ c.in-Some.ended c.in-Some.ensures.carried c.in-Some.ensures.world c.in-Some.ensures.writes (subst P (sym same) right))
 

@@ -11,11 +11,13 @@ pub returns-in-Err-clause-world : goal.returns-in-Err-clause-world
 returns-in-Err-clause-world g c = unopened_used _ _ _ _ c.in-Err.fault _ c.ended_by_fault.ensures c.in-Err.ensures.state c.in-Err.ensures.link
 
 pub returns-in-Err-clause-linked : goal.returns-in-Err-clause-linked
-returns-in-Err-clause-linked g c = inl (ap (λ s. s.files) c.in-Err.ensures.state, (refl, fault_ends c.in-Err.fault c.ended_by_fault.result c.ended_by_fault.ensures))
+returns-in-Err-clause-linked g c = inl
+    (ap (λ s. s.files) c.in-Err.ensures.state, (refl, fault_ends c.in-Err.fault c.ended_by_fault.result c.ended_by_fault.ensures))
 
 pub returns-in-Ok-clause-world : goal.returns-in-Ok-clause-world
 returns-in-Ok-clause-world g c =
-    uses_around c.args.address.now _ (File c.args.script.now ∷ []) _ _ _ _ _ _ c.in-Ok.ensures.state c.script_over-ended.ensures.world c.close_link.ensures.state
+    uses_around c.args.address.now _ (File c.args.script.now ∷ []) _ _ _ _ _ _ c.in-Ok.ensures.state c.script_over-ended.ensures.world
+    c.close_link.ensures.state
 
 pub returns-in-Ok-clause-linked : goal.returns-in-Ok-clause-linked
 returns-in-Ok-clause-linked g c =

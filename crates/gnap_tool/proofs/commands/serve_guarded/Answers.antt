@@ -8,7 +8,8 @@ use Rattle.gnap_tool.proofs.ServedResources.{resources_used}
 use Rattle.gnap_tool.proofs.commands.serve_guarded.Goals as goal
 
 pub returns-clause-served : goal.returns-clause-served
-returns-clause-served g c = inr (g.K.RequestGuard.kept c.serve_resources_at.new.guard, c.serve_resources_at.result, c.ended_service.ensures, c.serve_resources_at.ensures.served)
+returns-clause-served g c = inr
+    (g.K.RequestGuard.kept c.serve_resources_at.new.guard, c.serve_resources_at.result, c.ended_service.ensures, c.serve_resources_at.ensures.served)
 
 pub returns-clause-world : goal.returns-clause-world
 returns-clause-world g c =
@@ -20,4 +21,5 @@ returns-clause-world g c =
     c.args.listen.now c.args.server.now c.args.quota before after c.serve_resources_at.result c.serve_resources_at.ensures.served)
 
 pub returns-clause-quota : goal.returns-clause-quota
-returns-clause-quota g c = λ gives. done_by c.serve_resources_at.result c.ended_service.result _ c.ended_service.ensures (c.serve_resources_at.ensures.quota gives)
+returns-clause-quota g c = λ gives. done_by c.serve_resources_at.result c.ended_service.result _ c.ended_service.ensures
+    (c.serve_resources_at.ensures.quota gives)

@@ -16,7 +16,8 @@ returns-in-Ok-clause-carried g c out =
     let between = g.W.World.state c.open_config.new.world in
     let after = g.W.World.state c.serve_cached.new.world in
     let ended = c.serve_cached.result in
-    let Then : WorldState → RsSetup → Type 0 = λ b setup. (out ≡ out) × ServesRs setup c.args.listen.now c.args.server.now c.args.quota c.args.cache b after ended in
+    let Then : WorldState → RsSetup
+    → Type 0 = λ b setup. (out ≡ out) × ServesRs setup c.args.listen.now c.args.server.now c.args.quota c.args.cache b after ended in
     by_setup_on (λ (setup : RsSetup). setup) rs_setup_in (text c.args.config.now) before between Then c.in-Ok.setup after out out ended c.in-Ok.ensures.config
     (refl, c.serve_cached.ensures.served)
 
@@ -25,8 +26,10 @@ returns-in-Err-clause-carried g c out =
     let text = g.W.World.text c.args.world.now in
     let after = g.W.World.state c.open_config.new.world in
     let ended = c.in-Err.ended in
-    let Then : WorldState → RsSetup → Type 0 = λ b setup. (out ≡ out) × ServesRs setup c.args.listen.now c.args.server.now c.args.quota c.args.cache b after ended in
-    by_setup_off (λ (setup : RsSetup). setup) rs_setup_in (text c.args.config.now) (g.W.World.state c.args.world.now) after Then out ended (λ is setup. (refl, unserved setup c.args.listen.now c.args.server.now c.args.quota c.args.cache after ended is)) c.in-Err.ensures.config
+    let Then : WorldState → RsSetup
+    → Type 0 = λ b setup. (out ≡ out) × ServesRs setup c.args.listen.now c.args.server.now c.args.quota c.args.cache b after ended in
+    by_setup_off (λ (setup : RsSetup). setup) rs_setup_in (text c.args.config.now) (g.W.World.state c.args.world.now) after Then out ended
+    (λ is setup. (refl, unserved setup c.args.listen.now c.args.server.now c.args.quota c.args.cache after ended is)) c.in-Err.ensures.config
 
 pub returns-in-Ok-clause-world : goal.returns-in-Ok-clause-world
 returns-in-Ok-clause-world g c =
@@ -38,12 +41,14 @@ returns-in-Ok-clause-world g c =
 
 pub returns-in-Err-clause-world : goal.returns-in-Err-clause-world
 returns-in-Err-clause-world g c =
-    unread_used (λ (setup : RsSetup). setup) rs_setup_in (g.W.World.text c.args.world.now c.args.config.now) (g.W.World.state c.args.world.now) (g.W.World.state c.open_config.new.world) c.in-Err.ended
+    unread_used (λ (setup : RsSetup). setup) rs_setup_in (g.W.World.text c.args.world.now c.args.config.now) (g.W.World.state c.args.world.now)
+    (g.W.World.state c.open_config.new.world) c.in-Err.ended
     c.in-Err.ensures.config (File c.args.config.now ∷ []) (Link c.args.server.now ∷ Gears c.args.listen.now 1 c.args.quota ∷ []) None c.in-Err.ensures.world
 
 pub returns-in-Err-clause-writes : goal.returns-in-Err-clause-writes
 returns-in-Err-clause-writes g c faults =
-    unread_writes (λ (setup : RsSetup). setup) rs_setup_in (g.W.World.text c.args.world.now c.args.config.now) (g.W.World.state c.args.world.now) (g.W.World.state c.open_config.new.world) c.in-Err.ended
+    unread_writes (λ (setup : RsSetup). setup) rs_setup_in (g.W.World.text c.args.world.now c.args.config.now) (g.W.World.state c.args.world.now)
+    (g.W.World.state c.open_config.new.world) c.in-Err.ended
     c.in-Err.ensures.config faults
 
 pub returns-in-Err-clause-quota : goal.returns-in-Err-clause-quota

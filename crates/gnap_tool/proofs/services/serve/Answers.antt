@@ -18,7 +18,8 @@ returns-in-Ok-clause-carried g c out =
     let ended = c.serve_setup.result in
     let Then : WorldState → Setup → Type 0 = λ b setup. ServesBy c.args.service.now setup c.args.served.now text b after out out ended in
     let T : (List ℕ → Option (List ℕ)) → Type 0 = λ t. ServesBy c.args.service.now c.in-Ok.setup c.args.served.now t between after out out ended in
-    by_setup_on (λ (setup : Setup). setup) setup_in (text c.args.served.now.config) (g.W.World.state c.args.world.now) between Then c.in-Ok.setup after out out ended
+    by_setup_on (λ (setup : Setup). setup) setup_in (text c.args.served.now.config) (g.W.World.state c.args.world.now) between Then c.in-Ok.setup after out out
+    ended
     c.in-Ok.ensures.config (subst T c.in-Ok.ensures.text (c.serve_setup.ensures.served out))
 
 pub returns-in-Err-clause-carried : goal.returns-in-Err-clause-carried

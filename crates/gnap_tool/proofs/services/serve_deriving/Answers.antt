@@ -19,7 +19,8 @@ returns-in-Ok-clause-served g c out =
     let after = g.W.World.state c.serve_deriving_at.new.world in
     let ended = c.ended_service.result in
     let Then : WorldState → List Pair → Type 0 = λ b known. (out ≡ out) × ServesDeriving known c.args.setup c.args.served.now b after ended in
-    by_setup_on (λ (known : List Pair). known) (pairs_in c.args.setup) (g.W.World.text c.args.world.now c.args.pairs.now) before between Then c.in-Ok.known after out out ended
+    by_setup_on (λ (known : List Pair). known) (pairs_in c.args.setup) (g.W.World.text c.args.world.now c.args.pairs.now) before between Then c.in-Ok.known
+    after out out ended
     c.in-Ok.ensures.config (refl, inr (c.serve_deriving_at.result, c.ended_service.ensures, c.serve_deriving_at.ensures.served))
 
 pub returns-in-Err-clause-served : goal.returns-in-Err-clause-served
@@ -27,7 +28,8 @@ returns-in-Err-clause-served g c out =
     let after = g.W.World.state c.open_config.new.world in
     let ended = c.in-Err.ended in
     let Then : WorldState → List Pair → Type 0 = λ b known. (out ≡ out) × ServesDeriving known c.args.setup c.args.served.now b after ended in
-    by_setup_off (λ (known : List Pair). known) (pairs_in c.args.setup) (g.W.World.text c.args.world.now c.args.pairs.now) (g.W.World.state c.args.world.now) after Then out
+    by_setup_off (λ (known : List Pair). known) (pairs_in c.args.setup) (g.W.World.text c.args.world.now c.args.pairs.now) (g.W.World.state c.args.world.now)
+    after Then out
     ended (λ is known. (refl, inl (refl, is))) c.in-Err.ensures.config
 
 pub returns-in-Ok-clause-world : goal.returns-in-Ok-clause-world
@@ -39,7 +41,8 @@ returns-in-Ok-clause-world g c =
     let U : Ended → Type 0 = λ ended. UsesWorld listen None between after ended in
     uses_then c.args.pairs.now (g.W.World.state c.args.world.now) between after c.in-Ok.ensures.world listen None c.ended_service.result
     (subst U (sym c.ended_service.ensures)
-    (derivations_used c.args.setup served.listen served.workers served.quota between after c.in-Ok.known c.serve_deriving_at.result c.serve_deriving_at.ensures.served))
+    (derivations_used c.args.setup served.listen served.workers served.quota between after c.in-Ok.known c.serve_deriving_at.result
+    c.serve_deriving_at.ensures.served))
 
 pub returns-in-Err-clause-world : goal.returns-in-Err-clause-world
 returns-in-Err-clause-world g c =

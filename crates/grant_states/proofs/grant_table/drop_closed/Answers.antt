@@ -21,7 +21,8 @@ loop-i-preserved c =
       many = length-set lists i c.drop_closed_in.new.list ∙ c.loop-i.invariant.many;
       dropped = λ j lt. elim (one_list lists i j c.drop_closed_in.new.list inside) [
         | inl e ↦ e.1 ∙ c.drop_closed_in.ensures
-            ∙ ap (filter test) (c.index_mut.ensures.value ∙ get_or_default lists i c.index_mut.result.now [] inside ∙ c.loop-i.invariant.rest i (omega arith) ∙ ap (λ n. get_or was n []) (sym e.0))
+            ∙ ap (filter test) (c.index_mut.ensures.value ∙ get_or_default lists i c.index_mut.result.now [] inside ∙ c.loop-i.invariant.rest i (omega arith)
+            ∙ ap (λ n. get_or was n []) (sym e.0))
         | inr e ↦ e.1 ∙ c.loop-i.invariant.dropped j (below j i lt e.0)
       ];
       rest = λ j le. elim (one_list lists i j c.drop_closed_in.new.list inside) [

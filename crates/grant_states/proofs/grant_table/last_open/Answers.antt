@@ -11,7 +11,8 @@ loop-one-init c = latest_none (open_numbered c.args.places.now c.args.now c.args
 
 pub loop-one-preserved : goal.loop-one-preserved
 loop-one-preserved c =
-    latest_step (open_numbered c.args.places.now c.args.now c.args.name) c.args.listed.now c.loop-one.one-index _ (option_map (λ row. row.now) c.loop-one.found) (option_map (λ row. row.now) c.open_at.result) (option_map (λ row. row.now) c.later-found.result)
+    latest_step (open_numbered c.args.places.now c.args.now c.args.name) c.args.listed.now c.loop-one.one-index _ (option_map (λ row. row.now) c.loop-one.found)
+    (option_map (λ row. row.now) c.open_at.result) (option_map (λ row. row.now) c.later-found.result)
     c.loop-one-test.true c.loop-one.invariant c.open_at.ensures c.later-found.ensures
 
 pub returns : goal.returns

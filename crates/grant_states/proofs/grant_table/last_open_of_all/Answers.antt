@@ -11,8 +11,10 @@ use Rattle.grant_states.proofs.grant_table.last_open_of_all.Goals as goal
 
 pub loop-place-preserved : goal.loop-place-preserved
 loop-place-preserved c =
-    newest_step (λ (row : GrantRow). some_if (is_open_by c.args.name c.args.now row.round) row) c.args.places.now c.loop-place.place-index c.place-item.result c.as_ref.result.now _ _ c.loop-place-test.true c.place-item.is c.as_ref.ensures c.loop-place.invariant c.open_or-found.ensures
+    newest_step (λ (row : GrantRow). some_if (is_open_by c.args.name c.args.now row.round) row) c.args.places.now c.loop-place.place-index c.place-item.result
+    c.as_ref.result.now _ _ c.loop-place-test.true c.place-item.is c.as_ref.ensures c.loop-place.invariant c.open_or-found.ensures
 
 pub returns : goal.returns
-returns c = c.loop-place.invariant ∙ ap (λ (ps : List GrantPlace). newest (λ (row : GrantRow). some_if (is_open_by c.args.name c.args.now row.round) row) (map grant_in ps))
+returns c = c.loop-place.invariant
+    ∙ ap (λ (ps : List GrantPlace). newest (λ (row : GrantRow). some_if (is_open_by c.args.name c.args.now row.round) row) (map grant_in ps))
     (take_all c.loop-place.place-index c.args.places.now (omega (arith, c.loop-place-test.false)))

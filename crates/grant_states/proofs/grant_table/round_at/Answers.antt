@@ -7,5 +7,6 @@ use Rattle.grant_states.proofs.grant_table.round_at.Goals as goal
 
 pub returns : goal.returns
 returns c =
-    c.round_of.ensures ∙ ap (option_and_then (λ (row : GrantRow). row.round)) (c.numbered.ensures ∙ numbered_at c.args.places.now c.place_of.result c.args.number c.requires c.place_of.ensures)
+    c.round_of.ensures ∙ ap (option_and_then (λ (row : GrantRow). row.round))
+    (c.numbered.ensures ∙ numbered_at c.args.places.now c.place_of.result c.args.number c.requires c.place_of.ensures)
     ∙ round_in (place_numbered c.args.number c.args.places.now)

@@ -12,7 +12,8 @@ pub loop-listed-init : goal.loop-listed-init
 loop-listed-init c = (
   c.requires,
   subst (λ (os : List Listed). IsStartOf c.args.key os c.partition_point-first.result) c.as_slice.ensures.value
-      (c.partition_point-first.ensures.partitioned (λ (one : Listed). ltb (key_of one) c.args.key) (always_returns_same _ _ _ (λ a r f k. search (rules, of_calls)))
+      (c.partition_point-first.ensures.partitioned (λ (one : Listed). ltb (key_of one) c.args.key)
+      (always_returns_same _ _ _ (λ a r f k. search (rules, of_calls)))
       (IsPartitionedBy-ltb key_of c.as_slice.result.now c.args.key (subst (IsNonDecreasingBy key_of) (sym c.as_slice.ensures.value) c.requires))),
   λ one h other. h,
   λ one h. h,
@@ -29,16 +30,19 @@ loop-listed-preserved c =
       subst (IsNonDecreasingBy key_of) (sym left) (taken_in_order key_of items first c.loop-listed.invariant.0),
       subst (λ (os : List Listed). IsStartOf c.args.key os first) (sym left) (start_stays items first c.args.key c.loop-listed.invariant.1 inside),
       λ one h other. subst (λ (os : List Listed). HasItem os one) (sym left)
-          (other_kept items first c.args.key c.index.result.now one inside (ap key_of (sym c.index.ensures) ∙ c.if-index-key.true) other (c.loop-listed.invariant.2 one h other)),
+          (other_kept items first c.args.key c.index.result.now one inside (ap key_of (sym c.index.ensures) ∙ c.if-index-key.true) other
+          (c.loop-listed.invariant.2 one h other)),
       λ one h. c.loop-listed.invariant.3 one (item_left_in items first one (subst (λ (os : List Listed). HasItem os one) left h)),
       omega (arith, c.remove-gone.ensures.len, c.loop-listed.invariant.4),
       c.remove-gone.ensures.capacity ∙ c.loop-listed.invariant.5,
     )
 
 pub returns-else-index-key-clause-gone : goal.returns-else-index-key-clause-gone
-returns-else-index-key-clause-gone c = none_under c.loop-listed.listed.items c.partition_point-first.result c.args.key c.index.result.now c.loop-listed.invariant.0 c.loop-listed.invariant.1
+returns-else-index-key-clause-gone c = none_under c.loop-listed.listed.items c.partition_point-first.result c.args.key c.index.result.now
+    c.loop-listed.invariant.0 c.loop-listed.invariant.1
     (λ inside is. c.if-index-key.false (ap key_of c.index.ensures ∙ is))
 
 pub returns-after-loop-listed-clause-gone : goal.returns-after-loop-listed-clause-gone
-returns-after-loop-listed-clause-gone c = none_under c.loop-listed.listed.items c.partition_point-first.result c.args.key (under 0 0) c.loop-listed.invariant.0 c.loop-listed.invariant.1
+returns-after-loop-listed-clause-gone c = none_under c.loop-listed.listed.items c.partition_point-first.result c.args.key (under 0 0) c.loop-listed.invariant.0
+    c.loop-listed.invariant.1
     (λ inside is. omega (arith, inside, c.loop-listed-test.false, c.len.ensures))

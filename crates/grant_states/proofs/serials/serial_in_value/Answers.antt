@@ -10,7 +10,8 @@ pub returns-in-Ok-clause-drawn : goal.returns-in-Ok-clause-drawn
 returns-in-Ok-clause-drawn c = λ s a b small is.
     let d = value_decoded c.args.value.now s a b is in
     let read : c.from_be_bytes.result ≡ from_be_bytes w64 c.decode_slice.new.output = c.from_be_bytes.ensures in
-    ap (λ (n : ℕ). Some n) (read ∙ serial_read s a b c.decode_slice.new.output (decoded_bytes_of url_safe_no_pad c.args.value.now) _ small c.in-Ok.ensures.written d.1)
+    ap (λ (n : ℕ). Some n) (read ∙ serial_read s a b c.decode_slice.new.output (decoded_bytes_of url_safe_no_pad c.args.value.now) _ small
+    c.in-Ok.ensures.written d.1)
 
 pub returns-in-Err-clause-drawn : goal.returns-in-Err-clause-drawn
 returns-in-Err-clause-drawn c = λ s a b small is.
@@ -21,7 +22,8 @@ pub returns-in-Ok-clause-read : goal.returns-in-Ok-clause-read
 unfolding serial_of
 returns-in-Ok-clause-read c =
     let read : c.from_be_bytes.result ≡ from_be_bytes w64 c.decode_slice.new.output = c.from_be_bytes.ensures in
-    ap (λ (n : ℕ). Some n) (read ∙ ap (from_be_bytes w64) c.in-Ok.ensures.written) ∙ ap (λ r. serial_where r (first_word c.args.value.now)) (sym c.in-Ok.is ∙ c.decode_slice.ensures.value)
+    ap (λ (n : ℕ). Some n) (read ∙ ap (from_be_bytes w64) c.in-Ok.ensures.written)
+    ∙ ap (λ r. serial_where r (first_word c.args.value.now)) (sym c.in-Ok.is ∙ c.decode_slice.ensures.value)
 
 pub returns-in-Err-clause-read : goal.returns-in-Err-clause-read
 unfolding serial_of

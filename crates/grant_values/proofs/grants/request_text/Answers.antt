@@ -12,4 +12,5 @@ returns-clause-value c =
 pub returns-clause-read : goal.returns-clause-read
 returns-clause-read c =
     rw c.from_vec.ensures
-    (text_read (option_copied c.args.existing) c.args.request.now (view c.in_ok-value.value) _ c.requires.fits c.in_ok-value.ensures c.in_ok-to_vec.ensures.utf8 c.in_ok-to_vec.ensures.reads_back)
+    (text_read (option_copied c.args.existing) c.args.request.now (view c.in_ok-value.value) _ c.requires.fits c.in_ok-value.ensures c.in_ok-to_vec.ensures.utf8
+    c.in_ok-to_vec.ensures.reads_back)

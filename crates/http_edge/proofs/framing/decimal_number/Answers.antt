@@ -14,5 +14,6 @@ loop-digit-preserved c =
     let more = digits_value_more 10 v i c.loop-digit-test.true in
     record {
       value = omega (arith, more, digit, c.loop-digit.invariant.value, c.saturating_mul.ensures, c.saturating_add-number.ensures);
-      digits = list_all_more is_ascii_digit v i 0 c.loop-digit-test.true ∙ and_from _ _ c.loop-digit.invariant.digits (sym c.is_ascii_digit.ensures.value ∙ c.if-not-is_ascii_digit.false);
+      digits = list_all_more is_ascii_digit v i 0 c.loop-digit-test.true
+          ∙ and_from _ _ c.loop-digit.invariant.digits (sym c.is_ascii_digit.ensures.value ∙ c.if-not-is_ascii_digit.false);
     }

@@ -43,6 +43,7 @@ returns-in_ok-body-in-Body c =
           (c.in_ok-target-in-Body.ensures ∙ c.of-in-Body.ensures ∙ of.1.path)
           (c.in_ok-fields-in-Body.ensures ∙ ap (map field_of) of.1.fields)
           (c.in_ok-body-in-Body.ensures)
-          (c.is_last-last.ensures ∙ ap (λ (n : ℕ). n == 0 || asks_to_close (map (header_bytes c.args.w.now) (take c.args.spans.headers c.args.room.now))) of.1.version
+          (c.is_last-last.ensures ∙ ap (λ (n : ℕ). n == 0 || asks_to_close (map (header_bytes c.args.w.now) (take c.args.spans.headers c.args.room.now)))
+          of.1.version
           ∙ ap (λ (headers : List Header). of.0.minor == 0 || asks_to_close headers) of.1.fields),
     )

@@ -8,4 +8,7 @@ pub returns-in-Never : goal.returns-in-Never
 returns-in-Never c = (no_head_refused c.args.b.now c.window-w.result.now c.window-w.ensures.window (rw c.in-Never.is at c.in_ok-spans.ensures), tt)
 
 pub returns-else-b-lt-HEAD_LIMIT : goal.returns-else-b-lt-HEAD_LIMIT
-returns-else-b-lt-HEAD_LIMIT c = (too_long_refused c.args.b.now c.window-w.result.now c.window-w.ensures.window (rw c.in-Undecided.is at c.in_ok-spans.ensures) c.if-b-lt-HEAD_LIMIT.false, tt)
+returns-else-b-lt-HEAD_LIMIT c = (
+  too_long_refused c.args.b.now c.window-w.result.now c.window-w.ensures.window (rw c.in-Undecided.is at c.in_ok-spans.ensures) c.if-b-lt-HEAD_LIMIT.false,
+  tt,
+)

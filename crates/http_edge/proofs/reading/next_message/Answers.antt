@@ -17,16 +17,19 @@ returns-in-Ok-End-clause-needed g c = needed_so c.loop-message.held _ _ _ c.loop
 
 pub returns-in-Ok-Whole-clause-next : goal.returns-in-Ok-Whole-clause-next
 returns-in-Ok-Whole-clause-next g c =
-    next_whole _ c.loop-message.held _ _ c.loop-message.invariant.grows c.in-Ok-Whole.ensures.before _ _ (rw c.in-Ok-Whole.field-0-is at c.in-Ok-Whole.ensures.progress)
+    next_whole _ c.loop-message.held _ _ c.loop-message.invariant.grows c.in-Ok-Whole.ensures.before _ _
+    (rw c.in-Ok-Whole.field-0-is at c.in-Ok-Whole.ensures.progress)
 
 pub returns-in-Ok-End-clause-next : goal.returns-in-Ok-End-clause-next
 returns-in-Ok-End-clause-next g c =
     let progress = rw c.in-Ok-End.field-0-is at c.in-Ok-End.ensures.progress in
-    next_none _ c.loop-message.held _ _ c.loop-message.invariant.grows c.in-Ok-End.ensures.before _ progress.1 progress.2 (c.loop-message.invariant.end progress.0)
+    next_none _ c.loop-message.held _ _ c.loop-message.invariant.grows c.in-Ok-End.ensures.before _ progress.1 progress.2
+    (c.loop-message.invariant.end progress.0)
 
 pub returns-in-Err-clause-next : goal.returns-in-Err-clause-next
 returns-in-Err-clause-next g c =
-    next_progress _ _ _ c.loop-message.ended _ _ c.in-Err.fault c.loop-message.invariant.grows c.in-Err.ensures.before c.loop-message.invariant.end c.in-Err.ensures.progress
+    next_progress _ _ _ c.loop-message.ended _ _ c.in-Err.fault c.loop-message.invariant.grows c.in-Err.ensures.before c.loop-message.invariant.end
+    c.in-Err.ensures.progress
 
 pub returns-in-Err-clause-needed : goal.returns-in-Err-clause-needed
 returns-in-Err-clause-needed g c = needed_so c.loop-message.held _ _ _ c.loop-message.invariant.needed
@@ -43,7 +46,8 @@ loop-message-preserved-in-More g c =
     let arrived = c.in-More.ensures.arrived in
     record {
       grows = grows_then _ c.loop-message.held _ _ _ _ before.grows
-          (subst (λ (b : List ℕ). Grows b c.read_on.new.held (g.S.Device.told c.loop-message.source) (g.S.Device.told c.read_on.new.source)) progress.1 arrived.0);
+          (subst (λ (b : List ℕ). Grows b c.read_on.new.held (g.S.Device.told c.loop-message.source) (g.S.Device.told c.read_on.new.source)) progress.1
+          arrived.0);
       kept = arrived.2 ∙ before.kept;
       end = λ e. let wrong : ◌≡◌ {A = Bool} false true = sym progress.0 ∙ e in absurd (cc);
       needed = inr (open_first c.loop-message.held _ _ _ before.needed (waiting_open c.loop-message.held c.in-Ok-Unfinished.want progress.2));
@@ -56,7 +60,8 @@ loop-message-preserved g c =
     let arrived = c.in-End.ensures.arrived in
     record {
       grows = grows_then _ c.loop-message.held _ _ _ _ before.grows
-          (subst (λ (b : List ℕ). Grows b c.read_on.new.held (g.S.Device.told c.loop-message.source) (g.S.Device.told c.read_on.new.source)) progress.1 arrived.0);
+          (subst (λ (b : List ℕ). Grows b c.read_on.new.held (g.S.Device.told c.loop-message.source) (g.S.Device.told c.read_on.new.source)) progress.1
+          arrived.0);
       kept = arrived.2 ∙ before.kept;
       end = λ _. arrived.1;
       needed = inr (open_first c.loop-message.held _ _ _ before.needed (waiting_open c.loop-message.held c.in-Ok-Unfinished.want progress.2));
@@ -77,7 +82,8 @@ returns-in-Failed-clause-next g c =
     let progress = rw c.in-Ok-Unfinished.field-0-is at c.in-Ok-Unfinished.ensures.progress in
     next_failed _ c.read_on.new.held _ _
     (grows_then _ c.loop-message.held _ _ _ _ c.loop-message.invariant.grows
-    (subst (λ (b : List ℕ). Grows b c.read_on.new.held (g.S.Device.told c.loop-message.source) (g.S.Device.told c.read_on.new.source)) progress.1 c.in-Failed.ensures.arrived.0))
+    (subst (λ (b : List ℕ). Grows b c.read_on.new.held (g.S.Device.told c.loop-message.source) (g.S.Device.told c.read_on.new.source)) progress.1
+    c.in-Failed.ensures.arrived.0))
     c.in-Failed.ensures.bound ReadFault (λ t. tt)
 
 pub returns-in-Memory-clause-next : goal.returns-in-Memory-clause-next
@@ -85,5 +91,6 @@ returns-in-Memory-clause-next g c =
     let progress = rw c.in-Ok-Unfinished.field-0-is at c.in-Ok-Unfinished.ensures.progress in
     next_failed _ c.read_on.new.held _ _
     (grows_then _ c.loop-message.held _ _ _ _ c.loop-message.invariant.grows
-    (subst (λ (b : List ℕ). Grows b c.read_on.new.held (g.S.Device.told c.loop-message.source) (g.S.Device.told c.read_on.new.source)) progress.1 c.in-Memory.ensures.arrived.0))
+    (subst (λ (b : List ℕ). Grows b c.read_on.new.held (g.S.Device.told c.loop-message.source) (g.S.Device.told c.read_on.new.source)) progress.1
+    c.in-Memory.ensures.arrived.0))
     c.in-Memory.ensures.bound OutOfMemory (λ t. tt)

@@ -26,7 +26,8 @@ loop-held-preserved g c =
     let all = c.as_slice-in-loop-held.ensures.value in
     let place : c.line_place-place-in-loop-held.result ≡ fold next_line_place BlankLines c.fill.new.self =
     c.line_place-place-in-loop-held.ensures
-    ∙ place_more c.loop-held.held arrived.0.came c.as_slice-in-loop-held.result.now c.len-seen.result c.loop-held.place (all ∙ arrived.0.behind) seen before.place
+    ∙ place_more c.loop-held.held arrived.0.came c.as_slice-in-loop-held.result.now c.len-seen.result c.loop-held.place (all ∙ arrived.0.behind) seen
+    before.place
     ∙ ap (fold next_line_place BlankLines) all in
     record {
       grows = grows_then _ _ _ _ _ _ before.grows arrived.0;

@@ -11,8 +11,10 @@ returns-in_err-put-clause-sent g c =
     let failed = err_from_is_err_and c.from_residual.result c.from_residual.ensures.1 in
     let i = c.loop-piece.piece-index in
     let pieces = c.args.pieces.now in
-    rw failed.1 (subst (λ (t : List ℕ). Began t (g.S.Device.told c.args.sink.now) (g.S.Device.told c.put.new.sink)) (sym (pieces_split i pieces _ c.loop-piece-test.true))
-    (began_more _ (bytes_of_pieces (drop (suc i) pieces)) _ _ (under_way_fails (bytes_of_pieces (take i pieces)) c.loop-piece.outgoing _ _ _ _ c.loop-piece.invariant.way c.in_err-put.ensures.put)))
+    rw failed.1 (subst (λ (t : List ℕ). Began t (g.S.Device.told c.args.sink.now) (g.S.Device.told c.put.new.sink))
+    (sym (pieces_split i pieces _ c.loop-piece-test.true))
+    (began_more _ (bytes_of_pieces (drop (suc i) pieces)) _ _
+    (under_way_fails (bytes_of_pieces (take i pieces)) c.loop-piece.outgoing _ _ _ _ c.loop-piece.invariant.way c.in_err-put.ensures.put)))
 
 pub returns-clause-sent : goal.returns-clause-sent
 returns-clause-sent g c =
@@ -21,5 +23,6 @@ returns-clause-sent g c =
     let told = g.S.Device.told in
     let all : take i pieces ≡ pieces = take_all i pieces c.loop-piece-test.false in
     under_way_ends (bytes_of_pieces pieces) c.loop-piece.outgoing _ _ _ _
-    (subst (λ (ps : List (Bor (List ℕ))). IsUnderWay (bytes_of_pieces ps) c.loop-piece.outgoing (told c.args.sink.now) (told c.loop-piece.sink)) all c.loop-piece.invariant.way)
+    (subst (λ (ps : List (Bor (List ℕ))). IsUnderWay (bytes_of_pieces ps) c.loop-piece.outgoing (told c.args.sink.now) (told c.loop-piece.sink)) all
+    c.loop-piece.invariant.way)
     c.flush.ensures.sent

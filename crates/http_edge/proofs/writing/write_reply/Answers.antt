@@ -15,7 +15,8 @@ returns-in_err-write_parts-clause-sent g c =
     let digits = c.as_bytes-digits.ensures.value ∙ c.format.ensures.text ∙ ap (λ (t : List ℕ). decimal (length t)) body in
     let lengths = c.length_parts.ensures ∙ ap (length_line r.status) digits in
     rw failed.1 (subst (λ (t : List ℕ). Began t (g.S.Device.told c.args.sink.now) (g.S.Device.told c.write_parts.new.sink))
-    (λ i. ((codes "HTTP/1.1 " ++ (c.digits_and_phrase.ensures.digits i ++ (codes " " ++ (c.digits_and_phrase.ensures.phrase i ++ codes "\r\n")))) ++ (c.type_line.ensures i ++ (codes "Cache-Control: no-store\r\n" ++ (c.extra_parts.ensures i ++ (c.close_line.ensures i
+    (λ i. ((codes "HTTP/1.1 " ++ (c.digits_and_phrase.ensures.digits i ++ (codes " " ++ (c.digits_and_phrase.ensures.phrase i ++ codes "\r\n"))))
+    ++ (c.type_line.ensures i ++ (codes "Cache-Control: no-store\r\n" ++ (c.extra_parts.ensures i ++ (c.close_line.ensures i
     ++ (lengths i ++ codes "\r\n")))))) ++ body i)
     c.in_err-write_parts.ensures.sent)
 
@@ -27,6 +28,7 @@ returns-clause-sent g c =
     let digits = c.as_bytes-digits.ensures.value ∙ c.format.ensures.text ∙ ap (λ (t : List ℕ). decimal (length t)) body in
     let lengths = c.length_parts.ensures ∙ ap (length_line r.status) digits in
     subst (λ (t : List ℕ). Writes t (g.S.Device.told c.args.sink.now) (g.S.Device.told c.write_parts.new.sink))
-    (λ i. ((codes "HTTP/1.1 " ++ (c.digits_and_phrase.ensures.digits i ++ (codes " " ++ (c.digits_and_phrase.ensures.phrase i ++ codes "\r\n")))) ++ (c.type_line.ensures i ++ (codes "Cache-Control: no-store\r\n" ++ (c.extra_parts.ensures i ++ (c.close_line.ensures i
+    (λ i. ((codes "HTTP/1.1 " ++ (c.digits_and_phrase.ensures.digits i ++ (codes " " ++ (c.digits_and_phrase.ensures.phrase i ++ codes "\r\n"))))
+    ++ (c.type_line.ensures i ++ (codes "Cache-Control: no-store\r\n" ++ (c.extra_parts.ensures i ++ (c.close_line.ensures i
     ++ (lengths i ++ codes "\r\n")))))) ++ body i)
     c.in_ok-write_parts.ensures.sent

@@ -12,4 +12,5 @@ seen None h = tt
 seen (Some v) h = h
 
 pub returns-clause-body : goal.returns-clause-body
-returns-clause-body c = λ body. seen c.get.result (subst (λ (o : Option Data). IfSome o IsBody) (sym c.get.ensures) (member_body c.args.name.now (view c.args.value.now) body))
+returns-clause-body c = λ body. seen c.get.result
+    (subst (λ (o : Option Data). IfSome o IsBody) (sym c.get.ensures) (member_body c.args.name.now (view c.args.value.now) body))

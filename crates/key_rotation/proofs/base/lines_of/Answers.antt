@@ -10,12 +10,14 @@ pub loop-i-init : goal.loop-i-init
 loop-i-init c = rw c.new-text.ensures (lines_start (rotation_lines c.args.message.now c.args.base.now c.args.fields.now c.args.items.now))
 
 pub loop-i-preserved : goal.loop-i-preserved
-loop-i-preserved c = lines_more c.args.message.now c.args.base.now c.args.fields.now c.args.items.now c.loop-i.i c.at.result.now c.loop-i.text c.at.ensures c.loop-i.invariant c.in_ok-text.text
+loop-i-preserved c = lines_more c.args.message.now c.args.base.now c.args.fields.now c.args.items.now c.loop-i.i c.at.result.now c.loop-i.text c.at.ensures
+    c.loop-i.invariant c.in_ok-text.text
     (rw c.others_behind.ensures at c.in_ok-text.ensures)
 
 pub returns-in_err-text : goal.returns-in_err-text
 returns-in_err-text c = let p = err_from_is_err_and c.from_residual.result c.from_residual.ensures.1 in rw (p.1, p.2)
-    (lines_failed c.args.message.now c.args.base.now c.args.fields.now c.args.items.now c.loop-i.i c.at.result.now c.loop-i.text c.at.ensures c.loop-i.invariant c.in_err-text.field-0.0
+    (lines_failed c.args.message.now c.args.base.now c.args.fields.now c.args.items.now c.loop-i.i c.at.result.now c.loop-i.text c.at.ensures c.loop-i.invariant
+    c.in_err-text.field-0.0
     (rw c.others_behind.ensures at c.in_err-text.ensures))
 
 pub returns : goal.returns

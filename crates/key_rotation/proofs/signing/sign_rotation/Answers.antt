@@ -3,7 +3,8 @@ use Rattle.key_rotation.proofs.SecondBase.{based, input_range, signed_with}
 use Rattle.key_rotation.proofs.signing.sign_rotation.Goals as goal
 
 pub signature_of-requires-clause-based : goal.signature_of-requires-clause-based
-signature_of-requires-clause-based c = rw c.in_ok-list.ensures (based c.args.message.now c.args.base.now c.args.id.now c.args.created c.in_ok-fields.ensures.signed)
+signature_of-requires-clause-based c = rw c.in_ok-list.ensures
+    (based c.args.message.now c.args.base.now c.args.id.now c.args.created c.in_ok-fields.ensures.signed)
 
 pub second_lines-requires-clause-list : goal.second_lines-requires-clause-list
 second_lines-requires-clause-list c = rw c.in_ok-list.ensures (input_range c.args.message.now c.args.id.now c.args.created c.requires.created c.requires.id)

@@ -10,15 +10,18 @@ pub loop-i-init : goal.loop-i-init
 loop-i-init c = rw c.in_ok-empty.ensures (lines_start (base_lines c.args.message.now c.args.base.now c.args.items.now))
 
 pub loop-i-preserved : goal.loop-i-preserved
-loop-i-preserved c = lines_more c.args.message.now c.args.base.now c.args.items.now c.loop-i.i c.at.result.now c.loop-i.text c.at.ensures c.loop-i.invariant c.in_ok-text.text
+loop-i-preserved c = lines_more c.args.message.now c.args.base.now c.args.items.now c.loop-i.i c.at.result.now c.loop-i.text c.at.ensures c.loop-i.invariant
+    c.in_ok-text.text
     (rw c.others_behind.ensures at c.in_ok-text.ensures)
 
 pub returns-in_err-text : goal.returns-in_err-text
 returns-in_err-text c = let p = err_from_is_err_and c.from_residual-in_err-text.result c.from_residual-in_err-text.ensures.1 in rw (p.1, p.2)
-    (lines_failed c.args.message.now c.args.base.now c.args.items.now c.loop-i.i c.at.result.now c.loop-i.text c.at.ensures c.loop-i.invariant c.in_err-text.field-0.0
+    (lines_failed c.args.message.now c.args.base.now c.args.items.now c.loop-i.i c.at.result.now c.loop-i.text c.at.ensures c.loop-i.invariant
+    c.in_err-text.field-0.0
     (rw c.others_behind.ensures at c.in_err-text.ensures))
 
 pub returns : goal.returns
 returns c =
     let none = drop_all c.loop-i.i c.args.items.now (omega arith) in
-    sym c.loop-i.invariant ∙ ap (λ items. option_map (λ t. c.loop-i.text ++ t) (base_lines c.args.message.now c.args.base.now items)) none ∙ lines_end c.args.message.now c.args.base.now c.loop-i.text
+    sym c.loop-i.invariant ∙ ap (λ items. option_map (λ t. c.loop-i.text ++ t) (base_lines c.args.message.now c.args.base.now items)) none
+    ∙ lines_end c.args.message.now c.args.base.now c.loop-i.text

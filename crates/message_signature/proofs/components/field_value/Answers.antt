@@ -12,10 +12,12 @@ loop-field-preserved c =
     let lt = rw c.as_slice-field-items.ensures at c.loop-field-test.true in
     elim c.if-eq.branch [
       | then-eq+in_ok-with_next w ↦
-          let more = field_more c.args.name.now c.args.fields.now c.loop-field.field-index c.field-item.result at lt (rw c.as_slice.ensures.value at (sym c.eq.ensures ∙ w.if-eq.true)) in
+          let more = field_more c.args.name.now c.args.fields.now c.loop-field.field-index c.field-item.result at lt
+          (rw c.as_slice.ensures.value at (sym c.eq.ensures ∙ w.if-eq.true)) in
           let value = rw w.as_slice-then-eq.ensures.value at w.trimmed.ensures in
           rw (w.found-is, more) (ap Some (rw (value, c.loop-field.invariant) at w.in_ok-with_next.ensures))
       | else-eq w ↦
-          let same = field_same c.args.name.now c.args.fields.now c.loop-field.field-index c.field-item.result at lt (rw c.as_slice.ensures.value at (sym c.eq.ensures ∙ w.if-eq.false)) in
+          let same = field_same c.args.name.now c.args.fields.now c.loop-field.field-index c.field-item.result at lt
+          (rw c.as_slice.ensures.value at (sym c.eq.ensures ∙ w.if-eq.false)) in
           rw (w.found-is, same) c.loop-field.invariant
     ]

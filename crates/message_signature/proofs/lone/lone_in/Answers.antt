@@ -11,24 +11,28 @@ pub returns-in_err-bytes_under-in-Nowhere-clause-err : goal.returns-in_err-bytes
 returns-in_err-bytes_under-in-Nowhere-clause-err c =
     let read = c.in_ok-found.ensures.ok in
     let p = err_from_is_err_and c.from_residual-in_err-bytes_under-in-Nowhere.result c.from_residual-in_err-bytes_under-in-Nowhere.ensures.1 in rw (p.1, p.2)
-    (signature_fails c.args.input.now c.args.signature.now c.args.tag.now read.0 read.1 [] c.in_err-bytes_under-in-Nowhere.field-0.0 c.in_err-bytes_under-in-Nowhere.ensures)
+    (signature_fails c.args.input.now c.args.signature.now c.args.tag.now read.0 read.1 [] c.in_err-bytes_under-in-Nowhere.field-0.0
+    c.in_err-bytes_under-in-Nowhere.ensures)
 
 pub returns-in_ok-bytes_under-in-Nowhere-clause-err : goal.returns-in_ok-bytes_under-in-Nowhere-clause-err
 returns-in_ok-bytes_under-in-Nowhere-clause-err c =
     let read = rw c.in-Nowhere.is at c.in_ok-found.ensures.ok in
-    untagged c.args.input.now c.args.signature.now c.args.tag.now read.0 read.1 [] c.in_ok-bytes_under-in-Nowhere.field-0 c.in_ok-bytes_under-in-Nowhere.ensures read.2
+    untagged c.args.input.now c.args.signature.now c.args.tag.now read.0 read.1 [] c.in_ok-bytes_under-in-Nowhere.field-0 c.in_ok-bytes_under-in-Nowhere.ensures
+    read.2
 
 pub returns-in_err-bytes-in-Once-clause-err : goal.returns-in_err-bytes-in-Once-clause-err
 returns-in_err-bytes-in-Once-clause-err c =
     let read = c.in_ok-found.ensures.ok in
     let p = err_from_is_err_and c.from_residual-in_err-bytes-in-Once.result c.from_residual-in_err-bytes-in-Once.ensures.1 in rw (p.1, p.2)
-    (signature_fails c.args.input.now c.args.signature.now c.args.tag.now read.0 read.1 c.in-Once.at.key.now c.in_err-bytes-in-Once.field-0.0 c.in_err-bytes-in-Once.ensures)
+    (signature_fails c.args.input.now c.args.signature.now c.args.tag.now read.0 read.1 c.in-Once.at.key.now c.in_err-bytes-in-Once.field-0.0
+    c.in_err-bytes-in-Once.ensures)
 
 pub returns-in_default-clause-err : goal.returns-in_default-clause-err
 returns-in_default-clause-err c =
     let read = rw c.in-Once.is at c.in_ok-found.ensures.ok in
     let at = c.in-Once.at in
-    malformed_once c.args.input.now c.args.signature.now c.args.tag.now read.0 read.1 at.key.now read.2.0 c.in_ok-bytes-in-Once.bytes c.in_ok-bytes-in-Once.ensures read.2.3
+    malformed_once c.args.input.now c.args.signature.now c.args.tag.now read.0 read.1 at.key.now read.2.0 c.in_ok-bytes-in-Once.bytes
+    c.in_ok-bytes-in-Once.ensures read.2.3
     (rw c.in_default.is at c.in_ok-list-in-Once.ensures read.2.0 read.2.1 read.2.2)
 
 pub returns-in_err-one-in-Once-clause-err : goal.returns-in_err-one-in-Once-clause-err
@@ -38,7 +42,8 @@ returns-in_err-one-in-Once-clause-err c =
     let member = strings_are read.2.0 c.in-Some.list (rw c.in-Some.is at c.in_ok-list-in-Once.ensures read.2.0 read.2.1 read.2.2) in
     let once = once_is c.args.tag.now at.key.now read.0 c.in-Some.list read.2.0 member read.2.3 in
     let p = err_from_is_err_and c.from_residual-in_err-one-in-Once.result c.from_residual-in_err-one-in-Once.ensures.1 in rw (p.1, p.2)
-    (once_fails c.args.input.now c.args.signature.now c.args.tag.now read.0 read.1 at.key.now c.in-Some.list c.in_ok-bytes-in-Once.bytes c.in_err-one-in-Once.field-0.0
+    (once_fails c.args.input.now c.args.signature.now c.args.tag.now read.0 read.1 at.key.now c.in-Some.list c.in_ok-bytes-in-Once.bytes
+    c.in_err-one-in-Once.field-0.0
     c.in_ok-bytes-in-Once.ensures once (c.in_err-one-in-Once.ensures at.key.now))
 
 pub returns-in_ok-one-in-Once-clause-ok : goal.returns-in_ok-one-in-Once-clause-ok
@@ -48,6 +53,7 @@ returns-in_ok-one-in-Once-clause-ok c =
     let member = strings_are read.2.0 c.in-Some.list (rw c.in-Some.is at c.in_ok-list-in-Once.ensures read.2.0 read.2.1 read.2.2) in
     let once = once_is c.args.tag.now at.key.now read.0 c.in-Some.list read.2.0 member read.2.3 in (
       at.key.now,
-      rw (tagged_once c.args.input.now c.args.signature.now c.args.tag.now read.0 read.1 at.key.now c.in-Some.list c.in_ok-bytes-in-Once.bytes c.in_ok-bytes-in-Once.ensures once)
+      rw (tagged_once c.args.input.now c.args.signature.now c.args.tag.now read.0 read.1 at.key.now c.in-Some.list c.in_ok-bytes-in-Once.bytes
+          c.in_ok-bytes-in-Once.ensures once)
           (c.in_ok-one-in-Once.ensures at.key.now),
     )

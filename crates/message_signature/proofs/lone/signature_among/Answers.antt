@@ -11,5 +11,11 @@ returns-in_err-one-clause-err c = let p = err_from_is_err_and c.from_residual-in
     (rw (by_fields c.args.message.now c.args.tag.now c.in_ok-fields.fields c.in_ok-fields.ensures) c.in_err-one.ensures)
 
 pub returns-clause-ok : goal.returns-clause-ok
-returns-clause-ok c =
-    (c.in_ok-one.one.label.now, rw (by_fields c.args.message.now c.args.tag.now c.in_ok-fields.fields c.in_ok-fields.ensures, c.in_ok-list.ensures, c.in_ok-bytes.ensures) c.in_ok-one.ensures)
+returns-clause-ok c = (
+  c.in_ok-one.one.label.now,
+  rw (
+    by_fields c.args.message.now c.args.tag.now c.in_ok-fields.fields c.in_ok-fields.ensures,
+    c.in_ok-list.ensures,
+    c.in_ok-bytes.ensures,
+  ) c.in_ok-one.ensures,
+)

@@ -17,5 +17,6 @@ returns-clause-ok c =
     let with_items : List Item → InnerList = λ items. record { items = items; params = c.args.params } in
     on_ok_weaker c.append.result
     (λ e. signed_with c.args.message.now c.add_digest.new.message c.args.base.now c.args.params c.args.secret.now
-    c.in_ok-bytes.bytes _ _ c.in_ok-lines.lines c.in_ok-add_digest.ensures.ok (ap with_items c.in_ok-items.ensures) c.in_ok-bytes.ensures c.in_ok-lines.ensures e)
+    c.in_ok-bytes.bytes _ _ c.in_ok-lines.lines c.in_ok-add_digest.ensures.ok (ap with_items c.in_ok-items.ensures) c.in_ok-bytes.ensures c.in_ok-lines.ensures
+    e)
     c.append.ensures.ok

@@ -4,7 +4,8 @@ use Rattle.nonce_store.proofs.sweeping.sweep.Goals as goal
 
 pub returns-clause-swept : goal.returns-clause-swept
 returns-clause-swept c =
-    swept_whole c.args.latest c.loop-run.seconds c.args.kept.now.keys c.loop-run.kept.keys c.loop-run.invariant.0 c.loop-run.invariant.1 c.in_default.ensures.none_over
+    swept_whole c.args.latest c.loop-run.seconds c.args.kept.now.keys c.loop-run.kept.keys c.loop-run.invariant.0 c.loop-run.invariant.1
+    c.in_default.ensures.none_over
 
 pub returns-then-are_over-clause-covers : goal.returns-then-are_over-clause-covers
 returns-then-are_over-clause-covers c = covers_none c.clear.new.self c.forget_all.new.self.keys c.forget_all.ensures.rows

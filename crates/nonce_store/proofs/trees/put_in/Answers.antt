@@ -4,7 +4,8 @@ use Rattle.nonce_store.proofs.trees.put_in.Goals as goal
 
 pub returns-in-Some-clause-rows : goal.returns-in-Some-clause-rows
 returns-in-Some-clause-rows c = on_ok_map c.put_under.result _ _ (λ rows.
-    until_set c.args.keys.now (c.get_mut.follows.lender c.put_under.new.untils) c.args.key.now c.in_ok-kept.kept.items c.args.nonce.now c.in-Some.untils.now c.put_under.new.untils (Some c.args.end)
+    until_set c.args.keys.now (c.get_mut.follows.lender c.put_under.new.untils) c.args.key.now c.in_ok-kept.kept.items c.args.nonce.now c.in-Some.untils.now
+    c.put_under.new.untils (Some c.args.end)
     c.in_ok-kept.ensures.items (sym c.in-Some.ensures.value) ((c.get_mut.follows.holds c.put_under.new.untils).3 (search rules)) rows) c.put_under.ensures.rows
 
 pub returns-in-Some-clause-counts : goal.returns-in-Some-clause-counts
@@ -15,7 +16,8 @@ returns-in-Some-clause-counts c = on_ok_map c.put_under.result _ _ (λ counts m.
 pub returns-in-Some-clause-err : goal.returns-in-Some-clause-err
 returns-in-Some-clause-err c = on_err_map c.put_under.result _ _ (λ same. (
   until_same c.args.keys.now (c.get_mut.follows.lender c.put_under.new.untils) c.args.key.now c.in-Some.untils.now c.put_under.new.untils
-      (under_after c.args.keys.now (c.get_mut.follows.lender c.put_under.new.untils) c.args.key.now (Some c.put_under.new.untils) ((c.get_mut.follows.holds c.put_under.new.untils).3 (search rules)))
+      (under_after c.args.keys.now (c.get_mut.follows.lender c.put_under.new.untils) c.args.key.now (Some c.put_under.new.untils)
+      ((c.get_mut.follows.holds c.put_under.new.untils).3 (search rules)))
       (sym c.in-Some.ensures.value) same,
   many_same c.args.keys.now (c.get_mut.follows.lender c.put_under.new.untils) c.args.key.now c.in-Some.untils.now c.put_under.new.untils
       (sym c.in-Some.ensures.value) (c.get_mut.follows.holds c.put_under.new.untils).0 same,

@@ -4,7 +4,8 @@ use Rattle.nonce_store.proofs.trees.take_out.Goals as goal
 
 pub returns-in-Some-clause-rows : goal.returns-in-Some-clause-rows
 returns-in-Some-clause-rows c =
-    until_set c.args.keys.now (c.get_mut.follows.lender c.remove.new.self) c.args.key.now c.args.nonce.now c.args.nonce.now c.in-Some.untils.now c.remove.new.self None
+    until_set c.args.keys.now (c.get_mut.follows.lender c.remove.new.self) c.args.key.now c.args.nonce.now c.args.nonce.now c.in-Some.untils.now
+    c.remove.new.self None
     refl (sym c.in-Some.ensures.value) ((c.get_mut.follows.holds c.remove.new.self).3 (search rules))
     (under_after c.in-Some.untils.now c.remove.new.self c.args.nonce.now None c.remove.ensures.updates)
 

@@ -10,7 +10,8 @@ use Rattle.printed_answers.specs.Fields.{HasNoValue, IsCanonical}
 use Rattle.printed_answers.proofs.fields.canonical_text.Goals as goal
 
 -- a reader that fails fails as the canonical text does
-fails : {V : Type 0} (kind : Kind) (text : List ℕ) (Is : V → Type 0) (fault : FieldFault) (result : Result (List ℕ) FieldFault) → (((v : V) → ¬ Is v) → HasNoValue kind text)
+fails : {V : Type 0} (kind : Kind) (text : List ℕ) (Is : V → Type 0) (fault : FieldFault) (result : Result (List ℕ) FieldFault)
+    → (((v : V) → ¬ Is v) → HasNoValue kind text)
     → ((v : V) → Is v → Fails fault (Some v)) → result ≡ Err fault → IsCanonical kind text result
 fails kind text Is NotInGrammar result none only is =
     let C : Result (List ℕ) FieldFault → Type 0 = λ r. IsCanonical kind text r in
@@ -32,4 +33,5 @@ returns-in_err-read_list-in-List c =
 pub returns-in_err-read_dictionary-in-Dictionary : goal.returns-in_err-read_dictionary-in-Dictionary
 returns-in_err-read_dictionary-in-Dictionary c =
     let K : Kind → Type 0 = λ kind. IsCanonical kind c.args.text.now c.from_residual-in_err-read_dictionary-in-Dictionary.result in
-    subst K (sym c.in-Dictionary.is) (fails ADictionary _ (IsDictionaryText c.args.text.now) _ _ (λ no. no) c.in_err-read_dictionary-in-Dictionary.ensures.only (search rules))
+    subst K (sym c.in-Dictionary.is)
+    (fails ADictionary _ (IsDictionaryText c.args.text.now) _ _ (λ no. no) c.in_err-read_dictionary-in-Dictionary.ensures.only (search rules))

@@ -11,12 +11,15 @@ pub returns-in_default-introspection_text-clause-guards : goal.returns-in_defaul
 returns-in_default-introspection_text-clause-guards g c = starved_now _ _ _ _
 
 pub returns-in-Ok-ask-clause-guards : goal.returns-in-Ok-ask-clause-guards
-returns-in-Ok-ask-clause-guards g c = asked_now c.args.setup.now c.args.message.now c.args.now c.args.i (c.args.scheme, c.args.value.now) c.at.result.now c.in-Ok.wanted
+returns-in-Ok-ask-clause-guards g c = asked_now c.args.setup.now c.args.message.now c.args.now c.args.i (c.args.scheme, c.args.value.now) c.at.result.now
+    c.in-Ok.wanted
     c.in-Ok-introspection_text.text _ _ (Ok c.in-Ok-ask.reply) c.judged.result
-    c.requires.place c.at.ensures c.in-Ok.ensures.value c.in-Ok-introspection_text.ensures c.in-Ok-ask.ensures (rw c.as_slice.ensures.value at c.judged.ensures.judged)
+    c.requires.place c.at.ensures c.in-Ok.ensures.value c.in-Ok-introspection_text.ensures c.in-Ok-ask.ensures
+    (rw c.as_slice.ensures.value at c.judged.ensures.judged)
 
 pub returns-in-Err-Failed-clause-guards : goal.returns-in-Err-Failed-clause-guards
-returns-in-Err-Failed-clause-guards g c = asked_now c.args.setup.now c.args.message.now c.args.now c.args.i (c.args.scheme, c.args.value.now) c.at.result.now c.in-Ok.wanted
+returns-in-Err-Failed-clause-guards g c = asked_now c.args.setup.now c.args.message.now c.args.now c.args.i (c.args.scheme, c.args.value.now) c.at.result.now
+    c.in-Ok.wanted
     c.in-Ok-introspection_text.text _ _ (Err link_faults.Failed) _
     c.requires.place c.at.ensures c.in-Ok.ensures.value c.in-Ok-introspection_text.ensures
     (rw c.in-Err-Failed.field-0-is at c.in-Err-Failed.ensures) failed

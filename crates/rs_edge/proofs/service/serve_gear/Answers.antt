@@ -13,11 +13,13 @@ pub serve_door-requires-clause-link : goal.serve_door-requires-clause-link
 serve_door-requires-clause-link g c lifetimes outlive = ap (λ (l : LinkState). l.asked) c.requires.link
 
 pub returns-clause-served : goal.returns-clause-served
-returns-clause-served g c = gear_served g.K.RequestGuard.guards c.args.setup.now (g.K.RequestGuard.kept c.args.guard.now) (g.K.RequestGuard.kept c.serve_door.new.guard)
+returns-clause-served g c = gear_served g.K.RequestGuard.guards c.args.setup.now (g.K.RequestGuard.kept c.args.guard.now)
+    (g.K.RequestGuard.kept c.serve_door.new.guard)
     (g.L.Link.link c.serve_door.new.link) g.G.Counted.state c.args.gears.items c.index_mut-gear.result.now c.serve_door.new.gear
     c.has_failed-failed.result c.requires.one c.index_mut-gear.ensures.value c.requires.unused c.serve_door.ensures.account c.serve_door.ensures.out
     c.serve_door.ensures.done c.has_failed-failed.ensures
 
 pub returns-clause-just : goal.returns-clause-just
 returns-clause-just g c = λ quota full unfailed. gear_served_just g.G.Counted.state c.args.gears.items c.index_mut-gear.result.now c.serve_door.new.gear
-    c.has_failed-failed.result quota c.requires.one c.index_mut-gear.ensures.value c.requires.unused full c.serve_door.ensures.done c.has_failed-failed.ensures unfailed
+    c.has_failed-failed.result quota c.requires.one c.index_mut-gear.ensures.value c.requires.unused full c.serve_door.ensures.done c.has_failed-failed.ensures
+    unfailed

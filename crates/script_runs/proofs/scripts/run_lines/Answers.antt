@@ -45,7 +45,8 @@ returns-then-is_behind_last-clause-runs g c =
     let same = kept_line _ _ _ _ _ _ _ _ _ _ _ _ _ _ inv.goes _ _ _ _ c.next_line-end.result none short read c.next_line-end.new.self.limited in
     let behind = c.is_behind_last.ensures.nothing c.if-is_behind_last.true in
     let parts = last_parts _ _ _ _ _ _ _ _ c.next_line-end.result behind.0 read in
-    let R : Ended → Type 0 = λ ended. RunsLines (ScriptHad c.args.client.now (g.L.Link.link c.args.link.now).asked c.lines.client (g.L.Link.link c.lines.link).asked) EndsScript
+    let R : Ended → Type 0 = λ ended. RunsLines
+    (ScriptHad c.args.client.now (g.L.Link.link c.args.link.now).asked c.lines.client (g.L.Link.link c.lines.link).asked) EndsScript
     (held_by c.args.reader.now) c.args.reader.now.taken c.next_line-end.new.self.taken
     (g.S.Device.told c.args.source.now) (g.S.Device.told c.next_line-end.new.source) (g.O.Device.told c.args.out.now) (g.O.Device.told c.lines.out) ended in
     subst R (sym c.ended_script.ensures)
@@ -54,7 +55,8 @@ returns-then-is_behind_last-clause-runs g c =
 pub returns-then-is_behind_last-clause-reads : goal.returns-then-is_behind_last-clause-reads
 returns-then-is_behind_last-clause-reads g c =
     let R : Ended → Type 0 = λ ended. CountsReads ended (g.S.Device.faults c.args.source.now) (g.S.Device.faults c.next_line-end.new.source) in
-    subst R (sym c.ended_script.ensures) (script_reads _ _ _ (read_counts c.next_line-end.result _ _ (sym c.in_default.ensures) c.next_line-end.ensures.cause ∙ c.lines.invariant.reads))
+    subst R (sym c.ended_script.ensures)
+    (script_reads _ _ _ (read_counts c.next_line-end.result _ _ (sym c.in_default.ensures) c.next_line-end.ensures.cause ∙ c.lines.invariant.reads))
 
 pub returns-then-is_behind_last-clause-writes : goal.returns-then-is_behind_last-clause-writes
 returns-then-is_behind_last-clause-writes g c =
@@ -65,7 +67,9 @@ pub returns-then-is_behind_last-clause-took : goal.returns-then-is_behind_last-c
 returns-then-is_behind_last-clause-took g c =
     let behind = c.is_behind_last.ensures.nothing c.if-is_behind_last.true in
     let R : Ended → Type 0 = λ ended. EndsAt ended c.next_line-end.new.self.taken (g.S.Device.told c.next_line-end.new.source) in
-    subst R (sym c.ended_script.ensures) (script_at_end _ _ _ (last_counts c.next_line-end.result _ behind.0 c.next_line-end.ensures.full) (last_parts _ _ _ _ _ _ _ _ c.next_line-end.result behind.0 c.next_line-end.ensures.read).2)
+    subst R (sym c.ended_script.ensures)
+    (script_at_end _ _ _ (last_counts c.next_line-end.result _ behind.0 c.next_line-end.ensures.full)
+    (last_parts _ _ _ _ _ _ _ _ c.next_line-end.result behind.0 c.next_line-end.ensures.read).2)
 
 -- ---- a line had its turn
 
@@ -84,7 +88,15 @@ lines-smaller g c =
     let most = c.next_line-end.new.self.limited in
     let short = not_long c.next_line-end.result c.next_line-end.ensures.long in
     let parts = whole_parts _ _ _ _ _ _ _ _ c.next_line-end.result (sym c.in_default.ensures) (sym c.is_last.ensures ∙ c.if-is_last.false) short read in
-    omega (arith, most, read.came.counted, ap length parts, length-append (held_by c.lines.reader) read.bytes, length-append read.full (10 ∷ held_by c.next_line-end.new.self))
+    omega (
+      arith,
+      most,
+      read.came.counted,
+      ap length parts,
+      length-append (held_by c.lines.reader) read.bytes,
+      length-append read.full
+          (10 ∷ held_by c.next_line-end.new.self),
+    )
 
 pub lines-preserved : goal.lines-preserved
 lines-preserved g c =
@@ -92,11 +104,13 @@ lines-preserved g c =
     let read = c.next_line-end.ensures.read in
     let none = sym c.in_default.ensures in
     let short = not_long c.next_line-end.result c.next_line-end.ensures.long in
-    let says = says_full _ _ _ _ _ _ _ _ _ _ _ _ _ _ inv.goes _ _ _ _ c.next_line-end.result none short read c.next_line-end.new.self.limited _ _ _ _ _ _ c.in-On.ensures.says in
+    let says = says_full _ _ _ _ _ _ _ _ _ _ _ _ _ _ inv.goes _ _ _ _ c.next_line-end.result none short read c.next_line-end.new.self.limited _ _ _ _ _ _
+    c.in-On.ensures.says in
     let parts = whole_parts _ _ _ _ _ _ _ _ c.next_line-end.result none (sym c.is_last.ensures ∙ c.if-is_last.false) short read in
     record {
       empty = c.emptied-line.ensures;
-      goes = script-next _ _ _ _ _ _ _ _ _ _ _ _ _ _ inv.goes read.full read.bytes _ _ _ _ _ _ refl says _ _ _ read.came read.is_line parts says.goes says.prints;
+      goes = script-next _ _ _ _ _ _ _ _ _ _ _ _ _ _ inv.goes read.full read.bytes _ _ _ _ _ _ refl says _ _ _ read.came read.is_line parts says.goes
+          says.prints;
       reads = read_counts c.next_line-end.result _ _ none c.next_line-end.ensures.cause ∙ inv.reads;
       writes = c.in-On.ensures.counts ∙ inv.writes;
     }
@@ -107,21 +121,26 @@ returns-then-is_last-clause-runs g c =
     let read = c.next_line-end.ensures.read in
     let none = sym c.in_default.ensures in
     let short = not_long c.next_line-end.result c.next_line-end.ensures.long in
-    let says = says_full _ _ _ _ _ _ _ _ _ _ _ _ _ _ inv.goes _ _ _ _ c.next_line-end.result none short read c.next_line-end.new.self.limited _ _ _ _ _ _ c.in-On.ensures.says in
+    let says = says_full _ _ _ _ _ _ _ _ _ _ _ _ _ _ inv.goes _ _ _ _ c.next_line-end.result none short read c.next_line-end.new.self.limited _ _ _ _ _ _
+    c.in-On.ensures.says in
     let last = sym c.is_last.ensures ∙ c.if-is_last.true in
     let parts = last_parts _ _ _ _ _ _ _ _ c.next_line-end.result last read in
     let some = c.is_behind_last.ensures.some c.if-is_behind_last.false last in
     let same = kept_line _ _ _ _ _ _ _ _ _ _ _ _ _ _ inv.goes _ _ _ _ c.next_line-end.result none short read c.next_line-end.new.self.limited in
-    let R : Ended → Type 0 = λ ended. RunsLines (ScriptHad c.args.client.now (g.L.Link.link c.args.link.now).asked c.say_line.new.client (g.L.Link.link c.say_line.new.link).asked) EndsScript
+    let R : Ended → Type 0 = λ ended. RunsLines
+    (ScriptHad c.args.client.now (g.L.Link.link c.args.link.now).asked c.say_line.new.client (g.L.Link.link c.say_line.new.link).asked) EndsScript
     (held_by c.args.reader.now) c.args.reader.now.taken c.next_line-end.new.self.taken
-    (g.S.Device.told c.args.source.now) (g.S.Device.told c.next_line-end.new.source) (g.O.Device.told c.args.out.now) (g.O.Device.told c.say_line.new.out) ended in
+    (g.S.Device.told c.args.source.now) (g.S.Device.told c.next_line-end.new.source) (g.O.Device.told c.args.out.now) (g.O.Device.told c.say_line.new.out)
+    ended in
     subst R (sym c.ended_script-then-is_last.ensures)
-    (script-last _ _ _ _ _ _ _ _ _ _ _ _ _ _ inv.goes read.full read.bytes _ _ _ _ _ _ refl says _ _ read.came read.is_line parts.0 parts.2 (λ zero. some (ap length same ∙ zero)) says.goes says.prints)
+    (script-last _ _ _ _ _ _ _ _ _ _ _ _ _ _ inv.goes read.full read.bytes _ _ _ _ _ _ refl says _ _ read.came read.is_line parts.0 parts.2
+    (λ zero. some (ap length same ∙ zero)) says.goes says.prints)
 
 pub returns-then-is_last-clause-reads : goal.returns-then-is_last-clause-reads
 returns-then-is_last-clause-reads g c =
     let R : Ended → Type 0 = λ ended. CountsReads ended (g.S.Device.faults c.args.source.now) (g.S.Device.faults c.next_line-end.new.source) in
-    subst R (sym c.ended_script-then-is_last.ensures) (script_reads _ _ _ (read_counts c.next_line-end.result _ _ (sym c.in_default.ensures) c.next_line-end.ensures.cause ∙ c.lines.invariant.reads))
+    subst R (sym c.ended_script-then-is_last.ensures)
+    (script_reads _ _ _ (read_counts c.next_line-end.result _ _ (sym c.in_default.ensures) c.next_line-end.ensures.cause ∙ c.lines.invariant.reads))
 
 pub returns-then-is_last-clause-writes : goal.returns-then-is_last-clause-writes
 returns-then-is_last-clause-writes g c =
@@ -132,7 +151,9 @@ pub returns-then-is_last-clause-took : goal.returns-then-is_last-clause-took
 returns-then-is_last-clause-took g c =
     let last = sym c.is_last.ensures ∙ c.if-is_last.true in
     let R : Ended → Type 0 = λ ended. EndsAt ended c.next_line-end.new.self.taken (g.S.Device.told c.next_line-end.new.source) in
-    subst R (sym c.ended_script-then-is_last.ensures) (script_at_end _ _ _ (last_counts c.next_line-end.result _ last c.next_line-end.ensures.full) (last_parts _ _ _ _ _ _ _ _ c.next_line-end.result last c.next_line-end.ensures.read).2)
+    subst R (sym c.ended_script-then-is_last.ensures)
+    (script_at_end _ _ _ (last_counts c.next_line-end.result _ last c.next_line-end.ensures.full)
+    (last_parts _ _ _ _ _ _ _ _ c.next_line-end.result last c.next_line-end.ensures.read).2)
 
 pub returns-in-Starved-clause-runs : goal.returns-in-Starved-clause-runs
 returns-in-Starved-clause-runs g c =
@@ -140,8 +161,10 @@ returns-in-Starved-clause-runs g c =
     let read = c.next_line-end.ensures.read in
     let none = sym c.in_default.ensures in
     let short = not_long c.next_line-end.result c.next_line-end.ensures.long in
-    let says = says_full _ _ _ _ _ _ _ _ _ _ _ _ _ _ inv.goes _ _ _ _ c.next_line-end.result none short read c.next_line-end.new.self.limited _ _ _ _ _ _ c.in-Starved.ensures.says in
-    script-starved _ _ _ _ _ _ _ _ _ _ _ _ _ _ inv.goes read.full read.bytes _ _ _ _ _ _ refl says _ _ read.came read.is_line (line_later _ _ _ _ _ _ _ _ c.next_line-end.result none short read) says.prints
+    let says = says_full _ _ _ _ _ _ _ _ _ _ _ _ _ _ inv.goes _ _ _ _ c.next_line-end.result none short read c.next_line-end.new.self.limited _ _ _ _ _ _
+    c.in-Starved.ensures.says in
+    script-starved _ _ _ _ _ _ _ _ _ _ _ _ _ _ inv.goes read.full read.bytes _ _ _ _ _ _ refl says _ _ read.came read.is_line
+    (line_later _ _ _ _ _ _ _ _ c.next_line-end.result none short read) says.prints
 
 pub returns-in-Starved-clause-reads : goal.returns-in-Starved-clause-reads
 returns-in-Starved-clause-reads g c = read_counts c.next_line-end.result _ _ (sym c.in_default.ensures) c.next_line-end.ensures.cause ∙ c.lines.invariant.reads
@@ -152,8 +175,10 @@ returns-in-Cut-clause-runs g c =
     let read = c.next_line-end.ensures.read in
     let none = sym c.in_default.ensures in
     let short = not_long c.next_line-end.result c.next_line-end.ensures.long in
-    let says = says_full _ _ _ _ _ _ _ _ _ _ _ _ _ _ inv.goes _ _ _ _ c.next_line-end.result none short read c.next_line-end.new.self.limited _ _ _ _ _ _ c.in-Cut.ensures.says in
-    script-cut _ _ _ _ _ _ _ _ _ _ _ _ _ _ inv.goes read.full read.bytes _ _ _ _ _ _ refl says _ _ read.came read.is_line (line_later _ _ _ _ _ _ _ _ c.next_line-end.result none short read) says.prints
+    let says = says_full _ _ _ _ _ _ _ _ _ _ _ _ _ _ inv.goes _ _ _ _ c.next_line-end.result none short read c.next_line-end.new.self.limited _ _ _ _ _ _
+    c.in-Cut.ensures.says in
+    script-cut _ _ _ _ _ _ _ _ _ _ _ _ _ _ inv.goes read.full read.bytes _ _ _ _ _ _ refl says _ _ read.came read.is_line
+    (line_later _ _ _ _ _ _ _ _ c.next_line-end.result none short read) says.prints
 
 pub returns-in-Cut-clause-reads : goal.returns-in-Cut-clause-reads
 returns-in-Cut-clause-reads g c = read_counts c.next_line-end.result _ _ (sym c.in_default.ensures) c.next_line-end.ensures.cause ∙ c.lines.invariant.reads

@@ -6,7 +6,8 @@ use Rattle.script_runs.proofs.scripts.run_lines.Given as goal
 abbrev pub invariant-lines : goal.invariant-lines
 invariant-lines g l = record {
   empty : l.line ≡ [];
-  goes : ScriptGoes l.fn.client (g.L.Link.link l.fn.link).asked l.client (g.L.Link.link l.link).asked l.fine l.number (held_by l.fn.reader) (held_by l.reader) l.fn.reader.taken l.reader.taken
+  goes : ScriptGoes l.fn.client (g.L.Link.link l.fn.link).asked l.client (g.L.Link.link l.link).asked l.fine l.number (held_by l.fn.reader) (held_by l.reader)
+      l.fn.reader.taken l.reader.taken
       (g.S.Device.told l.fn.source) (g.S.Device.told l.source) (g.O.Device.told l.fn.out) (g.O.Device.told l.out);
   reads : g.S.Device.faults l.source ≡ g.S.Device.faults l.fn.source;
   writes : g.O.Device.faults l.out ≡ g.O.Device.faults l.fn.out;

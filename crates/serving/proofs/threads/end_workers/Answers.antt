@@ -46,12 +46,14 @@ loop-worker-preserved g c =
           (All-push (λ g'. (state g').out ≡ 0) c.loop-worker.gears.items gear i.8 (ap (λ s. s.out) c.leave-pass.ensures.gear ∙ c.leave-pass.ensures.out)),
       subst (λ l. AllKeep 0 (accounts_of (session c.args.front.now) l) (map (λ p. p.seen) c.push_reserved.new.self.items)) (sym made)
           (subst (λ l. AllKeep 0 (accounts_of (session c.args.front.now) (map state c.loop-worker.gears.items ++ state gear ∷ [])) l) (sym all_seen)
-          (one-more-account (session c.args.front.now) (map state c.loop-worker.gears.items) (state gear) (map (λ p. p.seen) c.loop-worker.passes.items) pass.seen 0 i.9 account)),
+          (one-more-account (session c.args.front.now) (map state c.loop-worker.gears.items) (state gear) (map (λ p. p.seen) c.loop-worker.passes.items)
+          pass.seen 0 i.9 account)),
       (let a = c.in-Some.ensures.steps.1 in let b = ap length c.in-Some.ensures.steps.0 in let d = i.10 in omega (arith, a, b, d)),
     )
 
 pub returns-clause-gears : goal.returns-clause-gears
 returns-clause-gears g c =
     let i = c.loop-worker.invariant in
-    let none : into_iter_items c.loop-worker.worker-iterator ≡ [] = nil_from_length (into_iter_items c.loop-worker.worker-iterator) (sym i.10 ∙ c.in-None.ensures.steps.0) in
+    let none : into_iter_items c.loop-worker.worker-iterator
+    ≡ [] = nil_from_length (into_iter_items c.loop-worker.worker-iterator) (sym i.10 ∙ c.in-None.ensures.steps.0) in
     i.3 ∙ ap (map (λ worker. worker.gear)) (sym (append-nil c.loop-worker.yielded) ∙ ap (λ l. c.loop-worker.yielded ++ l) (sym none) ∙ i.2)

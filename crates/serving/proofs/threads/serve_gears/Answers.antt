@@ -17,8 +17,10 @@ end_workers-passes-requires-clause-workers g c κs within =
     let made = c.start_workers-workers.result in
     let value = c.as_mut_slice.ensures.value in
     let many = c.serve_workers.ensures.many ∙ ap length value in
-    subst (AreWorkers c.in-Ok.shared c.args.front.now) (sym (written_back made.len made.items c.serve_workers.new.workers many (let a = made.ok in omega (arith, a))))
-    (same_workers c.in-Ok.shared c.args.front.now made.items c.serve_workers.new.workers (subst (λ l. EachDrained l c.serve_workers.new.workers) value c.serve_workers.ensures.each) many c.start_workers-workers.ensures.workers)
+    subst (AreWorkers c.in-Ok.shared c.args.front.now)
+    (sym (written_back made.len made.items c.serve_workers.new.workers many (let a = made.ok in omega (arith, a))))
+    (same_workers c.in-Ok.shared c.args.front.now made.items c.serve_workers.new.workers
+    (subst (λ l. EachDrained l c.serve_workers.new.workers) value c.serve_workers.ensures.each) many c.start_workers-workers.ensures.workers)
 
 pub returns-clause-one : goal.returns-clause-one
 returns-clause-one g c =
@@ -49,6 +51,7 @@ returns-clause-done g c = λ _.
     let many = c.serve_workers.ensures.many ∙ ap length value in
     let back = written_back made.len made.items c.serve_workers.new.workers many (let a = made.ok in omega (arith, a)) in
     let after = c.end_workers-passes.ensures.gears ∙ ap (map (λ w. w.gear)) back in
-    let done = all_done made.items c.serve_workers.new.workers (subst (λ l. EachDrained l c.serve_workers.new.workers) value c.serve_workers.ensures.each) many in
+    let done = all_done made.items c.serve_workers.new.workers (subst (λ l. EachDrained l c.serve_workers.new.workers) value c.serve_workers.ensures.each)
+    many in
     subst (λ l. HaveServedAll (map g.G.Counted.state c.args.gears.items) l) (sym after)
     (subst (λ l. HaveServedAll l (map (λ w. w.gear) c.serve_workers.new.workers)) c.start_workers-workers.ensures.gears done)

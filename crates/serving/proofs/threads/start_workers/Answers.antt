@@ -9,14 +9,16 @@ use Rattle.serving.proofs.threads.start_workers.Goals as goal
 
 pub loop-pass-init : goal.loop-pass-init
 loop-pass-init g c =
-    let none : c.args.workers.items ≡ [] = nil_from_length c.args.workers.items (let long = c.args.workers.ok in let zero = c.requires.room.0 in omega (arith, long, zero)) in
+    let none : c.args.workers.items
+    ≡ [] = nil_from_length c.args.workers.items (let long = c.args.workers.ok in let zero = c.requires.room.0 in omega (arith, long, zero)) in
     let sized : length c.args.gears.items ≡ vec_len c.args.gears = (let long = c.args.gears.ok in omega (arith, long)) in
     let passes_sized : length c.args.passes.items ≡ vec_len c.args.passes = (let long = c.args.passes.ok in omega (arith, long)) in
     let passes = c.into_iter-pass-iterator.ensures.into_iter_gives.0 in (
       tt,
       tt,
       passes,
-      ap (λ l. map (λ worker. worker.gear) l ++ map g.G.Counted.state (into_iter_items c.into_iter-rest.result)) none ∙ ap (map g.G.Counted.state) c.into_iter-rest.ensures.rest,
+      ap (λ l. map (λ worker. worker.gear) l ++ map g.G.Counted.state (into_iter_items c.into_iter-rest.result)) none
+          ∙ ap (map g.G.Counted.state) c.into_iter-rest.ensures.rest,
       ap length none,
       (let a = ap length none in let b = ap length passes in let d = c.requires.room.1 in omega (arith, a, b, d)),
       subst (ArePlaced c.args.shared.now c.args.front.now) (sym none) (λ k w e. absurd cc),
@@ -64,11 +66,14 @@ loop-pass-preserved g c =
       tt,
       parts-next c.loop-pass.yielded _ _ _ c.in-Some.pass i.2 c.in-Some.ensures.steps.0,
       ap (λ l. map (λ worker. worker.gear) l ++ map g.G.Counted.state (into_iter_items c.next-in-loop-pass.new.self)) pushed
-          ∙ made-next (λ worker. worker.gear) g.G.Counted.state c.loop-pass.workers.items c.new.result _ _ c.in-Some-next.gear _ i.3 c.in-Some-next.ensures.items (ap (λ w. w.gear) c.new.ensures),
+          ∙ made-next (λ worker. worker.gear) g.G.Counted.state c.loop-pass.workers.items c.new.result _ _ c.in-Some-next.gear _ i.3
+          c.in-Some-next.ensures.items (ap (λ w. w.gear) c.new.ensures),
       (let a = ap length pushed in let b = i.4 in omega (arith, a, b, size, done)),
-      (let a = ap length pushed in let b = i.5 in let d = ap length c.in-Some.ensures.steps.0 in let e = c.push_reserved.ensures.capacity in omega (arith, a, b, d, e, size)),
+      (let a = ap length pushed in let b = i.5 in let d = ap length c.in-Some.ensures.steps.0 in let e = c.push_reserved.ensures.capacity in omega
+          (arith, a, b, d, e, size)),
       subst (ArePlaced c.args.shared.now c.args.front.now) (sym pushed)
-          (each-next (λ k w. (w.station.home ≡ c.args.shared.now) × (w.station.number ≡ k) × (w.front ≡ c.args.front.now)) c.loop-pass.workers.items c.new.result i.6 (
+          (each-next (λ k w. (w.station.home ≡ c.args.shared.now) × (w.station.number ≡ k) × (w.front ≡ c.args.front.now)) c.loop-pass.workers.items
+          c.new.result i.6 (
             ap (λ w. w.station.home) c.new.ensures,
             ap (λ w. w.station.number) c.new.ensures ∙ (c.requires.passes.all.each (length c.loop-pass.yielded) c.in-Some.pass at).1 ∙ sym i.4,
             ap (λ w. w.front) c.new.ensures,

@@ -3,7 +3,8 @@ use Rattle.signature_laws.proofs.BothPass.{signed_is_signed, both_pass}
 use Rattle.signature_laws.proofs.rotation.signed_rotation_laws.Goals as goal
 
 pub returns-clause-signed : goal.returns-clause-signed
-returns-clause-signed c = λ m n base id secret created nonce is unsigned created_size id_text nonce_text. signed_is_signed m n base id secret created nonce is unsigned created_size id_text nonce_text
+returns-clause-signed c = λ m n base id secret created nonce is unsigned created_size id_text nonce_text. signed_is_signed m n base id secret created nonce is
+    unsigned created_size id_text nonce_text
 
 pub returns-clause-always : goal.returns-clause-always
 returns-clause-always c = λ m base id secret created signed. always_signed_again m base id secret created signed

@@ -9,4 +9,5 @@ pub returns-clause-passes : goal.returns-clause-passes
 returns-clause-passes c = λ m n base ring id secret created nonce tag now is can. signed_passes m n base ring id secret created nonce tag now is can
 
 pub returns-clause-marked : goal.returns-clause-marked
-returns-clause-marked c = λ m n base id secret created nonce tag is none i fits t size. signed_is_marked m n base id secret created nonce tag is none i fits t size
+returns-clause-marked c = λ m n base id secret created nonce tag is none i fits t size. signed_is_marked m n base id secret created nonce tag is none i fits t
+    size

@@ -48,9 +48,11 @@ returns c = λ rules h legal few.
           sym (ap (λ (ns : List Note). round_by_code (reverse ns) (now before e.moment) code) (history_notes before))
           ∙ sym (ap (λ n. round_by_code (reverse (notes_of (plain_history before))) n code) (history_now before e.moment))
           ∙ c.drawn_codes_are_free.ensures rules (plain_history before) (plain_entry (is_refused_after before e) e) [] round code
-          (history_next rules before e after (is_refused_after before e) refl (subst (λ (x : List SignedEvent). Legal signed_law rules x) is legal)) pended drawn;
+          (history_next rules before e after (is_refused_after before e) refl (subst (λ (x : List SignedEvent). Legal signed_law rules x) is legal)) pended
+          drawn;
       keys_bind = λ before e after rotation token key is among rotates.
           signed_bound rules before e after rotation token key c.rotated_keys_bind.ensures
-          (subst (λ (x : List SignedEvent). Legal signed_law rules x) is legal) (few_before before e after (subst (λ (x : List SignedEvent). length x ≤ 2 ^ 58) is few)) among rotates;
+          (subst (λ (x : List SignedEvent). Legal signed_law rules x) is legal)
+          (few_before before e after (subst (λ (x : List SignedEvent). length x ≤ 2 ^ 58) is few)) among rotates;
       marks_once = λ key mark. c.marks_pass_once.ensures rules h key mark legal;
     }

@@ -12,5 +12,6 @@ joined a b c d s t u v w none first second third fourth =
 pub returns : goal.returns
 returns c =
     let m = c.args.message.now in
-    joined _ _ _ _ _ _ _ _ _ c.new-text.ensures c.in_ok-push_request_line.ensures c.in_ok-push_fields.ensures c.in_ok-extend.ensures.ok c.in_ok-extend-2.ensures.ok
+    joined _ _ _ _ _ _ _ _ _ c.new-text.ensures c.in_ok-push_request_line.ensures c.in_ok-push_fields.ensures c.in_ok-extend.ensures.ok
+    c.in_ok-extend-2.ensures.ok
     ∙ ap (λ b. request_line m ++ (flat_map field_line m.fields ++ (codes "\r\n" ++ b))) c.as_slice.ensures.value

@@ -6,7 +6,8 @@ pub returns-in_err-message-clause-answer : goal.returns-in_err-message-clause-an
 returns-in_err-message-clause-answer g c = λ rest known. of_none _ _ _ _ (c.in_err-message.ensures.message rest known) (search rules)
 
 pub returns-clause-answer : goal.returns-clause-answer
-returns-clause-answer g c = λ rest known. of_message _ _ c.in_ok-message.message c.sign_message.result (c.in_ok-message.ensures.message rest known) c.sign_message.ensures.answer
+returns-clause-answer g c = λ rest known. of_message _ _ c.in_ok-message.message c.sign_message.result (c.in_ok-message.ensures.message rest known)
+    c.sign_message.ensures.answer
 
 pub returns-clause-counts : goal.returns-clause-counts
 returns-clause-counts g c = counts_none c.sign_message.result _ _ c.sign_message.ensures.unread c.in_ok-message.ensures.counts

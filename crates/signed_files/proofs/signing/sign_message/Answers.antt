@@ -14,12 +14,13 @@ returns-in_default-clause-answer c =
 
 pub sign_with-requires-clause-id : goal.sign_with-requires-clause-id
 sign_with-requires-clause-id c =
-    key_id_text c.args.setup.now c.args.id.now c.in-Some.key.now c.requires.setup (ap (key_of c.args.setup.now) (sym c.as_slice.ensures.value) ∙ sym c.in-Some.ensures)
+    key_id_text c.args.setup.now c.args.id.now c.in-Some.key.now c.requires.setup
+    (ap (key_of c.args.setup.now) (sym c.as_slice.ensures.value) ∙ sym c.in-Some.ensures)
 
 pub returns-in-Ok-clause-answer : goal.returns-in-Ok-clause-answer
 returns-in-Ok-clause-answer c =
     let key = c.in-Some.key.now in
-    let m = c.args.message in
+    let m = c.args.message.now in
     let n = c.sign_with.new.message in
     let nonce = option_copied c.args.nonce in
     let T : List ℕ → Type 0 = λ tag. signed_under m c.args.setup.now.base (params_of c.args.id.now c.args.created nonce tag) key.secret ≡ Some n in

@@ -8,7 +8,8 @@ pub loop-init : goal.loop-init
 loop-init c = rw c.new-items.ensures (items_start c.args.bytes.now)
 
 pub returns-in-Some : goal.returns-in-Some
-returns-in-Some c = rw c.in-Some.ensures.1 (items_stopped (length c.args.bytes.now) c.loop.counter c.loop.items c.loop.left.now c.without_spaces-next.result.now (items_at c.args.bytes.now)
+returns-in-Some c = rw c.in-Some.ensures.1
+    (items_stopped (length c.args.bytes.now) c.loop.counter c.loop.items c.loop.left.now c.without_spaces-next.result.now (items_at c.args.bytes.now)
     c.without_spaces-next.ensures c.loop.invariant c.loop-test.true c.in-Some.ensures.0)
 
 pub returns-in_err-item : goal.returns-in_err-item
@@ -17,12 +18,16 @@ returns-in_err-item c = let p = err_from_is_err_and c.from_residual.result c.fro
     c.without_spaces-next.ensures c.loop.invariant c.loop-test.true c.in_default.ensures c.in_err-item.field-0.0 c.in_err-item.ensures)
 
 pub returns-then-not-is_item_end : goal.returns-then-not-is_item_end
-returns-then-not-is_item_end c = items_refused (length c.args.bytes.now) c.loop.counter c.loop.items c.loop.left.now c.without_spaces-next.result.now (items_at c.args.bytes.now)
-    c.without_spaces-next.ensures c.loop.invariant c.loop-test.true c.in_default.ensures c.in_ok-item.item c.in_ok-item.rest.now c.in_ok-item.ensures (sym c.is_item_end.ensures ∙ c.if-not-is_item_end.true)
+returns-then-not-is_item_end c = items_refused (length c.args.bytes.now) c.loop.counter c.loop.items c.loop.left.now c.without_spaces-next.result.now
+    (items_at c.args.bytes.now)
+    c.without_spaces-next.ensures c.loop.invariant c.loop-test.true c.in_default.ensures c.in_ok-item.item c.in_ok-item.rest.now c.in_ok-item.ensures
+    (sym c.is_item_end.ensures ∙ c.if-not-is_item_end.true)
 
 pub loop-preserved : goal.loop-preserved
-loop-preserved c = rw c.in_ok-push.ensures.ok (items_more (length c.args.bytes.now) c.loop.counter c.loop.items c.loop.left.now c.without_spaces-next.result.now (items_at c.args.bytes.now)
-    c.without_spaces-next.ensures c.loop.invariant c.loop-test.true c.in_default.ensures c.in_ok-item.item c.in_ok-item.rest.now c.in_ok-item.ensures (sym c.is_item_end.ensures ∙ c.if-not-is_item_end.false))
+loop-preserved c = rw c.in_ok-push.ensures.ok
+    (items_more (length c.args.bytes.now) c.loop.counter c.loop.items c.loop.left.now c.without_spaces-next.result.now (items_at c.args.bytes.now)
+    c.without_spaces-next.ensures c.loop.invariant c.loop-test.true c.in_default.ensures c.in_ok-item.item c.in_ok-item.rest.now c.in_ok-item.ensures
+    (sym c.is_item_end.ensures ∙ c.if-not-is_item_end.false))
 
 pub returns : goal.returns
 returns c = items_spent (length c.args.bytes.now - c.loop.counter) c.loop.items c.loop.left.now (items_at c.args.bytes.now) (omega arith) c.loop.invariant

@@ -20,6 +20,7 @@ pub returns-clause-extends : goal.returns-clause-extends
 returns-clause-extends c =
     extends_on c.args.notes.now.items c.further_noting-3.new.notes.items c.further_noting-4.new.notes.items
     (extends_on c.args.notes.now.items c.further_noting-2.new.notes.items c.further_noting-3.new.notes.items
-    (extends_on c.args.notes.now.items c.further_noting.new.notes.items c.further_noting-2.new.notes.items c.in_ok-first.ensures.extends c.in_ok-second.ensures.extends)
+    (extends_on c.args.notes.now.items c.further_noting.new.notes.items c.further_noting-2.new.notes.items c.in_ok-first.ensures.extends
+    c.in_ok-second.ensures.extends)
     c.in_ok-third.ensures.extends)
     c.in_ok-fourth.ensures.extends

@@ -8,7 +8,8 @@ use Rattle.structured_fields.proofs.Ranges.{item_text_range}
 use Rattle.structured_fields.proofs.reading.read_item.Goals as goal
 
 pub returns-clause-found : goal.returns-clause-found
-returns-clause-found c = found_by item_of IsItemText item_of_takes c.args.text.now c.whole_item.result (λ i. omega (arith, c.type_inv.text i)) c.whole_item.ensures
+returns-clause-found c = found_by item_of IsItemText item_of_takes c.args.text.now c.whole_item.result (λ i. omega (arith, c.type_inv.text i))
+    c.whole_item.ensures
 
 pub returns-clause-only : goal.returns-clause-only
 returns-clause-only c = only_by item_of IsItemText item_of_again c.args.text.now c.whole_item.result c.whole_item.ensures

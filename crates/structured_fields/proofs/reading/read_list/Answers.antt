@@ -8,7 +8,8 @@ use Rattle.structured_fields.proofs.Ranges.{list_text_range}
 use Rattle.structured_fields.proofs.reading.read_list.Goals as goal
 
 pub returns-clause-found : goal.returns-clause-found
-returns-clause-found c = found_by list_of IsListText list_of_takes c.args.text.now c.whole_list.result (λ i. omega (arith, c.type_inv.text i)) c.whole_list.ensures
+returns-clause-found c = found_by list_of IsListText list_of_takes c.args.text.now c.whole_list.result (λ i. omega (arith, c.type_inv.text i))
+    c.whole_list.ensures
 
 pub returns-clause-only : goal.returns-clause-only
 returns-clause-only c = only_by list_of IsListText list_of_again c.args.text.now c.whole_list.result c.whole_list.ensures

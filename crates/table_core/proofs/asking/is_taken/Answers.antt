@@ -14,4 +14,5 @@ returns c =
     let rows = (tables c.args.entering.now).grants in
     let now = c.args.entering.now.supply.moment in
     c.is_some.ensures ∙ is_some-map (λ row. row.now) c.by_interaction.result ∙ ap (λ (o : Option GrantRow). is_some o) c.by_interaction.ensures
-    ∙ sym (is_some-map (λ (i : Interaction). i.row) (newest (interaction_where (λ (round : RoundNote). is_text c.args.code.now round.code) now) rows)) ∙ code_taken c.args.code.now now rows
+    ∙ sym (is_some-map (λ (i : Interaction). i.row) (newest (interaction_where (λ (round : RoundNote). is_text c.args.code.now round.code) now) rows))
+    ∙ code_taken c.args.code.now now rows

@@ -16,6 +16,7 @@ returns-clause-same c =
     let taken = (supply c.args.entering.now).taken in (
       run,
       λ tries. passed_run run tries number taken (omega (arith, end, high)) (λ k le lt.
-          sym (code_taken (code_text k) c.args.entering.now.supply.moment (tables c.args.entering.now).grants) ∙ c.past_taken.ensures.taken k le (omega (arith, end, lt)))
+          sym (code_taken (code_text k) c.args.entering.now.supply.moment (tables c.args.entering.now).grants)
+          ∙ c.past_taken.ensures.taken k le (omega (arith, end, lt)))
           ∙ ap (λ n. free_code tries (n % code_count) taken) end,
     )

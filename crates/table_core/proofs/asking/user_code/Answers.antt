@@ -24,7 +24,8 @@ loop-init c =
     record {
       in_circle = c.passed-tried.ensures.within;
       same =
-          ap (λ n. free_code n c.passed-tried.result taken) all ∙ sym (c.passed-tried.ensures.same.1 grants) ∙ sym (c.passed-first.ensures.same.1 (two + grants)) ∙ free_code-mod (one + (two + grants)) number taken
+          ap (λ n. free_code n c.passed-tried.result taken) all ∙ sym (c.passed-tried.ensures.same.1 grants)
+          ∙ sym (c.passed-first.ensures.same.1 (two + grants)) ∙ free_code-mod (one + (two + grants)) number taken
           ∙ enough_tries (one + (two + grants)) number c.args.entering.now.supply.moment rows (omega arith) few;
     }
 
@@ -52,7 +53,8 @@ returns-then-not-is_taken c =
     let many = c.len-grants.ensures in
     let more : length rows - c.loop.counter ≡ suc rest = omega (arith, below, many) in
     let is : list_any (same_text (code_text tried)) taken ≡ false = search rules in
-    c.code_text-code.ensures ∙ sym (free_code-free rest tried taken c.loop.invariant.in_circle is) ∙ ap (λ n. free_code n tried taken) (sym more) ∙ c.loop.invariant.same
+    c.code_text-code.ensures ∙ sym (free_code-free rest tried taken c.loop.invariant.in_circle is) ∙ ap (λ n. free_code n tried taken) (sym more)
+    ∙ c.loop.invariant.same
 
 pub returns : goal.returns
 returns c =

@@ -20,8 +20,10 @@ returns c =
     let early = entering.supply.moment + wait in
     let begun = begun_round entering o.grant o.end modes in
     let row : c.opened_row-row.result ≡ opened_row o request asking.door early =
-    c.opened_row-row.ensures ∙ ap (λ (terms : TermsNote). with_door asking.door early (with_terms terms (new_grant o))) (c.in_ok-terms.ensures ∙ c.in_ok-wanted.ensures) in
-    let pending = c.pend.ensures ∙ ap (in_round asking.round) row ∙ ap (λ (round : Round). in_round round (opened_row o request asking.door early)) asked.round in
+    c.opened_row-row.ensures ∙ ap (λ (terms : TermsNote). with_door asking.door early (with_terms terms (new_grant o)))
+    (c.in_ok-terms.ensures ∙ c.in_ok-wanted.ensures) in
+    let pending = c.pend.ensures ∙ ap (in_round asking.round) row
+    ∙ ap (λ (round : Round). in_round round (opened_row o request asking.door early)) asked.round in
     asking_is entering o request modes asking.reply asking.drawn c.in_ok-new.field-0 asking.door c.new-2.result c.requires.next c.requires.numbers
     (asked.reply ∙ ap (λ (instance : Option Text). asking_reply entering begun instance) c.in_ok-instance.ensures)
     asked.drawn c.new-2.ensures (c.in_ok-new.ensures.ok ∙ pending) asked.door

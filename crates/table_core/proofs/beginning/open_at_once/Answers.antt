@@ -17,10 +17,13 @@ returns c =
     let row = c.opened_row-row.result in
     let door = c.value-door.result in
     let is : row ≡ opened_row o request door (entering.supply.moment + wait) =
-    c.opened_row-row.ensures ∙ ap (λ (terms : TermsNote). with_door door (entering.supply.moment + wait) (with_terms terms (new_grant o))) (c.in_ok-terms.ensures ∙ c.in_ok-wanted.ensures) in
+    c.opened_row-row.ensures ∙ ap (λ (terms : TermsNote). with_door door (entering.supply.moment + wait) (with_terms terms (new_grant o)))
+    (c.in_ok-terms.ensures ∙ c.in_ok-wanted.ensures) in
     let same : opening_of row ≡ o = ap opening_of is in
     let granting = c.in_ok-granting.granting in
-    at_once_is entering o request c.len-count.result granting.reply c.in_ok-new.field-0 door granting.tokens c.requires.next c.requires.numbers c.len-count.ensures c.requires.few entering.supply.room
-    (granted_as (supply entering) (opening_of row) o c.as_slice.result.now request.asks request.single _ _ c.in_ok-instance.instance (instance_of o) granting.reply same c.as_slice.ensures refl c.in_ok-instance.ensures c.in_ok-granting.ensures.reply)
+    at_once_is entering o request c.len-count.result granting.reply c.in_ok-new.field-0 door granting.tokens c.requires.next c.requires.numbers
+    c.len-count.ensures c.requires.few entering.supply.room
+    (granted_as (supply entering) (opening_of row) o c.as_slice.result.now request.asks request.single _ _ c.in_ok-instance.instance (instance_of o)
+    granting.reply same c.as_slice.ensures refl c.in_ok-instance.ensures c.in_ok-granting.ensures.reply)
     (c.in_ok-new.ensures.ok ∙ is) c.value-door.ensures
     (tokens_as new_token (supply entering) (opening_of row) o c.as_slice.result.now request.asks _ same c.as_slice.ensures c.in_ok-granting.ensures.tokens)

@@ -7,12 +7,14 @@ use Rattle.table_core.proofs.carrying.issue_all.Goals as goal
 pub issue-requires-clause-is : goal.issue-requires-clause-is
 issue-requires-clause-is c =
     let i = c.loop-row.invariant in
-    (row_comes c.args.first c.loop-row.yielded (into_iter_items c.next.new.self) c.args.rows c.in-Some.row (ap (λ l. c.loop-row.yielded ++ l) (sym c.in-Some.ensures.steps.0) ∙ i.2) c.requires.rise).0
+    (row_comes c.args.first c.loop-row.yielded (into_iter_items c.next.new.self) c.args.rows c.in-Some.row
+    (ap (λ l. c.loop-row.yielded ++ l) (sym c.in-Some.ensures.steps.0) ∙ i.2) c.requires.rise).0
 
 pub issue-requires-clause-above : goal.issue-requires-clause-above
 issue-requires-clause-above c =
     let i = c.loop-row.invariant in
-    let comes = row_comes c.args.first c.loop-row.yielded (into_iter_items c.next.new.self) c.args.rows c.in-Some.row (ap (λ l. c.loop-row.yielded ++ l) (sym c.in-Some.ensures.steps.0) ∙ i.2) c.requires.rise in
+    let comes = row_comes c.args.first c.loop-row.yielded (into_iter_items c.next.new.self) c.args.rows c.in-Some.row
+    (ap (λ l. c.loop-row.yielded ++ l) (sym c.in-Some.ensures.steps.0) ∙ i.2) c.requires.rise in
     row_above c.loop-row.tokens.rows (free_after c.args.first (rows_in c.loop-row.yielded)) c.in-Some.row.value.serial comes.1 i.6
 
 pub loop-row-preserved : goal.loop-row-preserved

@@ -11,4 +11,5 @@ returns-in-Some c =
     let entering = c.args.entering.now in
     let row = c.in-Some.row.now in
     plan_as entering c.hand_row.result (show_handle (interaction_of row)) _
-    (ap show_handle (found_from (λ round. is_text c.args.code.now round.code) entering.supply.moment (tables entering).grants (Some row) (search rules))) c.hand_row.ensures
+    (ap show_handle (found_from (λ round. is_text c.args.code.now round.code) entering.supply.moment (tables entering).grants (Some row) (search rules)))
+    c.hand_row.ensures

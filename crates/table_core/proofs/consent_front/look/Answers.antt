@@ -11,4 +11,5 @@ returns-in-Some c =
     let entering = c.args.entering.now in
     let row = c.in-Some.row.now in
     plans_as entering c.show_row.result (show_round (interaction_of row)) _
-    (ap show_round (found_from (λ round. same_text round.handle c.args.handle.now) entering.supply.moment (tables entering).grants (Some row) (search rules))) c.show_row.ensures
+    (ap show_round (found_from (λ round. same_text round.handle c.args.handle.now) entering.supply.moment (tables entering).grants (Some row) (search rules)))
+    c.show_row.ensures

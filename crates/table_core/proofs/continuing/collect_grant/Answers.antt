@@ -18,7 +18,8 @@ returns c =
     let row = c.args.row.now in
     let decision : DecisionNote = decision_of_row row.number c.args.decision.now in
     let asks : List Ask = decided_asks decision.rights (terms_of_row row) in
-    let left : c.in_ok-asks.asks ≡ asks = c.in_ok-asks.ensures.asks ∙ ap (λ (asked : List Ask). filter_map (decided_ask decision.rights) asked) c.in_ok-asked.ensures in
+    let left : c.in_ok-asks.asks ≡ asks = c.in_ok-asks.ensures.asks
+    ∙ ap (λ (asked : List Ask). filter_map (decided_ask decision.rights) asked) c.in_ok-asked.ensures in
     let counted : c.len-count.result ≡ length asks = c.len-count.ensures ∙ ap length left in
     let live = live_rows entering.supply.moment (tables entering).grants (tables entering).tokens in
     let within : pass_live live (length asks) ≡ false = ap (pass_live live) (sym counted) ∙ sym c.passes_limit_with.ensures ∙ c.if-passes_limit_with.false in
@@ -26,7 +27,9 @@ returns c =
     let sliced : c.as_slice.result.now ≡ asks = c.as_slice.ensures ∙ left in
     plan_as entering _ (CollectDecision (opening_of row) (terms_of_row row) decision asks) _ (rw within refl)
     (collected_is entering row decision asks c.len-count.result granting.reply c.in_ok-consent.consent c.value-door.result granting.tokens counted
-    (let few = c.in_ok-asks.ensures.few in let many = c.requires in let same = ap (length {A = Ask}) left in let told = ap (length {A = Ask}) c.in_ok-asked.ensures in omega (arith, few, many, same, told)) entering.supply.room c.in_ok-consent.ensures
-    (granted_as (supply entering) (opening_of row) (opening_of row) c.as_slice.result.now asks row.single _ _ _ _ granting.reply refl sliced c.in_ok-subject.ensures refl c.in_ok-granting.ensures.reply)
+    (let few = c.in_ok-asks.ensures.few in let many = c.requires in let same = ap (length {A = Ask}) left in let told = ap (length {A = Ask})
+    c.in_ok-asked.ensures in omega (arith, few, many, same, told)) entering.supply.room c.in_ok-consent.ensures
+    (granted_as (supply entering) (opening_of row) (opening_of row) c.as_slice.result.now asks row.single _ _ _ _ granting.reply refl sliced
+    c.in_ok-subject.ensures refl c.in_ok-granting.ensures.reply)
     c.value-door.ensures
     (tokens_as new_token (supply entering) (opening_of row) (opening_of row) c.as_slice.result.now asks _ refl sliced c.in_ok-granting.ensures.tokens))

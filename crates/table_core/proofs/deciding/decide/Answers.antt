@@ -11,4 +11,6 @@ returns-in-Some c =
     let entering = c.args.entering.now in
     let row = c.in-Some.row.now in
     plans_as entering c.decide_row.result (take_decision c.args.request.now (interaction_of row)) _
-    (ap (take_decision c.args.request.now) (found_from (λ round. same_text round.handle c.args.request.now.handle) entering.supply.moment (tables entering).grants (Some row) (search rules))) c.decide_row.ensures
+    (ap (take_decision c.args.request.now)
+    (found_from (λ round. same_text round.handle c.args.request.now.handle) entering.supply.moment (tables entering).grants (Some row) (search rules)))
+    c.decide_row.ensures

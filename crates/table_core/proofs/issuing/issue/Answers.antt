@@ -19,7 +19,8 @@ loop-ask-preserved c =
     let token = c.in_ok-issued.issued in
     let before = tokens_for (supply entering) o (take i asks) 0 in
     let after = tokens_for (supply entering) o (take (i + 1) asks) 0 in
-    let more = issued_more (supply entering) o asks i c.loop-ask.index c.ask-item.result token c.loop-ask-test.true c.ask-item.is c.loop-ask.invariant.next c.in_ok-issued.ensures in
+    let more = issued_more (supply entering) o asks i c.loop-ask.index c.ask-item.result token c.loop-ask-test.true c.ask-item.is c.loop-ask.invariant.next
+    c.in_ok-issued.ensures in
     record {
       next = omega arith;
       handed = made_more (token_out entering.supply.moment) before after token [] c.loop-ask.told c.push.new.self c.in_ok-token_out.field-0

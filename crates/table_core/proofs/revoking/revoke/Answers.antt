@@ -12,5 +12,6 @@ returns-in-Refused-clause-acts c = λ rules next supply.
     let grants = c.args.grants.now.rows in
     let tokens = c.args.tokens.now.rows in
     let found = row_by_manage c.args.value.now tokens in
-    let chosen : revocation_of key grants found ≡ Refused c.in-Refused.code = rw (sym c.as_slice.ensures.value, sym c.as_slice-2.ensures.value) (sym c.revocation_by.ensures ∙ c.in-Refused.is) in
+    let chosen : revocation_of key grants found
+    ≡ Refused c.in-Refused.code = rw (sym c.as_slice.ensures.value, sym c.as_slice-2.ensures.value) (sym c.revocation_by.ensures ∙ c.in-Refused.is) in
     rw c.undrawn.ensures (revocation_refused supply (tables_in grants tokens) key grants found c.in-Refused.code chosen)

@@ -9,7 +9,9 @@ pub returns-in-Introspect-clause-ok : goal.returns-in-Introspect-clause-ok
 returns-in-Introspect-clause-ok c =
     let supply = c.args.supply.now in
     rw c.in-Introspect.is
-    (IfOk-weaker c.introspect.result _ _ (λ answered acts. acts c.args.next (row_supply supply.first (tables_in c.args.grants.now.rows c.args.tokens.now.rows) supply.moment supply.words.now) refl)
+    (IfOk-weaker c.introspect.result _ _
+    (λ answered acts. acts c.args.next (row_supply supply.first (tables_in c.args.grants.now.rows c.args.tokens.now.rows) supply.moment supply.words.now)
+    refl)
     c.introspect.ensures.acts)
 
 pub returns-in-Introspect-clause-doors : goal.returns-in-Introspect-clause-doors
@@ -24,13 +26,15 @@ pub returns-in-Cancel-clause-ok : goal.returns-in-Cancel-clause-ok
 returns-in-Cancel-clause-ok c =
     let supply = c.args.supply.now in
     rw c.in-Cancel.is
-    (c.cancel.ensures.acts c.args.rules.now c.args.next (row_supply supply.first (tables_in c.args.grants.now.rows c.args.tokens.now.rows) supply.moment supply.words.now))
+    (c.cancel.ensures.acts c.args.rules.now c.args.next
+    (row_supply supply.first (tables_in c.args.grants.now.rows c.args.tokens.now.rows) supply.moment supply.words.now))
 
 pub returns-in-Revoke-clause-ok : goal.returns-in-Revoke-clause-ok
 returns-in-Revoke-clause-ok c =
     let supply = c.args.supply.now in
     rw c.in-Revoke.is
-    (c.revoke.ensures.acts c.args.rules.now c.args.next (row_supply supply.first (tables_in c.args.grants.now.rows c.args.tokens.now.rows) supply.moment supply.words.now))
+    (c.revoke.ensures.acts c.args.rules.now c.args.next
+    (row_supply supply.first (tables_in c.args.grants.now.rows c.args.tokens.now.rows) supply.moment supply.words.now))
 
 pub rotate-requires : goal.rotate-requires
 rotate-requires c = record { room = (c.args.next, c.requires.room) }
@@ -54,4 +58,5 @@ answer_by_plan-requires-clause-planned c =
 pub returns-in_default-clause-frugal : goal.returns-in_default-clause-frugal
 returns-in_default-clause-frugal c = λ frugal.
     absurd (frugal_unplanned c.args.call.now
-    (planned_else c.args.call.now c.in_default.not-Introspect c.in_default.not-Cancel c.in_default.not-Revoke c.in_default.not-Rotate c.requires.no_lapse) frugal)
+    (planned_else c.args.call.now c.in_default.not-Introspect c.in_default.not-Cancel c.in_default.not-Revoke c.in_default.not-Rotate c.requires.no_lapse)
+    frugal)

@@ -17,7 +17,8 @@ overflow_sub-left c =
     let k = c.loop-one.one-index in
     let owned = c.args.owned.now in
     (one_less c.args.places.now c.args.grant c.args.moment c.loop-one.left c.own_lasting-left.result (take k owned) (get_or owned k _)
-    (λ former h. above_former c.loop-one.former (get_or owned k _).number former.number (c.loop-one.invariant.1 former h) c.if-is_within.ensures) c.loop-one.invariant.0 c.own_lasting-left.ensures).0
+    (λ former h. above_former c.loop-one.former (get_or owned k _).number former.number (c.loop-one.invariant.1 former h) c.if-is_within.ensures)
+    c.loop-one.invariant.0 c.own_lasting-left.ensures).0
 
 pub loop-one-preserved : goal.loop-one-preserved
 loop-one-preserved c =
@@ -26,7 +27,9 @@ loop-one-preserved c =
     let above : (former : Listed) → HasItem (take k owned) former → former.number < (get_or owned k _).number =
     λ former h. above_former c.loop-one.former (get_or owned k _).number former.number (c.loop-one.invariant.1 former h) c.if-is_within.ensures in
     let more = take_more owned k _ c.loop-one-test.true in (
-      (one_less c.args.places.now c.args.grant c.args.moment c.loop-one.left c.own_lasting-left.result (take k owned) (get_or owned k _) above c.loop-one.invariant.0 c.own_lasting-left.ensures).1
-          ∙ ap (λ (os : List Listed). count_by (is_lasting c.args.moment) (filter (λ (place : TokenPlace). not (is_among c.args.grant os place)) c.args.places.now)) (sym more),
+      (one_less c.args.places.now c.args.grant c.args.moment c.loop-one.left c.own_lasting-left.result (take k owned) (get_or owned k _) above
+          c.loop-one.invariant.0 c.own_lasting-left.ensures).1
+          ∙ ap (λ (os : List Listed). count_by (is_lasting c.args.moment)
+          (filter (λ (place : TokenPlace). not (is_among c.args.grant os place)) c.args.places.now)) (sym more),
       λ one h. within_last (take k owned) (get_or owned k _) above one (subst (λ (os : List Listed). HasItem os one) more h),
     )

@@ -16,8 +16,11 @@ returns-then-places-at-2 c =
     let place = c.index-places-at-then-places-at-2.result in
     let is = c.index-places-at-then-places-at-2.is in
     own_counted places at c.args.grant c.args.serial c.args.moment c.one_lasting.result place c.requires c.if-at-places.true is
-    (ap (λ (p : TokenPlace). p.serial) (same_place places at place c.index-places-at.result c.if-at-places.true is c.index-places-at.is ∙ c.index-places-at.is) ∙ c.if-places-at.true)
-    (ap (λ (p : TokenPlace). p.grant) (same_place places at place c.index-places-at-then-places-at.result c.if-at-places.true is c.index-places-at-then-places-at.is ∙ c.index-places-at-then-places-at.is) ∙ c.if-places-at-2.true)
+    (ap (λ (p : TokenPlace). p.serial) (same_place places at place c.index-places-at.result c.if-at-places.true is c.index-places-at.is ∙ c.index-places-at.is)
+    ∙ c.if-places-at.true)
+    (ap (λ (p : TokenPlace). p.grant)
+    (same_place places at place c.index-places-at-then-places-at.result c.if-at-places.true is c.index-places-at-then-places-at.is
+    ∙ c.index-places-at-then-places-at.is) ∙ c.if-places-at-2.true)
     c.one_lasting.ensures
 
 pub returns-else-at-places : goal.returns-else-at-places
@@ -26,7 +29,12 @@ returns-else-at-places c =
     let at = c.place_of-at.result in
     none_own places c.args.grant c.args.serial c.args.moment (none_out places places at c.args.grant c.args.serial refl c.requires c.place_of-at.ensures
     (λ old inside is mine its. elim c.else-at-places.branch [
-      | else-at-places-via-then-at-places+then-places-at+else-places-at-2 w ↦ w.if-places-at-2.false (ap (λ (p : TokenPlace). p.grant) (sym w.index-places-at-then-places-at.is ∙ same_place places at w.index-places-at-then-places-at.result old inside w.index-places-at-then-places-at.is is) ∙ its)
-      | else-at-places-via-then-at-places+else-places-at w ↦ w.if-places-at.false (ap (λ (p : TokenPlace). p.serial) (sym w.index-places-at.is ∙ same_place places at w.index-places-at.result old inside w.index-places-at.is is) ∙ mine)
+      | else-at-places-via-then-at-places+then-places-at+else-places-at-2 w ↦ w.if-places-at-2.false
+          (ap (λ (p : TokenPlace). p.grant)
+          (sym w.index-places-at-then-places-at.is
+          ∙ same_place places at w.index-places-at-then-places-at.result old inside w.index-places-at-then-places-at.is is) ∙ its)
+      | else-at-places-via-then-at-places+else-places-at w ↦ w.if-places-at.false
+          (ap (λ (p : TokenPlace). p.serial) (sym w.index-places-at.is ∙ same_place places at w.index-places-at.result old inside w.index-places-at.is is)
+          ∙ mine)
       | else-at-places-via-else-at-places w ↦ let past = w.if-at-places.false in omega (arith, past, inside)
     ]))

@@ -13,7 +13,8 @@ loop-one-init c = (none_yet c.args.places.now.items c.args.grant, omega arith, r
 
 pub take_out-left-requires-clause-order : goal.take_out-left-requires-clause-order
 take_out-left-requires-clause-order c = subst AreInOrder (sym c.loop-one.invariant.0)
-    (AllPairs-filter (λ (a b : TokenPlace). a.serial < b.serial) (λ (place : TokenPlace). not (is_among c.args.grant (take c.loop-one.one-index c.args.owned.now) place)) c.args.places.now.items c.requires.order)
+    (AllPairs-filter (λ (a b : TokenPlace). a.serial < b.serial)
+    (λ (place : TokenPlace). not (is_among c.args.grant (take c.loop-one.one-index c.args.owned.now) place)) c.args.places.now.items c.requires.order)
 
 pub loop-one-preserved : goal.loop-one-preserved
 loop-one-preserved c =
@@ -21,14 +22,16 @@ loop-one-preserved c =
     let k = c.loop-one.one-index in
     let owned = c.args.owned.now in (
       c.take_out-left.ensures.items ∙ ap (filter _) c.loop-one.invariant.0 ∙ one_more places c.args.grant (take k owned) (get_or owned k _)
-          ∙ ap (λ (os : List Listed). filter (λ (place : TokenPlace). not (is_among c.args.grant os place)) places) (sym (take_more owned k _ c.loop-one-test.true)),
+          ∙ ap (λ (os : List Listed). filter (λ (place : TokenPlace). not (is_among c.args.grant os place)) places)
+          (sym (take_more owned k _ c.loop-one-test.true)),
       omega (arith, c.take_out-left.ensures.fewer, c.loop-one.invariant.1),
       c.take_out-left.ensures.capacity ∙ c.loop-one.invariant.2,
       c.take_out-left.ensures.counted,
     )
 
 pub returns-clause-items : goal.returns-clause-items
-returns-clause-items c = c.loop-one.invariant.0 ∙ ap (λ (os : List Listed). filter (λ (place : TokenPlace). not (is_among c.args.grant os place)) c.args.places.now.items)
+returns-clause-items c = c.loop-one.invariant.0
+    ∙ ap (λ (os : List Listed). filter (λ (place : TokenPlace). not (is_among c.args.grant os place)) c.args.places.now.items)
     (take_all c.loop-one.one-index c.args.owned.now (omega (arith, c.loop-one-test.false)))
 
 pub returns-clause-fewer : goal.returns-clause-fewer

@@ -5,5 +5,6 @@ use Rattle.derived_tokens.proofs.deriving_server.DerivingServerTurnTaker.turn.Go
 
 pub returns-in-Err : goal.returns-in-Err
 returns-in-Err g c h seen =
-    starved-turn g.D.Desk.rules g.D.Desk.number g.D.Desk.home g.D.Desk.seen c.args.self.now.pairs c.args.self.now.setup c.args.last c.args.message.now _ h seen c.now-moment.result _ _ c.now-moment.ensures.state
+    starved-turn g.D.Desk.rules g.D.Desk.number g.D.Desk.home g.D.Desk.seen c.args.self.now.pairs c.args.self.now.setup c.args.last c.args.message.now _ h seen
+    c.now-moment.result _ _ c.now-moment.ensures.state
     _ _ _ _ _ c.say_starved.ensures.written c.say_starved.ensures.starved

@@ -10,6 +10,7 @@ pub invariant_of-self : goal.invariant_of-self
 invariant_of-self g c = record {
   some = c.self.invariant.some;
   unseen = λ no. absurd cc;
-  counted = counted_now c.self.inside.station c.do_share-self-inside.new.desk c.self.inside.grants c.self.inside.start c.self.inside.workers c.self.inside.worker c.do_share-self-inside.result
+  counted = counted_now c.self.inside.station c.do_share-self-inside.new.desk c.self.inside.grants c.self.inside.start c.self.inside.workers
+      c.self.inside.worker c.do_share-self-inside.result
       c.do_share-self-inside.ensures.number (c.self.invariant.unseen c.if-self.false) c.do_share-self-inside.ensures.shares c.do_share-self-inside.ensures.most;
 }

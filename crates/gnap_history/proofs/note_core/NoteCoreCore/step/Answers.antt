@@ -11,7 +11,8 @@ returns-clause-ok c =
     let s = c.args.self.now in
     let at : c.max-self.result ≡ max s.latest c.args.moment = search rules in
     IfOk-weaker c.enter_call.result _ _
-    (λ reply both h stands. answers-by_notes gnap_answer GnapFits Lapse s.rules s.notes s.latest h c.args.moment c.args.draw.now c.args.call.now reply c.enter_call.new.notes c.max-self.result
+    (λ reply both h stands. answers-by_notes gnap_answer GnapFits Lapse s.rules s.notes s.latest h c.args.moment c.args.draw.now c.args.call.now reply
+    c.enter_call.new.notes c.max-self.result
     stands c.requires.fits c.requires.in_time at (rw (sym at) both.0) (rw (sym at) both.1))
     c.enter_call.ensures.ok
 
@@ -20,5 +21,6 @@ returns-clause-err c =
     let s = c.args.self.now in
     let at : c.max-self.result ≡ max s.latest c.args.moment = search rules in
     on_err_weaker c.enter_call.result
-    (λ same h stands. rw same (lapses-by_notes gnap_answer GnapFits Lapse s.rules s.notes s.latest h c.args.moment c.args.draw.now c.max-self.result stands (tt, tt) c.requires.in_time at refl))
+    (λ same h stands. rw same (lapses-by_notes gnap_answer GnapFits Lapse s.rules s.notes s.latest h c.args.moment c.args.draw.now c.max-self.result stands
+    (tt, tt) c.requires.in_time at refl))
     c.enter_call.ensures.err

@@ -9,4 +9,5 @@ pub returns-clause-lapses : goal.returns-clause-lapses
 returns-clause-lapses c =
     let s = c.args.self.now in
     let at : c.max-self.result ≡ max s.latest c.args.moment = search rules in
-    λ h draw stands. lapses-by_notes gnap_answer GnapFits Lapse s.rules s.notes s.latest h c.args.moment draw c.max-self.result stands (tt, tt) c.requires.in_time at refl
+    λ h draw stands. lapses-by_notes gnap_answer GnapFits Lapse s.rules s.notes s.latest h c.args.moment draw c.max-self.result stands (tt, tt)
+    c.requires.in_time at refl

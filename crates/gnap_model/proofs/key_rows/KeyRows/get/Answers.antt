@@ -9,7 +9,8 @@ returns-in_err-place c =
     ∙ found_none c.self.inside.places c.self.inside.rows c.args.self.now c.args.id.now c.self.invariant c.self.view_is c.in_err-place.ensures.value
 
 pub at-requires : goal.at-requires
-at-requires c = found_within c.self.inside.places c.self.inside.rows c.self.inside.rows c.args.id.now c.self.invariant refl c.in_ok-place.place.now c.in_ok-place.ensures.value
+at-requires c = found_within c.self.inside.places c.self.inside.rows c.self.inside.rows c.args.id.now c.self.invariant refl c.in_ok-place.place.now
+    c.in_ok-place.ensures.value
 
 pub returns : goal.returns
 returns c =

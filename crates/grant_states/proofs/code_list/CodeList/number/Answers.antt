@@ -11,5 +11,6 @@ place_of-at-requires c = codes_ascend c.as_slice-listed.result.now c.self.inside
 
 pub returns : goal.returns
 returns c = λ number h. c.number_at.ensures number
-    (at_place key_of c.as_slice-listed.result.now c.place_of-at.result c.args.code (under c.args.code number) (codes_ascend c.as_slice-listed.result.now c.self.inside.listed.items c.as_slice-listed.ensures.value c.self.invariant) c.place_of-at.ensures
+    (at_place key_of c.as_slice-listed.result.now c.place_of-at.result c.args.code (under c.args.code number)
+    (codes_ascend c.as_slice-listed.result.now c.self.inside.listed.items c.as_slice-listed.ensures.value c.self.invariant) c.place_of-at.ensures
     (subst (λ (os : List Listed). HasItem os (under c.args.code number)) (sym c.self.view_is ∙ sym c.as_slice-listed.ensures.value) h) refl)

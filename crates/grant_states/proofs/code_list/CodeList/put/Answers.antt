@@ -10,21 +10,28 @@ pub place_of-at-requires : goal.place_of-at-requires
 place_of-at-requires c = codes_ascend c.as_slice.result.now c.self.inside.listed.items c.as_slice.ensures.value c.self.invariant
 
 pub insert-requires : goal.insert-requires
-insert-requires c = let n = place_within c.as_slice.result.now c.place_of-at.result c.args.code c.place_of-at.ensures in omega (arith, n, c.as_slice.ensures.len)
+insert-requires c = let n = place_within c.as_slice.result.now c.place_of-at.result c.args.code c.place_of-at.ensures in omega
+    (arith, n, c.as_slice.ensures.len)
 
 pub invariant_of-self-2 : goal.invariant_of-self-2
 invariant_of-self-2 c =
-    subst Ascend (sym c.in-Ok.ensures.items) (put_ascend c.as_slice.result.now c.as_slice-2.result.now c.self.inside.listed.items c.place_of-at.result c.args.code c.args.number c.as_slice.ensures.value c.as_slice-2.ensures.value c.self.invariant c.place_of-at.ensures c.if-has_code.ensures)
+    subst Ascend (sym c.in-Ok.ensures.items)
+    (put_ascend c.as_slice.result.now c.as_slice-2.result.now c.self.inside.listed.items c.place_of-at.result c.args.code c.args.number
+    c.as_slice.ensures.value c.as_slice-2.ensures.value c.self.invariant c.place_of-at.ensures c.if-has_code.ensures)
 
 pub returns-clause-listed : goal.returns-clause-listed
-returns-clause-listed c = λ e. subst (λ (os : List Listed). HasItem os (under c.args.code c.args.number)) (sym c.in-Ok.ensures.items) (item_inserted c.self.inside.listed.items c.place_of-at.result (under c.args.code c.args.number))
+returns-clause-listed c = λ e. subst (λ (os : List Listed). HasItem os (under c.args.code c.args.number)) (sym c.in-Ok.ensures.items)
+    (item_inserted c.self.inside.listed.items c.place_of-at.result (under c.args.code c.args.number))
 
 pub returns-clause-kept : goal.returns-clause-kept
-returns-clause-kept c = λ one h. subst (λ (os : List Listed). HasItem os one) (sym c.in-Ok.ensures.items) (item_stays c.self.inside.listed.items c.place_of-at.result (under c.args.code c.args.number) one
+returns-clause-kept c = λ one h. subst (λ (os : List Listed). HasItem os one) (sym c.in-Ok.ensures.items)
+    (item_stays c.self.inside.listed.items c.place_of-at.result (under c.args.code c.args.number) one
     (subst (λ (os : List Listed). HasItem os one) (sym c.self.view_is) h))
 
 pub returns-clause-only : goal.returns-clause-only
-returns-clause-only c = λ one h. elim (item_of_insert c.self.inside.listed.items c.place_of-at.result (under c.args.code c.args.number) one (subst (λ (os : List Listed). HasItem os one) c.in-Ok.ensures.items h)) [
-  | inl m ↦ inl (subst (λ (os : List Listed). HasItem os one) c.self.view_is m)
-  | inr e ↦ inr e
-]
+returns-clause-only c = λ one h. elim
+    (item_of_insert c.self.inside.listed.items c.place_of-at.result (under c.args.code c.args.number) one
+    (subst (λ (os : List Listed). HasItem os one) c.in-Ok.ensures.items h)) [
+      | inl m ↦ inl (subst (λ (os : List Listed). HasItem os one) c.self.view_is m)
+      | inr e ↦ inr e
+    ]

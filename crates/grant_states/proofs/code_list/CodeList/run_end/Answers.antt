@@ -12,12 +12,14 @@ place_of-at-requires c = codes_ascend c.as_slice-listed.result.now c.self.inside
 pub run_length-requires-clause-ascend : goal.run_length-requires-clause-ascend
 run_length-requires-clause-ascend c =
     let all : List Listed = c.as_slice-listed.result.now in
-    subst Ascend (sym (take_rest all c.place_of-at.result)) (dropped_ascend all c.place_of-at.result (subst Ascend (sym c.as_slice-listed.ensures.value) c.self.invariant))
+    subst Ascend (sym (take_rest all c.place_of-at.result))
+    (dropped_ascend all c.place_of-at.result (subst Ascend (sym c.as_slice-listed.ensures.value) c.self.invariant))
 
 pub run_length-requires-clause-from : goal.run_length-requires-clause-from
 run_length-requires-clause-from c =
     let all : List Listed = c.as_slice-listed.result.now in
-    λ one h. from_place all c.place_of-at.result c.args.code c.place_of-at.ensures one (subst (λ (os : List Listed). HasItem os one) (take_rest all c.place_of-at.result) h)
+    λ one h. from_place all c.place_of-at.result c.args.code c.place_of-at.ensures one
+    (subst (λ (os : List Listed). HasItem os one) (take_rest all c.place_of-at.result) h)
 
 pub returns-clause-run : goal.returns-clause-run
 returns-clause-run c =
@@ -26,5 +28,6 @@ returns-clause-run c =
     let r = c.run_length.ensures.run k le lt in (
       r.0,
       subst (λ (os : List Listed). HasItem os (under k r.0)) (c.as_slice-listed.ensures.value ∙ c.self.view_is)
-          (item_dropped all c.place_of-at.result (under k r.0) (subst (λ (os : List Listed). HasItem os (under k r.0)) (take_rest all c.place_of-at.result) r.1)),
+          (item_dropped all c.place_of-at.result (under k r.0)
+          (subst (λ (os : List Listed). HasItem os (under k r.0)) (take_rest all c.place_of-at.result) r.1)),
     )

@@ -7,18 +7,24 @@ use Rattle.grant_states.proofs.GrantLemmas.{ascending_doors, door_found, door_mi
 use Rattle.grant_states.proofs.grant_table.GrantTable.by_door.Goals as goal
 
 pub place_of-at-requires : goal.place_of-at-requires
-place_of-at-requires c = ascending_doors c.as_slice-doors.result.now c.self.inside.doors.items c.self.inside.places.items c.self.inside.doors_below c.as_slice-doors.ensures.value c.self.invariant.0
+place_of-at-requires c = ascending_doors c.as_slice-doors.result.now c.self.inside.doors.items c.self.inside.places.items c.self.inside.doors_below
+    c.as_slice-doors.ensures.value c.self.invariant.0
 
 pub returns-in-Some-door_grant : goal.returns-in-Some-door_grant
 returns-in-Some-door_grant c =
     c.with_door.ensures ∙ ap (option_and_then (λ (row : GrantRow). some_if (same_text row.door c.args.value.now) row)) c.by_number.ensures
-    ∙ door_found c.as_slice-doors.result.now c.self.inside.doors.items c.self.inside.places.items c.self.inside.doors_below c.args.self.now.rows c.args.value.now c.place_of-at.result c.in-Some.serial c.in-Some-door_grant.number
-    c.as_slice-doors.ensures.value (ap (λ (s : StoredGrants). s.rows) c.self.view_is) c.self.invariant.0 c.in-Some.ensures.drawn c.place_of-at.ensures (sym c.in-Some-door_grant.is ∙ c.door_grant.ensures)
+    ∙ door_found c.as_slice-doors.result.now c.self.inside.doors.items c.self.inside.places.items c.self.inside.doors_below c.args.self.now.rows
+    c.args.value.now c.place_of-at.result c.in-Some.serial c.in-Some-door_grant.number
+    c.as_slice-doors.ensures.value (ap (λ (s : StoredGrants). s.rows) c.self.view_is) c.self.invariant.0 c.in-Some.ensures.drawn c.place_of-at.ensures
+    (sym c.in-Some-door_grant.is ∙ c.door_grant.ensures)
 
 pub returns-in-None-door_grant : goal.returns-in-None-door_grant
 returns-in-None-door_grant c =
-    door_unlisted c.as_slice-doors.result.now c.self.inside.doors.items c.self.inside.places.items c.self.inside.doors_below c.args.self.now.rows c.args.value.now c.place_of-at.result c.in-Some.serial
-    c.as_slice-doors.ensures.value (ap (λ (s : StoredGrants). s.rows) c.self.view_is) c.self.invariant.0 c.in-Some.ensures.drawn c.place_of-at.ensures (sym c.in-None-door_grant.is ∙ c.door_grant.ensures)
+    door_unlisted c.as_slice-doors.result.now c.self.inside.doors.items c.self.inside.places.items c.self.inside.doors_below c.args.self.now.rows
+    c.args.value.now c.place_of-at.result c.in-Some.serial
+    c.as_slice-doors.ensures.value (ap (λ (s : StoredGrants). s.rows) c.self.view_is) c.self.invariant.0 c.in-Some.ensures.drawn c.place_of-at.ensures
+    (sym c.in-None-door_grant.is ∙ c.door_grant.ensures)
 
 pub returns-in-None : goal.returns-in-None
-returns-in-None c = door_missing c.self.inside.places.items c.self.inside.doors.items c.self.inside.doors_below c.args.self.now.rows c.args.value.now (ap (λ (s : StoredGrants). s.rows) c.self.view_is) c.self.invariant.0 c.in-None.ensures.drawn
+returns-in-None c = door_missing c.self.inside.places.items c.self.inside.doors.items c.self.inside.doors_below c.args.self.now.rows c.args.value.now
+    (ap (λ (s : StoredGrants). s.rows) c.self.view_is) c.self.invariant.0 c.in-None.ensures.drawn

@@ -6,4 +6,5 @@ use Rattle.grant_states.proofs.GrantLemmas.{has_found}
 use Rattle.grant_states.proofs.grant_table.GrantTable.has.Goals as goal
 
 pub returns : goal.returns
-returns c = c.is_some.ensures ∙ is_some-map (λ row. row.now) c.by_number.result ∙ ap (λ (o : Option GrantRow). is_some o) c.by_number.ensures ∙ has_found c.args.number c.args.self.now.rows
+returns c = c.is_some.ensures ∙ is_some-map (λ row. row.now) c.by_number.result ∙ ap (λ (o : Option GrantRow). is_some o) c.by_number.ensures
+    ∙ has_found c.args.number c.args.self.now.rows

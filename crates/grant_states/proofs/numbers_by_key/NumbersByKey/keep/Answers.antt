@@ -6,4 +6,5 @@ use Rattle.grant_states.proofs.numbers_by_key.NumbersByKey.keep.Goals as goal
 
 pub invariant_of-self : goal.invariant_of-self
 invariant_of-self g c =
-    subst (IsNonDecreasingBy key_of) (sym c.retain.ensures.filtered.4) (picked_order key_of c.retain.ensures.filtered.0 c.self.inside.listed.items c.self.invariant)
+    subst (IsNonDecreasingBy key_of) (sym c.retain.ensures.filtered.4)
+    (picked_order key_of c.retain.ensures.filtered.0 c.self.inside.listed.items c.self.invariant)

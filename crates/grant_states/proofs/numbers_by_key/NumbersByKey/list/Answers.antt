@@ -14,11 +14,15 @@ end_of c = subst (λ (os : List Listed). IsEndOf c.args.key os c.partition_point
     (IsPartitionedBy-leb key_of c.as_slice.result.now c.args.key (subst (IsNonDecreasingBy key_of) (sym c.as_slice.ensures.value) c.self.invariant)))
 
 pub invariant_of-self : goal.invariant_of-self
-invariant_of-self c = subst (IsNonDecreasingBy key_of) (sym c.in-Ok.ensures.items) (inserted_in_order c.self.inside.listed.items c.partition_point-at.result (under c.args.key c.args.number) c.self.invariant (subst (λ (os : List Listed). c.partition_point-at.result ≤ length os) c.as_slice.ensures.value c.partition_point-at.ensures.bound) (end_of c))
+invariant_of-self c = subst (IsNonDecreasingBy key_of) (sym c.in-Ok.ensures.items)
+    (inserted_in_order c.self.inside.listed.items c.partition_point-at.result (under c.args.key c.args.number) c.self.invariant
+    (subst (λ (os : List Listed). c.partition_point-at.result ≤ length os) c.as_slice.ensures.value c.partition_point-at.ensures.bound) (end_of c))
 
 pub returns-clause-listed : goal.returns-clause-listed
-returns-clause-listed c = subst (λ (os : List Listed). HasItem os (under c.args.key c.args.number)) (sym c.in-Ok.ensures.items) (item_inserted c.self.inside.listed.items c.partition_point-at.result (under c.args.key c.args.number))
+returns-clause-listed c = subst (λ (os : List Listed). HasItem os (under c.args.key c.args.number)) (sym c.in-Ok.ensures.items)
+    (item_inserted c.self.inside.listed.items c.partition_point-at.result (under c.args.key c.args.number))
 
 pub returns-clause-kept : goal.returns-clause-kept
-returns-clause-kept c = λ one h. subst (λ (os : List Listed). HasItem os one) (sym c.in-Ok.ensures.items) (item_stays c.self.inside.listed.items c.partition_point-at.result (under c.args.key c.args.number) one
+returns-clause-kept c = λ one h. subst (λ (os : List Listed). HasItem os one) (sym c.in-Ok.ensures.items)
+    (item_stays c.self.inside.listed.items c.partition_point-at.result (under c.args.key c.args.number) one
     (subst (λ (os : List Listed). HasItem os one) (sym (ap (λ (s : ListedNumbers). s.listed) c.self.view_is)) h))

@@ -8,7 +8,11 @@ pub returns-then-is_same_code-clause-own : goal.returns-then-is_same_code-clause
 returns-then-is_same_code-clause-own c = λ n h. subst (IsCodeIn n) (c.is_same_code.ensures c.if-is_same_code.true) (c.requires.own n h)
 
 pub returns-then-is_same_code-clause-listed : goal.returns-then-is_same_code-clause-listed
-returns-then-is_same_code-clause-listed c = λ all. (all, subst (λ (o : Option Text). IfSome o (IsCodeListed c.args.self.now c.args.number)) (c.is_same_code.ensures c.if-is_same_code.true) (c.requires.was all))
+returns-then-is_same_code-clause-listed c = λ all. (
+  all,
+  subst (λ (o : Option Text). IfSome o (IsCodeListed c.args.self.now c.args.number)) (c.is_same_code.ensures c.if-is_same_code.true)
+      (c.requires.was all),
+)
 
 pub returns-clause-kept : goal.returns-clause-kept
 returns-clause-kept c = λ n other h never. c.put.ensures.kept n other (c.take.ensures.kept n other h never)

@@ -10,7 +10,8 @@ pub returns-in-Some : goal.returns-in-Some
 returns-in-Some c =
     let at : ℕ = c.args.listed / 1280000000 in
     λ number h. c.number.ensures number (subst (λ (os : List Listed). HasItem os (under c.args.listed number))
-    (got_list c.args.self.now.lists.items at c.in-Some.list.now (sym (c.in-Some.ensures ∙ ap (λ (ls : List (List Listed)). slice_get ls at) c.as_slice.ensures.value))) h)
+    (got_list c.args.self.now.lists.items at c.in-Some.list.now
+    (sym (c.in-Some.ensures ∙ ap (λ (ls : List (List Listed)). slice_get ls at) c.as_slice.ensures.value))) h)
 
 pub returns-in-None : goal.returns-in-None
 returns-in-None c =

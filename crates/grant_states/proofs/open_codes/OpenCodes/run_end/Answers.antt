@@ -10,7 +10,9 @@ pub returns-in-Some-clause-run : goal.returns-in-Some-clause-run
 returns-in-Some-clause-run c =
     let letter : ℕ = c.args.code / 1280000000 in
     let lists : List (List Listed) = c.args.self.now.lists.items in
-    let is : get_or lists letter [] ≡ c.in-Some.list.now = got_list lists letter c.in-Some.list.now (sym (c.in-Some.ensures ∙ ap (λ (ls : List (List Listed)). slice_get ls letter) c.as_slice.ensures.value)) in
+    let is : get_or lists letter []
+    ≡ c.in-Some.list.now = got_list lists letter c.in-Some.list.now
+    (sym (c.in-Some.ensures ∙ ap (λ (ls : List (List Listed)). slice_get ls letter) c.as_slice.ensures.value)) in
     λ k le lt.
     let same : letter ≡ k / 1280000000 = omega (arith, le, lt, c.min.ensures) in
     let r = c.run_end.ensures.run k le (omega (arith, lt, c.min.ensures)) in

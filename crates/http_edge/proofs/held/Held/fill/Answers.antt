@@ -50,7 +50,8 @@ returns-in-Ok-eq0-clause-arrived g c =
     start.start c.self.invariant.0 c.self.invariant.1 start.len start.bytes c.lengthen.ensures.bytes in
     let after : slice_range c.read_at.new.buffer.items s end ≡ slice_range c.lengthen.new.buffer.items s end =
     between_same c.read_at.new.buffer.items c.lengthen.new.buffer.items s end end (omega arith) c.in-Ok-eq0.ensures.front in
-    let grows = grows_end _ _ (drop end c.read_at.new.buffer.items) _ _ c.in-Ok-eq0.field-0 (after ∙ same ∙ c.self.view_is) c.in-Ok-eq0.field-0-test c.in-Ok-eq0.ensures.told in
+    let grows = grows_end _ _ (drop end c.read_at.new.buffer.items) _ _ c.in-Ok-eq0.field-0 (after ∙ same ∙ c.self.view_is) c.in-Ok-eq0.field-0-test
+    c.in-Ok-eq0.ensures.told in
     (grows.0, grows.1, c.in-Ok-eq0.ensures.cause.same)
 
 pub returns-in-Ok-clause-arrived : goal.returns-in-Ok-clause-arrived
@@ -63,7 +64,8 @@ returns-in-Ok-clause-arrived g c =
     start.start c.self.invariant.0 c.self.invariant.1 start.len start.bytes c.lengthen.ensures.bytes in
     let rest : List ℕ = drop end c.read_at.new.buffer.items in
     let behind : slice_range c.read_at.new.buffer.items s (end + c.in-Ok.count) ≡ slice_range c.lengthen.new.buffer.items s end ++ take c.in-Ok.count rest =
-    read_behind c.lengthen.new.buffer.items c.read_at.new.buffer.items s end c.in-Ok.count (omega (arith, start.start, c.self.invariant.0)) c.in-Ok.ensures.front in
+    read_behind c.lengthen.new.buffer.items c.read_at.new.buffer.items s end c.in-Ok.count (omega (arith, start.start, c.self.invariant.0))
+    c.in-Ok.ensures.front in
     let long : end + c.args.room ≤ length c.lengthen.new.buffer.items = search rules in
     let grows = grows_by _ _ rest _ _ c.in-Ok.count (behind ∙ ap (λ (t : List ℕ). t ++ take c.in-Ok.count rest) (same ∙ c.self.view_is)) c.in-Ok.ensures.told
     (omega arith)

@@ -8,7 +8,8 @@ pub invariant_of-self : goal.invariant_of-self
 invariant_of-self c = record {
   counted = let less : many_in c.take_out_over.new.keys 0 + 1 ≡ c.args.self.now.count
       = counted_over c.args.self.now.keys c.take_out_over.new.keys c.args.key.now c.args.nonce.now c.args.latest c.args.self.now.count
-      c.take_out_over.result true c.take_out_over.ensures.over c.if-take_out_over.true c.args.self.now.counted c.take_out_over.ensures.counts in omega (arith, less);
+      c.take_out_over.result true c.take_out_over.ensures.over c.if-take_out_over.true c.args.self.now.counted c.take_out_over.ensures.counts in omega
+      (arith, less);
   ordered = ∥∥₁_elim c.args.self.now.ordered ∥∥₁_prop (λ ordered. ∣ c.take_out_over.ensures.ordered ordered ∣₁);
 }
 
@@ -16,6 +17,7 @@ pub invariant_of-self-else-take_out_over : goal.invariant_of-self-else-take_out_
 invariant_of-self-else-take_out_over c = record {
   counted = let less : many_in c.take_out_over.new.keys 0 + 0 ≡ c.args.self.now.count
       = counted_over c.args.self.now.keys c.take_out_over.new.keys c.args.key.now c.args.nonce.now c.args.latest c.args.self.now.count
-      c.take_out_over.result false c.take_out_over.ensures.over c.if-take_out_over.false c.args.self.now.counted c.take_out_over.ensures.counts in omega (arith, less);
+      c.take_out_over.result false c.take_out_over.ensures.over c.if-take_out_over.false c.args.self.now.counted c.take_out_over.ensures.counts in omega
+      (arith, less);
   ordered = ∥∥₁_elim c.args.self.now.ordered ∥∥₁_prop (λ ordered. ∣ c.take_out_over.ensures.ordered ordered ∣₁);
 }

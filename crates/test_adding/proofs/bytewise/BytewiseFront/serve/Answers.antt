@@ -27,5 +27,6 @@ returns-clause-home g c =
 
 pub returns-clause-serves : goal.returns-clause-serves
 returns-clause-serves g c h seen =
-    served-at-desk g.D.Desk.rules g.D.Desk.number g.D.Desk.home g.D.Desk.seen _ byte_wire (IsByteTurn c.args.self.now.start) _ _ _ _ _ _ c.serve_connection.ensures
+    served-at-desk g.D.Desk.rules g.D.Desk.number g.D.Desk.home g.D.Desk.seen _ byte_wire (IsByteTurn c.args.self.now.start) _ _ _ _ _ _
+    c.serve_connection.ensures
     (IsByteSession c.args.self.now.start) (λ turns is. (c.serve_connection.result, is)) h seen

@@ -10,6 +10,7 @@ drop_missing-requires c = ascending_slice c.as_slice.result.now c.self.inside.pl
 pub invariant_of-self : goal.invariant_of-self
 invariant_of-self c = (
   c.self.invariant.0,
-  subst (λ (os : List Listed). AreListed os c.self.inside.places.items) (sym c.drop_missing.ensures) (listed_still c.self.inside.serials.listed c.as_slice.result.now c.self.inside.places.items c.as_slice.ensures.value c.self.invariant.1),
+  subst (λ (os : List Listed). AreListed os c.self.inside.places.items) (sym c.drop_missing.ensures)
+      (listed_still c.self.inside.serials.listed c.as_slice.result.now c.self.inside.places.items c.as_slice.ensures.value c.self.invariant.1),
   c.self.invariant.2,
 )

@@ -12,12 +12,16 @@ place-at-requires g c = ascending_slice c.as_slice-places.result.now c.self.insi
 pub returns-in-Some-clause-row : goal.returns-in-Some-clause-row
 returns-in-Some-clause-row g c =
     c.with_manage.ensures ∙ ap (option_and_then (λ (row : TokenRow). some_if (same_text row.manage c.args.value.now) row)) c.row_at.ensures
-    ∙ manage_found c.as_slice-places.result.now c.self.inside.places.items c.args.self.now.rows c.args.value.now c.place-at.result c.in-Some.serial c.saturating_sub.result c.as_slice-places.ensures.value (ap (λ (s : StoredTokens). s.rows) c.self.view_is) c.self.invariant.0 c.in-Some.ensures.drawn c.saturating_sub.ensures c.place-at.ensures.place
+    ∙ manage_found c.as_slice-places.result.now c.self.inside.places.items c.args.self.now.rows c.args.value.now c.place-at.result c.in-Some.serial
+    c.saturating_sub.result c.as_slice-places.ensures.value (ap (λ (s : StoredTokens). s.rows) c.self.view_is) c.self.invariant.0 c.in-Some.ensures.drawn
+    c.saturating_sub.ensures c.place-at.ensures.place
 
 pub returns-in-Some-clause-cost : goal.returns-in-Some-clause-cost
 returns-in-Some-clause-cost g c =
-    let n = count_same c.as_slice-places.result.now c.self.inside.places.items c.args.self.now.rows c.as_slice-places.ensures.value (ap (λ (s : StoredTokens). s.rows) c.self.view_is) in
+    let n = count_same c.as_slice-places.result.now c.self.inside.places.items c.args.self.now.rows c.as_slice-places.ensures.value
+    (ap (λ (s : StoredTokens). s.rows) c.self.view_is) in
     omega (arith, n, c.place-at.ensures.cost)
 
 pub returns-in-None-clause-row : goal.returns-in-None-clause-row
-returns-in-None-clause-row g c = manage_missing c.self.inside.places.items c.args.self.now.rows c.args.value.now (ap (λ (s : StoredTokens). s.rows) c.self.view_is) c.self.invariant.0 c.in-None.ensures.drawn
+returns-in-None-clause-row g c = manage_missing c.self.inside.places.items c.args.self.now.rows c.args.value.now
+    (ap (λ (s : StoredTokens). s.rows) c.self.view_is) c.self.invariant.0 c.in-None.ensures.drawn

@@ -16,7 +16,8 @@ lasting_without-requires-clause-order c = place_pairs c.as_slice-places.result.n
 
 pub lasting_without-requires-clause-counted : goal.lasting_without-requires-clause-counted
 lasting_without-requires-clause-counted c =
-    c.lasting_at.ensures ∙ sym (lasting_counted c.as_slice-places.result.now c.args.self.now.rows c.args.moment (view (goal.at.lasting_without-requires-clause-counted c).After-as_slice-places))
+    c.lasting_at.ensures ∙ sym (lasting_counted c.as_slice-places.result.now c.args.self.now.rows c.args.moment
+    (view (goal.at.lasting_without-requires-clause-counted c).After-as_slice-places))
 
 pub returns-in-Some : goal.returns-in-Some
 returns-in-Some c =

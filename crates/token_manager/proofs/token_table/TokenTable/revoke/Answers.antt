@@ -11,24 +11,30 @@ place_of-at-requires c = ascending_slice c.as_slice.result.now c.self.inside.pla
 
 pub invariant_of-self : goal.invariant_of-self
 invariant_of-self c = (
-  marked_places c.as_slice.result.now c.self.inside.places.items c.place_of-at.result c.args.serial c.index_mut.result.now c.mark.new.place c.as_slice.ensures.value c.self.invariant.0 c.place_of-at.ensures
+  marked_places c.as_slice.result.now c.self.inside.places.items c.place_of-at.result c.args.serial c.index_mut.result.now c.mark.new.place
+      c.as_slice.ensures.value c.self.invariant.0 c.place_of-at.ensures
       (omega (arith, c.if-at-len.true, c.len.ensures)) c.index_mut.ensures.value c.mark.ensures,
-  listed_marked c.self.inside.serials.listed c.self.inside.places.items c.place_of-at.result c.args.serial c.index_mut.result.now c.mark.new.place c.self.invariant.1 (omega (arith, c.if-at-len.true, c.len.ensures)) c.index_mut.ensures.value c.mark.ensures,
+  listed_marked c.self.inside.serials.listed c.self.inside.places.items c.place_of-at.result c.args.serial c.index_mut.result.now c.mark.new.place
+      c.self.invariant.1 (omega (arith, c.if-at-len.true, c.len.ensures)) c.index_mut.ensures.value c.mark.ensures,
   (let places = c.self.inside.places.items in
       let at = c.place_of-at.result in
       let inside : at < length places = omega (arith, c.if-at-len.true, c.len.ensures) in
       let one : TokenPlace → ℕ = λ (p : TokenPlace). one_if (is_lasting c.self.inside.swept p) in
-      (lasting_set places at c.self.inside.swept c.self.inside.lasting c.one_lasting-before.result c.one_lasting-after.result c.index_mut.result.now c.mark.new.place inside c.index_mut.ensures.value c.self.invariant.2
+      (lasting_set places at c.self.inside.swept c.self.inside.lasting c.one_lasting-before.result c.one_lasting-after.result c.index_mut.result.now
+      c.mark.new.place inside c.index_mut.ensures.value c.self.invariant.2
       (c.one_lasting-before.ensures ∙ ap one (same_place places at c.index.result.now c.index_mut.result.now inside c.index.ensures c.index_mut.ensures.value))
-      (c.one_lasting-after.ensures ∙ ap one (c.index-then-at-len.ensures ∙ get_or-set_same places at c.mark.new.place c.index-then-at-len.result.now inside))).1),
+      (c.one_lasting-after.ensures ∙ ap one
+      (c.index-then-at-len.ensures ∙ get_or-set_same places at c.mark.new.place c.index-then-at-len.result.now inside))).1),
 )
 
 pub returns-then-at-len-clause-rows : goal.returns-then-at-len-clause-rows
 returns-then-at-len-clause-rows c =
-    place_marked c.as_slice.result.now c.self.inside.places.items c.args.self.now.rows c.place_of-at.result c.args.serial c.index_mut.result.now c.mark.new.place c.as_slice.ensures.value (ap (λ (s : StoredTokens). s.rows) c.self.view_is) c.self.invariant.0 c.place_of-at.ensures
+    place_marked c.as_slice.result.now c.self.inside.places.items c.args.self.now.rows c.place_of-at.result c.args.serial c.index_mut.result.now
+    c.mark.new.place c.as_slice.ensures.value (ap (λ (s : StoredTokens). s.rows) c.self.view_is) c.self.invariant.0 c.place_of-at.ensures
     (omega (arith, c.if-at-len.true, c.len.ensures)) c.index_mut.ensures.value c.mark.ensures
 
 pub returns-else-at-len-clause-rows : goal.returns-else-at-len-clause-rows
 returns-else-at-len-clause-rows c =
-    place_past c.as_slice.result.now c.self.inside.places.items c.args.self.now.rows c.place_of-at.result c.args.serial c.as_slice.ensures.value (ap (λ (s : StoredTokens). s.rows) c.self.view_is) c.self.invariant.0 c.place_of-at.ensures
+    place_past c.as_slice.result.now c.self.inside.places.items c.args.self.now.rows c.place_of-at.result c.args.serial c.as_slice.ensures.value
+    (ap (λ (s : StoredTokens). s.rows) c.self.view_is) c.self.invariant.0 c.place_of-at.ensures
     (omega (arith, c.if-at-len.false, c.len.ensures))

@@ -1,7 +1,0 @@
-use Rattle.std.specs.Prelude.{All}
-use Rattle.gnap_io.specs.Gears.{IsUnused}
-use Rattle.gnap_io.specs.MemoryForms.{gear_state}
-use Rattle.test_worlds.proofs.world.gears.Given as goal
-
-abbrev pub invariant-loop-given : goal.invariant-loop-given
-invariant-loop-given l = All (λ gear. IsUnused (gear_state gear)) l.gears.items
