@@ -5,7 +5,7 @@ pub returns : goal.returns
 unfolding right_members
 returns c =
     c.value.ensures _
-    (c.with.ensures _ _ c.text_value.ensures
+    (c.with.ensures _ _ (rw c.as_slice.ensures.value at c.text_value.ensures)
     (c.with_optional-5.ensures _ _ c.dimension_value-4.ensures
     (c.with_optional-4.ensures _ _ c.dimension_value-3.ensures
     (c.with_optional-3.ensures _ _ c.dimension_value-2.ensures
