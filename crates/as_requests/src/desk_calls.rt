@@ -20,7 +20,7 @@ use signed_calls::signed::{Mark, Signed};
 use std::alloc::Global;
 
 /// An answer that needs no state.
-#[derive(Clone, Copy, Debug, PartialEq, Eq)]
+#[derive(Clone, Copy)]
 pub enum DirectAnswer {
     /// Nothing has the path: 404.
     NotFound,
