@@ -114,7 +114,11 @@ pub fn script_line<L: Link>(
     ensures { HasScriptTurn number line.now client.old client.new (L.link link.old).asked (L.link link.new).asked result }
 {
     match read_line(alloc, number, line) {
-        Ok(step) => step_said(alloc, client, link, &step),
+        Ok(step) => {
+            let said = step_said(alloc, client, link, &step);
+            drop(step);
+            said
+        }
         Err(fault) => unread_said(alloc, &fault),
     }
 }
