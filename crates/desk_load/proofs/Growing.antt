@@ -1,5 +1,5 @@
 -- What a desk has seen, call by call.
-use Rattle.std.proofs.Common.{◌≡◌, ◌∙◌, ℕ, zero, suc, ◌+◌, ◌<◌, ◌≤◌, ◌^◌, Bool, true, false, List, [], ◌∷◌, ◌++◌, map, length, length-append, refl, ap, sym, subst, arith, append_assoc}
+use Rattle.std.proofs.Common.{◌≡◌, ◌∙◌, ℕ, zero, suc, ◌+◌, ◌<◌, ◌≤◌, ◌^◌, Bool, false, List, [], ◌∷◌, ◌++◌, map, length, length-append, refl, ap, sym, subst, arith, append_assoc}
 use Rattle.std.proofs.lemmas.List.{append-nil}
 use Rattle.std.specs.Prelude.{All, ◌%◌, ◌==◌, Some, Result, Ok, Err, IfOk}
 use Rattle.histories.specs.History.{entry_of, places}
@@ -10,7 +10,6 @@ use Rattle.gnap_model.specs.declared.calls.Reply.{Reply}
 use Rattle.gnap_model.specs.declared.objects.Setup.{Setup}
 use Rattle.signed_calls.specs.declared.signed.Signed.{Signed}
 use Rattle.grant_machine.specs.Gnap.{gnap, GnapEntry}
-use Rattle.rand_chacha.specs.ChaCha.{ChaCha}
 use Rattle.desk_load.specs.declared.progress.Progress.{Progress}
 use Rattle.desk_load.specs.declared.tally.Tally.{Tally}
 use Rattle.desk_load.specs.LoadCalls.{load_moment, marked, opening_place, rotation_place, opening_call, rotation_of, calls_rotated, calls_opened, calls_through}
