@@ -12,7 +12,7 @@ use Rattle.command_words.specs.declared.wrong_words.WordForm.{WordForm}
 use Rattle.command_words.specs.declared.wrong_words.WordForm.TheVariants as forms
 use Rattle.command_words.specs.declared.wrong_words.WrongWords.{WrongWords}
 use Rattle.command_words.specs.declared.wrong_words.WrongWords.TheVariants.{NoCommand, Count, Word, OutOfMemory}
-use Rattle.command_words.specs.Commands.{AreRead, AreWrong, is_of, replay_of, field_of, with_three, with_four, four_or_five, sign_words, verify_words, is_argument, served_setup, sets_words, grants_service, as_words, rs_words, client_words, hash_of, load_words, counts_of, count_among, command_named}
+use Rattle.command_words.specs.Commands.{AreRead, AreWrong, is_of, replay_of, field_of, with_three, with_four, four_or_five, sign_words, verify_words, served_setup, sets_words, grants_service, as_words, rs_words, client_words, hash_of, load_words, counts_of, count_among, command_named}
 
 no_replay : (words : List (List ℕ)) → exactly 1 words ≡ None → replay_of words ≡ None
 no_replay [] is = refl

@@ -1,6 +1,6 @@
 use Rattle.std.specs.Prelude.{option_to_list, option_copied}
 use Rattle.std.proofs.lemmas.Result.{err_from_is_err_and}
-use Rattle.command_words.proofs.WordCounts.{as_wrong, pairs_wrong, as_right}
+use Rattle.command_words.proofs.WordCounts.{as_wrong, as_right}
 use Rattle.command_words.proofs.command.as_of.Goals as goal
 
 pub returns-in_err-served-clause-read : goal.returns-in_err-served-clause-read
