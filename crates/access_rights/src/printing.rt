@@ -1,6 +1,7 @@
 //! Rights as JSON (RFC 9635, section 8).
 ghost use Rattle.std.specs.Prelude.{◌≡◌, ◌++◌, IfOk, OnOk, OnErr, length, option_map, map, take};
 ghost use Rattle.std.specs.List.{AllByRecursion};
+ghost use Rattle.serde_json.specs.Data.{object};
 ghost use Rattle.serde_json.specs.Read.{read};
 ghost use Rattle.serde_json.specs.View.{view, members_view};
 ghost use Rattle.json_objects.specs.Objects.{texts_data};
@@ -11,7 +12,7 @@ ghost use Rattle.access_rights.specs.Printing.{members_read, right_members, righ
 use bytes_and_lists::bytes::Bytes;
 use bytes_and_lists::memory::Mem;
 use gnap_model::rights::{Right, RightObject, Rights, Texts};
-use json_objects::{optional_value, put, text_value, texts_value};
+use json_objects::{Draft, optional_value, text_value, texts_value};
 use serde_json::{Map, Value};
 use std::alloc::Global;
 
@@ -44,24 +45,18 @@ fn further_members(alloc: Global, text: &Bytes) -> Result<Map<String, Value>, Me
 }
 
 #[tactic(auto, unfolding(crate::specs::Printing::right_members))]
-fn object_value(alloc: Global, right: &RightObject) -> Result<Map<String, Value>, Mem>
+fn object_value(alloc: Global, right: &RightObject) -> Result<Value, Mem>
     requires { FitsObject right.now }
-    ensures { IfOk result (λ m. members_view m.entries ≡ right_members right.now) }
+    ensures { IfOk result (λ v. view v ≡ object (right_members right.now)) }
 {
-    let mut map = further_members(alloc, &right.further)?;
-    let identifier = optional_value(alloc, &right.identifier)?;
-    put(&mut map, alloc, "identifier", identifier)?;
-    let privileges = dimension_value(alloc, &right.privileges)?;
-    put(&mut map, alloc, "privileges", privileges)?;
-    let datatypes = dimension_value(alloc, &right.datatypes)?;
-    put(&mut map, alloc, "datatypes", datatypes)?;
-    let locations = dimension_value(alloc, &right.locations)?;
-    put(&mut map, alloc, "locations", locations)?;
-    let actions = dimension_value(alloc, &right.actions)?;
-    put(&mut map, alloc, "actions", actions)?;
-    let kind = text_value(alloc, right.kind.as_slice())?;
-    put(&mut map, alloc, "type", Some(kind))?;
-    Ok(map)
+    Draft::over(alloc, further_members(alloc, &right.further))
+        .with_optional("identifier", optional_value(alloc, &right.identifier))
+        .with_optional("privileges", dimension_value(alloc, &right.privileges))
+        .with_optional("datatypes", dimension_value(alloc, &right.datatypes))
+        .with_optional("locations", dimension_value(alloc, &right.locations))
+        .with_optional("actions", dimension_value(alloc, &right.actions))
+        .with("type", text_value(alloc, right.kind.as_slice()))
+        .value()
 }
 
 fn right_value(alloc: Global, right: &Right) -> Result<Value, Mem>
@@ -70,7 +65,7 @@ fn right_value(alloc: Global, right: &Right) -> Result<Value, Mem>
 {
     match right {
         Right::Reference(text) => text_value(alloc, text.as_slice()),
-        Right::Object(right) => Ok(Value::Object(object_value(alloc, right)?)),
+        Right::Object(right) => object_value(alloc, right),
     }
 }
 

@@ -20,7 +20,7 @@ use signed_calls::signed::{Mark, Signed};
 use std::alloc::Global;
 
 /// An answer that needs no state.
-#[derive(Clone, Copy, Debug, PartialEq, Eq)]
+#[derive(Clone, Copy)]
 pub enum DirectAnswer {
     /// Nothing has the path: 404.
     NotFound,
@@ -119,11 +119,18 @@ fn rotation_step(
     match step {
         RequestStep::Direct(answer) => Ok(RequestStep::Direct(answer)),
         RequestStep::Ask(signed) => {
-            if is_signed_by_named(alloc, edge, message, moment, &signed.call)? {
-                Ok(RequestStep::Ask(signed))
-            } else {
-                let refusal = DirectAnswer::Error(ErrorCode::InvalidClient);
-                Ok(RequestStep::Direct(refusal))
+            // An exit that lets a call go writes its drop out, for each kind of call: `drop` is one call.
+            match is_signed_by_named(alloc, edge, message, moment, &signed.call) {
+                Ok(true) => Ok(RequestStep::Ask(signed)),
+                Ok(false) => {
+                    drop(signed);
+                    let refusal = DirectAnswer::Error(ErrorCode::InvalidClient);
+                    Ok(RequestStep::Direct(refusal))
+                }
+                Err(Mem) => {
+                    drop(signed);
+                    Err(Mem)
+                }
             }
         }
     }

@@ -1,12 +1,14 @@
 //! The routes of the authorization server, and what their methods are for.
-ghost use Rattle.std.specs.Prelude.{◌≡◌};
+ghost use Rattle.std.specs.Prelude.{◌≡◌, Some, if◌then◌else◌, codes};
+ghost use Rattle.std.specs.Str.{bytes_eq};
 ghost use Rattle.structured_fields.specs.Named.{value_at};
-ghost use Rattle.as_requests.specs.Routes.{route_at, posts, methods_of, allowed_methods};
+ghost use Rattle.as_requests.specs.declared.routes.Purpose.TheVariants as purpose;
+ghost use Rattle.as_requests.specs.Routes.{route_at, methods_of, allowed_methods};
 
 use gnap_objects::CallKind;
 
 /// What is served, each at a path of its own.
-#[derive(Clone, Copy, Debug, PartialEq, Eq)]
+#[derive(Clone, Copy)]
 pub enum Route {
     /// `/gnap`, where grants are asked for (RFC 9635, section 2).
     Grants,
@@ -27,7 +29,7 @@ pub enum Route {
 }
 
 /// What a method of a route is for.
-#[derive(Clone, Copy, Debug, PartialEq, Eq)]
+#[derive(Clone, Copy)]
 pub enum Purpose {
     /// A call of the machine. It has to be signed.
     Calls(CallKind),
@@ -37,15 +39,22 @@ pub enum Purpose {
     RsDiscovery,
 }
 
-// What a method is for where `POST` alone is there, for this call.
-fn posted(method: &[u8], kind: CallKind) -> Option<Purpose>
-    ensures { result ≡ value_at (posts kind) method.now }
+// What a method is for where this one is there, and else what it is for among the others.
+fn named(method: &[u8], name: &[u8], purpose: Purpose, others: Option<Purpose>) -> Option<Purpose>
+    ensures { result ≡ (if bytes_eq method.now name.now then Some purpose else others) }
 {
-    if method == b"POST".as_slice() {
-        Some(Purpose::Calls(kind))
+    if method == name {
+        Some(purpose)
     } else {
-        None
+        others
     }
+}
+
+// What a method is for where `POST` is there for this call, and else what it is for among the others.
+fn posted(method: &[u8], kind: CallKind, others: Option<Purpose>) -> Option<Purpose>
+    ensures { result ≡ (if bytes_eq method.now (codes "POST") then Some (purpose.Calls kind) else others) }
+{
+    named(method, b"POST", Purpose::Calls(kind), others)
 }
 
 impl Route {
@@ -79,38 +88,24 @@ impl Route {
         ensures { result ≡ value_at (methods_of self) method.now }
     {
         match self {
-            Route::Grants => if method == b"POST".as_slice() {
-                Some(Purpose::Calls(CallKind::Begin))
-            } else if method == b"OPTIONS".as_slice() {
-                Some(Purpose::Discovery)
-            } else {
-                None
-            },
-            Route::Continuation => if method == b"POST".as_slice() {
-                Some(Purpose::Calls(CallKind::Continue))
-            } else if method == b"PATCH".as_slice() {
-                Some(Purpose::Calls(CallKind::Modify))
-            } else if method == b"DELETE".as_slice() {
-                Some(Purpose::Calls(CallKind::Cancel))
-            } else {
-                None
-            },
-            Route::TokenManagement => if method == b"POST".as_slice() {
-                Some(Purpose::Calls(CallKind::Rotate))
-            } else if method == b"DELETE".as_slice() {
-                Some(Purpose::Calls(CallKind::Revoke))
-            } else {
-                None
-            },
-            Route::Introspection => posted(method, CallKind::Introspect),
-            Route::FrontLook => posted(method, CallKind::Look),
-            Route::FrontCode => posted(method, CallKind::FindCode),
-            Route::FrontDecide => posted(method, CallKind::Decide),
-            Route::RsDiscovery => if method == b"GET".as_slice() {
-                Some(Purpose::RsDiscovery)
-            } else {
-                None
-            },
+            Route::Grants => {
+                let options = named(method, b"OPTIONS", Purpose::Discovery, None);
+                posted(method, CallKind::Begin, options)
+            }
+            Route::Continuation => {
+                let delete = named(method, b"DELETE", Purpose::Calls(CallKind::Cancel), None);
+                let patch = named(method, b"PATCH", Purpose::Calls(CallKind::Modify), delete);
+                posted(method, CallKind::Continue, patch)
+            }
+            Route::TokenManagement => {
+                let delete = named(method, b"DELETE", Purpose::Calls(CallKind::Revoke), None);
+                posted(method, CallKind::Rotate, delete)
+            }
+            Route::Introspection => posted(method, CallKind::Introspect, None),
+            Route::FrontLook => posted(method, CallKind::Look, None),
+            Route::FrontCode => posted(method, CallKind::FindCode, None),
+            Route::FrontDecide => posted(method, CallKind::Decide, None),
+            Route::RsDiscovery => named(method, b"GET", Purpose::RsDiscovery, None),
         }
     }
 

@@ -40,10 +40,14 @@ pub fn answer_line<D: Desk<M = Gnap>, O: Sink>(
         Ok(LineStep::Say(text)) => say(out, &text),
         Ok(LineStep::Ask(moment, draw, signed)) => match desk.submit(moment, &draw, signed) {
             Err(Mem) => After::Starved,
-            Ok(reply) => match reply_line(alloc, setup, &reply) {
-                Err(Mem) => After::Starved,
-                Ok(text) => say(out, &text),
-            },
+            Ok(reply) => {
+                let text = reply_line(alloc, setup, &reply);
+                drop(reply);
+                match text {
+                    Err(Mem) => After::Starved,
+                    Ok(text) => say(out, &text),
+                }
+            }
         },
     }
 }

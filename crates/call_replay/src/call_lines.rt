@@ -178,10 +178,13 @@ fn call_step(
         presented.as_bytes(),
         body,
     )? {
-        CallOrRefusal::Accepted(call) => {
-            let mark = mark_for(alloc, kind, fields)?;
-            Ok(LineStep::Ask(fields.at, draw, Signed { mark, call }))
-        }
+        CallOrRefusal::Accepted(call) => match mark_for(alloc, kind, fields) {
+            Ok(mark) => Ok(LineStep::Ask(fields.at, draw, Signed { mark, call })),
+            Err(Mem) => {
+                drop(call);
+                Err(Mem)
+            }
+        },
         CallOrRefusal::Refused(code) => refused(alloc, code),
     }
 }

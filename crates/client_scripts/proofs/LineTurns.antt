@@ -1,6 +1,7 @@
 -- One line's turn, put together.
-use Rattle.std.proofs.Common.{◌≡◌, ◌∙◌, ℕ, List, [], ◌++◌, Bool, true, false, sym, ap, subst, append-nil}
-use Rattle.std.specs.Prelude.{Some, None, Result, Ok, Err, ◌≢◌}
+use Rattle.std.proofs.Common.{◌≡◌, ◌⊎◌, inl, inr, ◌∙◌, ℕ, List, [], ◌++◌, Bool, true, false, refl, sym, ap, subst, append-nil}
+use Rattle.std.specs.Prelude.{Option, Some, None, IfSome, Result, Ok, Err, ◌≢◌}
+use Rattle.json_objects.specs.Reading.{Fails}
 use Rattle.gnap_io.specs.Links.{Exchange, LinkState, Exchanges}
 use Rattle.gnap_io.specs.declared.link.LinkFault.{LinkFault}
 use Rattle.gnap_io.specs.declared.link.LinkFault.TheVariants as link_faults
@@ -11,6 +12,7 @@ use Rattle.gnap_client.specs.declared.client.ClientFault.TheVariants as faults
 use Rattle.client_scripts.specs.declared.deeds.ScriptStep.{ScriptStep}
 use Rattle.client_scripts.specs.declared.line_faults.BadLine.{BadLine}
 use Rattle.client_scripts.specs.declared.line_faults.LineFault.{LineFault}
+use Rattle.client_scripts.specs.declared.turns.LineSaid.{LineSaid}
 use Rattle.client_scripts.specs.Deeds.{Called, said_line, is_fine, bad_line}
 use Rattle.client_scripts.specs.Lines.{line_step}
 use Rattle.client_scripts.specs.Carrying.{CarriesStep, unasked, sent}
@@ -32,6 +34,16 @@ bad_turn number line text c asked why none is = rw is (record { at = 0; exchange
 
 pub starved_turn : (number : ℕ) (line : List ℕ) (c : Client) (asked : List Exchange) → HasScriptTurn number line c c asked asked None
 starved_turn number line c asked = record { at = 0; exchanges = []; turn = turns.starved line 0 c; adds = sym (append-nil asked) }
+
+-- a line that can't be carried out was told to be none, or memory ran out
+pub unread_turn : (number : ℕ) (line : List ℕ) (c : Client) (asked : List Exchange) (fault : LineFault) (said : Option LineSaid)
+    → Fails LineFault.OutOfMemory fault (line_step number line)
+    → IfSome said (λ s. (why : BadLine) × (fault ≡ LineFault.BadLine why) × (s ≡ record { text = bad_line; fine = false }))
+    → HasScriptTurn number line c c asked asked said
+unread_turn number line c asked fault None fails is = starved_turn number line c asked
+unread_turn number line c asked fault (Some said) (inl memory) is = absurd (cc)
+unread_turn number line c asked fault (Some said) (inr reads) is =
+    rw is.2 (bad_turn number line bad_line c asked is.0 (reads ∙ ap Err is.1) refl)
 
 not_memory : (fault : ClientFault) → is_memory (Err fault) ≡ false → fault ≢ faults.OutOfMemory
 not_memory fault some e = let both : true ≡ false = sym (ap (λ (f : ClientFault). is_memory (Err f)) e) ∙ some in absurd (cc)
@@ -76,3 +88,10 @@ module _ (number : ℕ) (line : List ℕ) (step : ScriptStep) (before after : Li
     turn = turns.starved_later line step says old between new request called sends.answer answer sends.takes;
     adds = adds_exchange request before after sends.answer sends.exchanges;
   }
+
+  pub answer_turn : (answer : Result Took ClientFault) (said : Option LineSaid) → CarriesStep step before after old new answer
+      → IfSome said (λ s. (is_memory answer ≡ false)
+      × (s ≡ record { text = said_line step.deed new.received.state answer; fine = is_fine answer }))
+      → HasScriptTurn number line old new before.asked after.asked said
+  answer_turn answer None carries is = unsaid_turn answer carries
+  answer_turn answer (Some said) carries is = rw is.1 (said_turn answer _ _ carries is.0 refl refl)

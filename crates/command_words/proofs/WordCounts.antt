@@ -1,17 +1,18 @@
 -- Words that aren't as many as a command takes, and words that are.
-use Rattle.std.proofs.Common.{◌≡◌, ℕ, List, [], ◌∷◌, length, Bool, true, false, Option, Some, None, Result, ◌∙◌, refl, ap, sym, subst}
-use Rattle.std.specs.Prelude.{◌==◌, codes, option_map, if◌then◌else◌}
-use Rattle.std.specs.Option.{option_or}
+use Rattle.std.proofs.Common.{◌≡◌, ℕ, List, [], ◌∷◌, length, Bool, true, false, Option, Some, None, Result, Ok, Err, ◌∙◌, ◌⊎◌, inl, inr, refl, ap, sym, subst}
+use Rattle.std.specs.Prelude.{◌==◌, codes, option_map, option_and_then, option_to_list, slice_get, if◌then◌else◌}
 use Rattle.std.specs.Str.{bytes_eq}
 use Rattle.command_words.specs.Positionals.{exactly}
 use Rattle.command_words.specs.declared.command.Command.{Command}
 use Rattle.command_words.specs.declared.command.Command.TheVariants.{Serve}
 use Rattle.command_words.specs.declared.command.Service.{Service}
-use Rattle.command_words.specs.declared.command.Service.TheVariants.{Grants, Derivations, Sets}
+use Rattle.command_words.specs.declared.command.Service.TheVariants.{Sets}
 use Rattle.command_words.specs.declared.command.ServedSetup.{ServedSetup}
+use Rattle.command_words.specs.declared.wrong_words.WordForm.{WordForm}
+use Rattle.command_words.specs.declared.wrong_words.WordForm.TheVariants as forms
 use Rattle.command_words.specs.declared.wrong_words.WrongWords.{WrongWords}
 use Rattle.command_words.specs.declared.wrong_words.WrongWords.TheVariants.{NoCommand, Count, Word, OutOfMemory}
-use Rattle.command_words.specs.Commands.{AreRead, AreWrong, replay_of, field_of, with_three, with_four, with_five, sign_words, marked_sign_words, sign_of, verify_words, is_argument, served_setup, service_words, deriving_words, as_of, rs_words, cached_rs_words, rs_of, client_words, hash_of, load_words, counts_of, count_among, command_named}
+use Rattle.command_words.specs.Commands.{AreRead, AreWrong, is_of, replay_of, field_of, with_three, with_four, four_or_five, sign_words, verify_words, served_setup, sets_words, grants_service, as_words, rs_words, client_words, hash_of, load_words, counts_of, count_among, command_named}
 
 no_replay : (words : List (List ℕ)) → exactly 1 words ≡ None → replay_of words ≡ None
 no_replay [] is = refl
@@ -30,10 +31,6 @@ not_three f (a ∷ []) is = refl
 not_three f (a ∷ b ∷ []) is = refl
 not_three f (a ∷ b ∷ c ∷ []) is = cc
 not_three f (a ∷ b ∷ c ∷ d ∷ words) is = refl
-
-or_none : (reading : Option Command) → option_or reading None ≡ reading
-or_none None = refl
-or_none (Some command) = refl
 
 not_four : (f : List ℕ → List ℕ → List ℕ → List ℕ → Option Command) (words : List (List ℕ)) → exactly 4 words ≡ None → with_four f words ≡ None
 not_four f [] is = refl
@@ -83,36 +80,32 @@ at n least most words is none =
     subst (λ m. exactly m words ≡ None) (one_count n (length words == n)) (same_counts n n least most words is none)
 
 -- four words, or five
-module _ (five : List ℕ → List ℕ → List ℕ → List ℕ → List ℕ → Option Command) (four : List ℕ → List ℕ → List ℕ → List ℕ → Option Command) where
-  abbrev either : List (List ℕ) → Option Command
-  either words = option_or (with_five five words) (with_four four words)
-
-  by_five : (result : Result Command WrongWords) (words : List (List ℕ)) (a b c d e : List ℕ) → words ≡ a ∷ b ∷ c ∷ d ∷ e ∷ []
-      → AreRead result words (with_five five words) → AreRead result words (either words)
-  by_five result words a b c d e is read =
-      let plain : with_four four words ≡ None = ap (with_four four) is in
-      let same : either words ≡ with_five five words = ap (option_or (with_five five words)) plain ∙ or_none (with_five five words) in
-      subst (AreRead result words) (sym same) read
-
-  by_four : (result : Result Command WrongWords) (words : List (List ℕ))
-      → ((f : List ℕ → List ℕ → List ℕ → List ℕ → List ℕ → Option Command) → with_five f words ≡ None)
-      → AreRead result words (with_four four words) → AreRead result words (either words)
-  by_four result words none read =
-      let same : either words ≡ with_four four words = ap (λ r. option_or r (with_four four words)) (none five) in
-      subst (AreRead result words) (sym same) read
-
-  neither : (words : List (List ℕ)) → exactly (count_among 4 5 (length words)) words ≡ None → either words ≡ None
+module _ (f : List ℕ → List ℕ → List ℕ → List ℕ → Option (List ℕ) → Option Command) where
+  neither : (words : List (List ℕ)) → exactly (count_among 4 5 (length words)) words ≡ None → four_or_five f words ≡ None
   neither [] is = refl
   neither (a ∷ []) is = refl
   neither (a ∷ b ∷ []) is = refl
   neither (a ∷ b ∷ c ∷ []) is = refl
   neither (a ∷ b ∷ c ∷ d ∷ []) is = cc
   neither (a ∷ b ∷ c ∷ d ∷ e ∷ []) is = cc
-  neither (a ∷ b ∷ c ∷ d ∷ e ∷ f ∷ words) is = refl
+  neither (a ∷ b ∷ c ∷ d ∷ e ∷ g ∷ words) is = refl
 
   either_miscount : (least most : ℕ) (words : List (List ℕ)) → ◌≡◌ {A = Option (ℕ × ℕ)} (Some (4, 5)) (Some (least, most))
-      → IsMiscount least most words → either words ≡ None
+      → IsMiscount least most words → four_or_five f words ≡ None
   either_miscount least most words is none = neither words (same_counts 4 5 least most words is none)
+
+  -- what they are read as
+  pub of_four_or_five : (result : Result Command WrongWords) (words : List (List ℕ)) (a b c d : List ℕ) (last : Option (List ℕ))
+      → words ≡ a ∷ b ∷ c ∷ d ∷ option_to_list last → AreRead result (a ∷ b ∷ c ∷ d ∷ option_to_list last) (f a b c d last)
+      → AreRead result words (four_or_five f words)
+  of_four_or_five result words a b c d None is read = subst (λ ws. AreRead result ws (four_or_five f ws)) (sym is) read
+  of_four_or_five result words a b c d (Some e) is read = subst (λ ws. AreRead result ws (four_or_five f ws)) (sym is) read
+
+-- the last of five isn't of its form
+pub fifth_wrong : (form : WordForm) (a b c d : List ℕ) (last : Option (List ℕ)) → option_map (is_of form) last ≡ Some false
+    → option_map (is_of form) (slice_get (a ∷ b ∷ c ∷ d ∷ option_to_list last) 4) ≡ Some false
+fifth_wrong form a b c d None is = is
+fifth_wrong form a b c d (Some e) is = is
 
 -- words that are wrong for a reading are wrong for what is made of it
 pub still_wrong : {A B : Type 0} (make : Option A → Option B) → make None ≡ None → (fault : WrongWords) (words : List (List ℕ)) (reading : Option A)
@@ -122,65 +115,43 @@ still_wrong make none NoCommand words reading wrong = ap make wrong ∙ none
 still_wrong make none Count words reading wrong = ap make wrong ∙ none
 still_wrong make none (Word place form) words reading wrong = (ap make wrong.0 ∙ none, wrong.1)
 
-same_none : {A : Type 0} (b : Bool) → ◌≡◌ {A = Option A} (if b then None else None) None
-same_none true = refl
-same_none false = refl
+-- four words of which the resource sets are served
+module _ (words : List (List ℕ)) (a b c d : List ℕ) (are : words ≡ a ∷ b ∷ c ∷ d ∷ []) where
+  pub sets_wrong : (fault : WrongWords) → AreWrong fault (a ∷ b ∷ c ∷ d ∷ []) (served_setup a b c d) → AreWrong fault words (with_four sets_words words)
+  sets_wrong fault wrong = subst (λ ws. AreWrong fault ws (with_four sets_words ws)) (sym are)
+      (still_wrong (option_map (Serve Sets)) refl fault (a ∷ b ∷ c ∷ d ∷ []) (served_setup a b c d) wrong)
 
--- four words of which this is served
-module _ (service : Service) (words : List (List ℕ)) (a b c d : List ℕ) (are : words ≡ a ∷ b ∷ c ∷ d ∷ []) where
-  pub service_wrong : (fault : WrongWords) → AreWrong fault (a ∷ b ∷ c ∷ d ∷ []) (served_setup a b c d)
-      → AreWrong fault words (with_four (service_words service) words)
-  service_wrong fault wrong = subst (λ ws. AreWrong fault ws (with_four (service_words service) ws)) (sym are)
-      (still_wrong (option_map (Serve service)) refl fault (a ∷ b ∷ c ∷ d ∷ []) (served_setup a b c d) wrong)
+  pub sets_right : (served : ServedSetup) → served_setup a b c d ≡ Some served → with_four sets_words words ≡ Some (Serve Sets served)
+  sets_right served is = ap (with_four sets_words) are ∙ ap (option_map (Serve Sets)) is
 
-  pub service_right : (served : ServedSetup) → served_setup a b c d ≡ Some served → with_four (service_words service) words ≡ Some (Serve service served)
-  service_right served is = ap (with_four (service_words service)) are ∙ ap (option_map (Serve service)) is
-
--- and five, of which the last is a file of pairs
-module _ (words : List (List ℕ)) (a b c d e : List ℕ) (are : words ≡ a ∷ b ∷ c ∷ d ∷ e ∷ []) where
+-- and four or five, of which the last is a file of pairs
+module _ (words : List (List ℕ)) (a b c d : List ℕ) (pairs : Option (List ℕ)) (are : words ≡ a ∷ b ∷ c ∷ d ∷ option_to_list pairs) where
   abbrev with_pairs : Option ServedSetup → Option Command
-  with_pairs served = if is_argument e then option_map (Serve (Derivations e)) served else None
+  with_pairs served = option_and_then (λ setup. option_map (λ service. Serve service setup) (grants_service pairs)) served
 
-  pub deriving_wrong : (fault : WrongWords) → AreWrong fault (a ∷ b ∷ c ∷ d ∷ e ∷ []) (served_setup a b c d)
-      → AreWrong fault words (with_five deriving_words words)
-  deriving_wrong fault wrong = subst (λ ws. AreWrong fault ws (with_five deriving_words ws)) (sym are)
-      (still_wrong with_pairs (same_none (is_argument e)) fault (a ∷ b ∷ c ∷ d ∷ e ∷ []) (served_setup a b c d) wrong)
+  as_read : (result : Result Command WrongWords) → AreRead result (a ∷ b ∷ c ∷ d ∷ option_to_list pairs) (as_words a b c d pairs)
+      → AreRead result words (four_or_five as_words words)
+  as_read result read = of_four_or_five as_words result words a b c d pairs are read
 
-  pub deriving_right : (served : ServedSetup) → served_setup a b c d ≡ Some served → is_argument e ≡ true
-      → with_five deriving_words words ≡ Some (Serve (Derivations e) served)
-  deriving_right served is argument =
-      ap (with_five deriving_words) are ∙ ap with_pairs is
-      ∙ ap (λ b. if b then Some (Serve (Derivations e) served) else None) argument
+  pub as_wrong : (fault : WrongWords) → AreWrong fault (a ∷ b ∷ c ∷ d ∷ option_to_list pairs) (served_setup a b c d)
+      → AreWrong fault words (four_or_five as_words words)
+  as_wrong fault wrong = as_read (Err fault) (still_wrong with_pairs refl fault (a ∷ b ∷ c ∷ d ∷ option_to_list pairs) (served_setup a b c d) wrong)
 
--- what five words are read as, and what others are
-pub of_five : (result : Result Command WrongWords) (words : List (List ℕ)) (a b c d e : List ℕ) → words ≡ a ∷ b ∷ c ∷ d ∷ e ∷ []
-    → AreRead result words (with_five marked_sign_words words) → AreRead result words (sign_of words)
-of_five = by_five marked_sign_words sign_words
+  pub pairs_wrong : (served : ServedSetup) (fault : WrongWords) → served_setup a b c d ≡ Some served
+      → (fault ≡ OutOfMemory)
+      ⊎ ((fault ≡ Word 4 forms.Argument) × (grants_service pairs ≡ None) × (option_map (is_of forms.Argument) pairs ≡ Some false))
+      → AreWrong fault words (four_or_five as_words words)
+  pairs_wrong served fault is (inl out) = subst (λ e. AreWrong e words (four_or_five as_words words)) (sym out) tt
+  pairs_wrong served fault is (inr other) =
+      let none : as_words a b c d pairs ≡ None = ap with_pairs is ∙ ap (option_map (λ service. Serve service served)) other.1 in
+      subst (λ e. AreWrong e words (four_or_five as_words words)) (sym other.0)
+      (as_read (Err (Word 4 forms.Argument)) (none, fifth_wrong forms.Argument a b c d pairs other.2))
 
-pub of_four : (result : Result Command WrongWords) (words : List (List ℕ))
-    → ((f : List ℕ → List ℕ → List ℕ → List ℕ → List ℕ → Option Command) → with_five f words ≡ None)
-    → AreRead result words (with_four sign_words words) → AreRead result words (sign_of words)
-of_four = by_four marked_sign_words sign_words
-
--- the same of an authorization server
-pub as_of_five : (result : Result Command WrongWords) (words : List (List ℕ)) (a b c d e : List ℕ) → words ≡ a ∷ b ∷ c ∷ d ∷ e ∷ []
-    → AreRead result words (with_five deriving_words words) → AreRead result words (as_of words)
-as_of_five = by_five deriving_words (service_words Grants)
-
-pub as_of_four : (result : Result Command WrongWords) (words : List (List ℕ))
-    → ((f : List ℕ → List ℕ → List ℕ → List ℕ → List ℕ → Option Command) → with_five f words ≡ None)
-    → AreRead result words (with_four (service_words Grants) words) → AreRead result words (as_of words)
-as_of_four = by_four deriving_words (service_words Grants)
-
--- and of a resource server
-pub rs_of_five : (result : Result Command WrongWords) (words : List (List ℕ)) (a b c d e : List ℕ) → words ≡ a ∷ b ∷ c ∷ d ∷ e ∷ []
-    → AreRead result words (with_five cached_rs_words words) → AreRead result words (rs_of words)
-rs_of_five = by_five cached_rs_words rs_words
-
-pub rs_of_four : (result : Result Command WrongWords) (words : List (List ℕ))
-    → ((f : List ℕ → List ℕ → List ℕ → List ℕ → List ℕ → Option Command) → with_five f words ≡ None)
-    → AreRead result words (with_four rs_words words) → AreRead result words (rs_of words)
-rs_of_four = by_four cached_rs_words rs_words
+  pub as_right : (served : ServedSetup) (service : Service) → served_setup a b c d ≡ Some served → grants_service pairs ≡ Some service
+      → four_or_five as_words words ≡ Some (Serve service served)
+  as_right served service is serves =
+      let right : as_words a b c d pairs ≡ Some (Serve service served) = ap with_pairs is ∙ ap (option_map (λ s. Serve s served)) serves in
+      as_read (Ok (Serve service served)) right
 
 -- how many words there have to be, and what they are read as, by whether the name is each of those
 abbrev number_by : (a b c d e f g h i j : Bool) → Option (ℕ × ℕ)
@@ -190,9 +161,9 @@ number_by a b c d e f g h i j =
 
 abbrev reading_by : (a b c d e f g h i j : Bool) → List (List ℕ) → Option Command
 reading_by a b c d e f g h i j words =
-    if a then replay_of words else if b then field_of words else if c then sign_of words else if d then with_three verify_words words
-    else if e then as_of words else if f then with_four (service_words Sets) words else if g then rs_of words else if h then with_three client_words words
-    else if i then hash_of words else if j then with_three load_words words else None
+    if a then replay_of words else if b then field_of words else if c then four_or_five sign_words words else if d then with_three verify_words words
+    else if e then four_or_five as_words words else if f then with_four sets_words words else if g then four_or_five rs_words words
+    else if h then with_three client_words words else if i then hash_of words else if j then with_three load_words words else None
 
 counted : (a b c d e f g h i j : Bool) (least most : ℕ) (words : List (List ℕ))
     → number_by a b c d e f g h i j ≡ Some (least, most)
@@ -200,11 +171,11 @@ counted : (a b c d e f g h i j : Bool) (least most : ℕ) (words : List (List �
     → reading_by a b c d e f g h i j words ≡ None
 counted true b c d e f g h i j least most words is none = no_replay words (at 1 least most words is none)
 counted false true c d e f g h i j least most words is none = no_field words (at 2 least most words is none)
-counted false false true d e f g h i j least most words is none = either_miscount marked_sign_words sign_words least most words is none
+counted false false true d e f g h i j least most words is none = either_miscount sign_words least most words is none
 counted false false false true e f g h i j least most words is none = not_three verify_words words (at 3 least most words is none)
-counted false false false false true f g h i j least most words is none = either_miscount deriving_words (service_words Grants) least most words is none
-counted false false false false false true g h i j least most words is none = not_four (service_words Sets) words (at 4 least most words is none)
-counted false false false false false false true h i j least most words is none = either_miscount cached_rs_words rs_words least most words is none
+counted false false false false true f g h i j least most words is none = either_miscount as_words least most words is none
+counted false false false false false true g h i j least most words is none = not_four sets_words words (at 4 least most words is none)
+counted false false false false false false true h i j least most words is none = either_miscount rs_words least most words is none
 counted false false false false false false false true i j least most words is none = not_three client_words words (at 3 least most words is none)
 counted false false false false false false false false true j least most words is none = no_hash words (at 5 least most words is none)
 counted false false false false false false false false false true least most words is none = not_three load_words words (at 3 least most words is none)

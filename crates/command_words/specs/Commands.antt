@@ -1,7 +1,6 @@
 -- Which command the words of a command line are.
 use Rattle.std.specs.Prelude.{◌≡◌, ◌≤◌, ℕ, List, [], ◌∷◌, Bool, true, false, not, ◌==◌, ◌&&◌, IfSome, codes, Option, Some, None, is_some, option_map, option_and_then, slice_get, Result, MatchResult, if◌then◌else◌}
 use Rattle.std.specs.List.{list_all}
-use Rattle.std.specs.Option.{option_or}
 use Rattle.std.specs.Str.{bytes_eq}
 use Rattle.bytes_and_lists.specs.Moments.{last_moment}
 use Rattle.message_signature.specs.Marks.{is_nonce}
@@ -52,7 +51,7 @@ abbrev pub field_of : List (List ℕ) → Option Command
 field_of (kind ∷ file ∷ []) = if is_argument file then option_map (λ k. Field k file) (kind_of kind) else None
 field_of _ = None
 
--- three words, four, or five
+-- three words, four, or four and one more that may be left out
 abbrev pub with_three : (List ℕ → List ℕ → List ℕ → Option Command) → List (List ℕ) → Option Command
 with_three f (first ∷ second ∷ third ∷ []) = f first second third
 with_three f _ = None
@@ -61,22 +60,20 @@ abbrev pub with_four : (List ℕ → List ℕ → List ℕ → List ℕ → Opti
 with_four f (first ∷ second ∷ third ∷ fourth ∷ []) = f first second third fourth
 with_four f _ = None
 
-abbrev pub with_five : (List ℕ → List ℕ → List ℕ → List ℕ → List ℕ → Option Command) → List (List ℕ) → Option Command
-with_five f (first ∷ second ∷ third ∷ fourth ∷ fifth ∷ []) = f first second third fourth fifth
-with_five f _ = None
+abbrev pub four_or_five : (List ℕ → List ℕ → List ℕ → List ℕ → Option (List ℕ) → Option Command) → List (List ℕ) → Option Command
+four_or_five f (first ∷ second ∷ third ∷ fourth ∷ []) = f first second third fourth None
+four_or_five f (first ∷ second ∷ third ∷ fourth ∷ fifth ∷ []) = f first second third fourth (Some fifth)
+four_or_five f _ = None
 
-abbrev pub sign_words : List ℕ → List ℕ → List ℕ → List ℕ → Option Command
-sign_words config key created file =
-    if are_arguments (config ∷ key ∷ file ∷ []) then option_map (λ moment. Sign config key moment file None) (moment_of created) else None
+-- a word that is left out, or may be a nonce
+abbrev pub may_be_nonce : Option (List ℕ) → Bool
+may_be_nonce None = true
+may_be_nonce (Some word) = is_nonce_word word
 
-abbrev pub marked_sign_words : List ℕ → List ℕ → List ℕ → List ℕ → List ℕ → Option Command
-marked_sign_words config key created file nonce =
-    if are_arguments (config ∷ key ∷ file ∷ []) && is_nonce_word nonce
-    then option_map (λ moment. Sign config key moment file (Some nonce)) (moment_of created) else None
-
--- four words, or five
-abbrev pub sign_of : List (List ℕ) → Option Command
-sign_of words = option_or (with_five marked_sign_words words) (with_four sign_words words)
+abbrev pub sign_words : List ℕ → List ℕ → List ℕ → List ℕ → Option (List ℕ) → Option Command
+sign_words config key created file nonce =
+    if are_arguments (config ∷ key ∷ file ∷ []) && may_be_nonce nonce
+    then option_map (λ moment. Sign config key moment file nonce) (moment_of created) else None
 
 abbrev pub verify_words : List ℕ → List ℕ → List ℕ → Option Command
 verify_words config now file = if are_arguments (config ∷ file ∷ []) then option_map (λ moment. Verify config moment file) (moment_of now) else None
@@ -89,32 +86,29 @@ served_setup config listen workers quota =
     (number_within 1 64 workers)
     else None
 
--- this is served of a setup
-abbrev pub service_words : Service → List ℕ → List ℕ → List ℕ → List ℕ → Option Command
-service_words service config listen workers quota = option_map (Serve service) (served_setup config listen workers quota)
+-- its resource sets
+abbrev pub sets_words : List ℕ → List ℕ → List ℕ → List ℕ → Option Command
+sets_words config listen workers quota = option_map (Serve Sets) (served_setup config listen workers quota)
 
--- with a file of pairs
-abbrev pub deriving_words : List ℕ → List ℕ → List ℕ → List ℕ → List ℕ → Option Command
-deriving_words config listen workers quota pairs = if is_argument pairs then service_words (Derivations pairs) config listen workers quota else None
+-- its authorization server, which derives tokens where there is a word for a file of pairs
+abbrev pub grants_service : Option (List ℕ) → Option Service
+grants_service None = Some Grants
+grants_service (Some pairs) = if is_argument pairs then Some (Derivations pairs) else None
 
--- four words, or five
-abbrev pub as_of : List (List ℕ) → Option Command
-as_of words = option_or (with_five deriving_words words) (with_four (service_words Grants) words)
+abbrev pub as_words : List ℕ → List ℕ → List ℕ → List ℕ → Option (List ℕ) → Option Command
+as_words config listen workers quota pairs =
+    option_and_then (λ served. option_map (λ service. Serve service served) (grants_service pairs)) (served_setup config listen workers quota)
 
--- at most 1,000,000 connections, and with a cache 1 to 16,384 replies
-abbrev pub rs_words : List ℕ → List ℕ → List ℕ → List ℕ → Option Command
-rs_words config listen server quota =
-    if are_arguments (config ∷ listen ∷ server ∷ []) then option_map (λ most. Rs config listen server most None) (number_within 0 1000000 quota) else None
+-- at most 1,000,000 connections, and 1 to 16,384 replies in a cache where there is a word for it
+abbrev pub replies_of : Option (List ℕ) → Option (Option ℕ)
+replies_of None = Some None
+replies_of (Some word) = option_map Some (number_within 1 16384 word)
 
-abbrev pub cached_rs_words : List ℕ → List ℕ → List ℕ → List ℕ → List ℕ → Option Command
-cached_rs_words config listen server quota cache =
+abbrev pub rs_words : List ℕ → List ℕ → List ℕ → List ℕ → Option (List ℕ) → Option Command
+rs_words config listen server quota cache =
     if are_arguments (config ∷ listen ∷ server ∷ [])
-    then option_and_then (λ most. option_map (λ n. Rs config listen server most (Some n)) (number_within 1 16384 cache)) (number_within 0 1000000 quota)
+    then option_and_then (λ most. option_map (λ kept. Rs config listen server most kept) (replies_of cache)) (number_within 0 1000000 quota)
     else None
-
--- four words, or five
-abbrev pub rs_of : List (List ℕ) → Option Command
-rs_of words = option_or (with_five cached_rs_words words) (with_four rs_words words)
 
 abbrev pub client_words : List ℕ → List ℕ → List ℕ → Option Command
 client_words config address script = if are_arguments (config ∷ address ∷ script ∷ []) then Some (Client config address script) else None
@@ -159,11 +153,11 @@ abbrev pub command_named : List ℕ → List (List ℕ) → Option Command
 command_named name arguments =
     if bytes_eq name (codes "replay") then replay_of arguments
     else if bytes_eq name (codes "field") then field_of arguments
-    else if bytes_eq name (codes "sign") then sign_of arguments
+    else if bytes_eq name (codes "sign") then four_or_five sign_words arguments
     else if bytes_eq name (codes "verify") then with_three verify_words arguments
-    else if bytes_eq name (codes "as") then as_of arguments
-    else if bytes_eq name (codes "sets") then with_four (service_words Sets) arguments
-    else if bytes_eq name (codes "rs") then rs_of arguments
+    else if bytes_eq name (codes "as") then four_or_five as_words arguments
+    else if bytes_eq name (codes "sets") then with_four sets_words arguments
+    else if bytes_eq name (codes "rs") then four_or_five rs_words arguments
     else if bytes_eq name (codes "client") then with_three client_words arguments
     else if bytes_eq name (codes "hash") then hash_of arguments
     else if bytes_eq name (codes "load") then with_three load_words arguments

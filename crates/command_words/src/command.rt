@@ -1,6 +1,6 @@
 //! The commands, and which of them words are.
-ghost use Rattle.std.specs.Prelude.{◌≡◌, ◌≤◌, ◌⊎◌, ℕ, List, Option, Some, None, false, true, drop, [], ◌∷◌, IfOk, IfErr, IfSome, IfNone, map, string_bytes};
-ghost use Rattle.command_words.specs.Commands.{AreRead, IsWithinRanges, is_argument, is_nonce_word, kind_of, replay_of, field_of, with_three, with_four, with_five, sign_words, marked_sign_words, sign_of, verify_words, AreFewWorkers, served_setup, service_words, deriving_words, as_of, rs_words, cached_rs_words, rs_of, client_words, long_method, hash_of, load_words, counts_of, count_among, command_named, command_of};
+ghost use Rattle.std.specs.Prelude.{◌≡◌, ◌+◌, ◌<◌, ◌≤◌, ◌⊎◌, ℕ, List, Option, Some, None, false, true, drop, [], ◌∷◌, IfOk, IfErr, IfSome, IfNone, map, string_bytes, option_map, option_to_list, option_copied};
+ghost use Rattle.command_words.specs.Commands.{AreRead, IsWithinRanges, is_argument, is_nonce_word, is_of, may_be_nonce, replies_of, kind_of, replay_of, field_of, with_three, with_four, four_or_five, sign_words, verify_words, AreFewWorkers, served_setup, sets_words, grants_service, as_words, rs_words, client_words, long_method, hash_of, load_words, counts_of, count_among, command_named, command_of};
 ghost use Rattle.message_signature.specs.Marks.{is_nonce};
 ghost use Rattle.command_words.specs.Numbers.{number_within};
 ghost use Rattle.command_words.specs.declared.wrong_words.WrongWords.TheVariants.{Word, OutOfMemory};
@@ -89,6 +89,23 @@ fn argument(alloc: Global, place: usize, word: &str) -> Result<Bytes, WrongWords
     }
 }
 
+// The words at this place and the next one as bytes, where they may be arguments.
+fn two_arguments(
+    alloc: Global,
+    place: usize,
+    first: &str,
+    second: &str,
+) -> Result<(Bytes, Bytes), WrongWords>
+    requires place { place < 5 }
+    ensures taken { IfOk result (λ pair.
+        (pair.0 ≡ first.now) × (is_argument first.now ≡ true) × (pair.1 ≡ second.now) × (is_argument second.now ≡ true)) }
+    ensures wrong { IfErr result (λ fault. (fault ≡ OutOfMemory) ⊎ ((fault ≡ Word place forms.Argument) × (is_argument first.now ≡ false))
+        ⊎ ((fault ≡ Word (place + 1) forms.Argument) × (is_argument second.now ≡ false))) }
+{
+    let first = argument(alloc, place, first)?;
+    Ok((first, argument(alloc, place + 1, second)?))
+}
+
 // The word at this place as bytes, where it may be a nonce.
 fn nonce(alloc: Global, place: usize, word: &str) -> Result<Bytes, WrongWords>
     ensures taken { IfOk result (λ bytes. (bytes ≡ word.now) × (is_nonce_word word.now ≡ true) × (is_nonce bytes ≡ true)) }
@@ -100,6 +117,23 @@ fn nonce(alloc: Global, place: usize, word: &str) -> Result<Bytes, WrongWords>
     match Bytes::from_slice(alloc, word.as_bytes()) {
         Ok(bytes) => Ok(bytes),
         Err(Mem) => Err(WrongWords::OutOfMemory),
+    }
+}
+
+// The same of a word that may be left out.
+fn optional_nonce(
+    alloc: Global,
+    place: usize,
+    word: Option<&str>,
+) -> Result<Option<Bytes>, WrongWords>
+    ensures taken { IfOk result (λ taken. (taken ≡ option_copied word.entry) × (may_be_nonce (option_copied word.entry) ≡ true)
+        × IfSome taken (λ n. is_nonce n ≡ true)) }
+    ensures wrong { IfErr result (λ fault. (fault ≡ OutOfMemory) ⊎ ((fault ≡ Word place forms.Nonce)
+        × (may_be_nonce (option_copied word.entry) ≡ false) × (option_map (is_of forms.Nonce) (option_copied word.entry) ≡ Some false))) }
+{
+    match word {
+        Some(word) => Ok(Some(nonce(alloc, place, word)?)),
+        None => Ok(None),
     }
 }
 
@@ -117,6 +151,18 @@ fn number(
     match number_within(word, least, most) {
         Some(number) => Ok(number),
         None => Err(WrongWords::Word(place, form)),
+    }
+}
+
+// The number of replies that the word at this place is, which may be left out.
+fn optional_replies(place: usize, word: Option<&str>) -> Result<Option<usize>, WrongWords>
+    ensures taken { IfOk result (λ cache. (replies_of (option_copied word.entry) ≡ Some cache) × IfSome cache (λ n. (1 ≤ n) × (n ≤ 16384))) }
+    ensures wrong { IfErr result (λ fault. (fault ≡ Word place forms.Replies) × (replies_of (option_copied word.entry) ≡ None)
+        × (option_map (is_of forms.Replies) (option_copied word.entry) ≡ Some false)) }
+{
+    match word {
+        Some(word) => Ok(Some(number(place, WordForm::Replies, word, 1, 16_384)? as usize)),
+        None => Ok(None),
     }
 }
 
@@ -169,18 +215,27 @@ fn four(words: &[String]) -> Option<(&str, &str, &str, &str)>
     }
 }
 
-// The words, where they are five.
-fn five(words: &[String]) -> Option<(&str, &str, &str, &str, &str)>
-    ensures some { IfSome result (λ w. map string_bytes words.now ≡ w.0.now ∷ w.1.now ∷ w.2.now ∷ w.3.now ∷ w.4.now ∷ []) }
-    ensures none { IfNone result ((f : List ℕ → List ℕ → List ℕ → List ℕ → List ℕ → Option Command) → with_five f (map string_bytes words.now) ≡ None) }
+// The words, where they are four or five.
+fn four_or_five(words: &[String]) -> Option<(&str, &str, &str, &str, Option<&str>)>
+    ensures some { IfSome result (λ w. map string_bytes words.now
+        ≡ w.0.now ∷ w.1.now ∷ w.2.now ∷ w.3.now ∷ option_to_list (option_copied w.4)) }
+    ensures none { IfNone result ((f : List ℕ → List ℕ → List ℕ → List ℕ → Option (List ℕ) → Option Command)
+        → four_or_five f (map string_bytes words.now) ≡ None) }
 {
     match words {
+        [first, second, third, fourth] => Some((
+            first.as_str(),
+            second.as_str(),
+            third.as_str(),
+            fourth.as_str(),
+            None,
+        )),
         [first, second, third, fourth, fifth] => Some((
             first.as_str(),
             second.as_str(),
             third.as_str(),
             fourth.as_str(),
-            fifth.as_str(),
+            Some(fifth.as_str()),
         )),
         _ => None,
     }
@@ -209,44 +264,36 @@ fn field_of(alloc: Global, words: &[String]) -> Result<Command, WrongWords>
     Ok(Command::Field(kind, argument(alloc, 1, file.as_str())?))
 }
 
-fn plain_sign_of(alloc: Global, words: &[String]) -> Result<Command, WrongWords>
-    ensures read { AreRead result (map string_bytes words.now) (with_four sign_words (map string_bytes words.now)) }
+// A message is signed, with a nonce where there is a word for it.
+#[tactic(auto, using(crate::proofs::WordCounts::fifth_wrong))]
+fn signature(
+    alloc: Global,
+    config: &str,
+    key: &str,
+    created: &str,
+    file: &str,
+    nonce: Option<&str>,
+) -> Result<Command, WrongWords>
+    ensures read { AreRead result (config.now ∷ key.now ∷ created.now ∷ file.now ∷ option_to_list (option_copied nonce.entry))
+        (sign_words config.now key.now created.now file.now (option_copied nonce.entry)) }
     ensures ranges { IfOk result IsWithinRanges }
 {
-    let Some((config, key, created, file)) = four(words) else {
-        return Err(WrongWords::Count);
-    };
-    let config = argument(alloc, 0, config)?;
-    let key = argument(alloc, 1, key)?;
+    let (config, key) = two_arguments(alloc, 0, config, key)?;
     let created = number(2, WordForm::Moment, created, 0, LAST_MOMENT)?;
     let file = argument(alloc, 3, file)?;
-    Ok(Command::Sign(config, key, created, file, None))
+    let nonce = optional_nonce(alloc, 4, nonce)?;
+    Ok(Command::Sign(config, key, created, file, nonce))
 }
 
-fn marked_sign_of(alloc: Global, words: &[String]) -> Result<Command, WrongWords>
-    ensures read { AreRead result (map string_bytes words.now) (with_five marked_sign_words (map string_bytes words.now)) }
-    ensures ranges { IfOk result IsWithinRanges }
-{
-    let Some((config, key, created, file, mark)) = five(words) else {
-        return Err(WrongWords::Count);
-    };
-    let config = argument(alloc, 0, config)?;
-    let key = argument(alloc, 1, key)?;
-    let created = number(2, WordForm::Moment, created, 0, LAST_MOMENT)?;
-    let file = argument(alloc, 3, file)?;
-    let nonce = nonce(alloc, 4, mark)?;
-    Ok(Command::Sign(config, key, created, file, Some(nonce)))
-}
-
-// Four words, or five with a nonce.
-#[tactic(auto, using(crate::proofs::WordCounts::of_five, crate::proofs::WordCounts::of_four))]
 fn sign_of(alloc: Global, words: &[String]) -> Result<Command, WrongWords>
-    ensures read { AreRead result (map string_bytes words.now) (sign_of (map string_bytes words.now)) }
+    ensures read { AreRead result (map string_bytes words.now) (four_or_five sign_words (map string_bytes words.now)) }
     ensures ranges { IfOk result IsWithinRanges }
 {
-    match five(words) {
-        Some(_) => marked_sign_of(alloc, words),
-        None => plain_sign_of(alloc, words),
+    match four_or_five(words) {
+        Some((config, key, created, file, nonce)) => {
+            signature(alloc, config, key, created, file, nonce)
+        }
+        None => Err(WrongWords::Count),
     }
 }
 
@@ -275,92 +322,81 @@ fn served_setup(
         (served_setup config.now listen.now workers.now quota.now) }
     ensures few { IfOk result AreFewWorkers }
 {
+    let (config, listen) = two_arguments(alloc, 0, config, listen)?;
     Ok(ServedSetup {
-        config: argument(alloc, 0, config)?,
-        listen: argument(alloc, 1, listen)?,
+        config,
+        listen,
         workers: number(2, WordForm::Workers, workers, 1, 64)? as usize,
         quota: number(3, WordForm::Connections, quota, 0, 1_000_000)? as u32,
     })
 }
 
-#[tactic(auto, using(crate::proofs::WordCounts::service_wrong, crate::proofs::WordCounts::service_right))]
-fn service_of(alloc: Global, service: Service, words: &[String]) -> Result<Command, WrongWords>
-    ensures read { AreRead result (map string_bytes words.now) (with_four (service_words service) (map string_bytes words.now)) }
+fn sets_of(alloc: Global, words: &[String]) -> Result<Command, WrongWords>
+    ensures read { AreRead result (map string_bytes words.now) (with_four sets_words (map string_bytes words.now)) }
     ensures ranges { IfOk result IsWithinRanges }
 {
     let Some((config, listen, workers, quota)) = four(words) else {
         return Err(WrongWords::Count);
     };
     let served = served_setup(alloc, config, listen, workers, quota)?;
-    Ok(Command::Serve(service, served))
+    Ok(Command::Serve(Service::Sets, served))
 }
 
-// The same with a file of pairs.
-#[tactic(auto, using(crate::proofs::WordCounts::deriving_wrong, crate::proofs::WordCounts::deriving_right))]
-fn deriving_as_of(alloc: Global, words: &[String]) -> Result<Command, WrongWords>
-    ensures read { AreRead result (map string_bytes words.now) (with_five deriving_words (map string_bytes words.now)) }
-    ensures ranges { IfOk result IsWithinRanges }
+// The service of an authorization server, which derives tokens where there is a word for a file of pairs.
+fn grants_service(alloc: Global, place: usize, pairs: Option<&str>) -> Result<Service, WrongWords>
+    ensures taken { IfOk result (λ service. grants_service (option_copied pairs.entry) ≡ Some service) }
+    ensures wrong { IfErr result (λ fault. (fault ≡ OutOfMemory) ⊎ ((fault ≡ Word place forms.Argument)
+        × (grants_service (option_copied pairs.entry) ≡ None) × (option_map (is_of forms.Argument) (option_copied pairs.entry) ≡ Some false))) }
 {
-    let Some((config, listen, workers, quota, pairs)) = five(words) else {
-        return Err(WrongWords::Count);
-    };
-    let served = served_setup(alloc, config, listen, workers, quota)?;
-    let pairs = argument(alloc, 4, pairs)?;
-    Ok(Command::Serve(Service::Derivations(pairs), served))
-}
-
-// Four words, or five with pairs.
-#[tactic(auto, using(crate::proofs::WordCounts::as_of_five, crate::proofs::WordCounts::as_of_four))]
-fn as_of(alloc: Global, words: &[String]) -> Result<Command, WrongWords>
-    ensures read { AreRead result (map string_bytes words.now) (as_of (map string_bytes words.now)) }
-    ensures ranges { IfOk result IsWithinRanges }
-{
-    match five(words) {
-        Some(_) => deriving_as_of(alloc, words),
-        None => service_of(alloc, Service::Grants, words),
+    match pairs {
+        Some(pairs) => Ok(Service::Derivations(argument(alloc, place, pairs)?)),
+        None => Ok(Service::Grants),
     }
 }
 
-// At most 1,000,000 connections.
-fn plain_rs_of(alloc: Global, words: &[String]) -> Result<Command, WrongWords>
-    ensures read { AreRead result (map string_bytes words.now) (with_four rs_words (map string_bytes words.now)) }
+// Four words, or five with a file of pairs.
+#[tactic(auto, using(crate::proofs::WordCounts::pairs_wrong))]
+fn as_of(alloc: Global, words: &[String]) -> Result<Command, WrongWords>
+    ensures read { AreRead result (map string_bytes words.now) (four_or_five as_words (map string_bytes words.now)) }
     ensures ranges { IfOk result IsWithinRanges }
 {
-    let Some((config, listen, server, quota)) = four(words) else {
+    let Some((config, listen, workers, quota, pairs)) = four_or_five(words) else {
         return Err(WrongWords::Count);
     };
-    let config = argument(alloc, 0, config)?;
-    let listen = argument(alloc, 1, listen)?;
-    let server = argument(alloc, 2, server)?;
-    let quota = number(3, WordForm::Connections, quota, 0, 1_000_000)?;
-    Ok(Command::Rs(config, listen, server, quota as u32, None))
+    let served = served_setup(alloc, config, listen, workers, quota)?;
+    Ok(Command::Serve(grants_service(alloc, 4, pairs)?, served))
 }
 
-// The same, with a cache of 1 to 16,384 replies.
-fn cached_rs_of(alloc: Global, words: &[String]) -> Result<Command, WrongWords>
-    ensures read { AreRead result (map string_bytes words.now) (with_five cached_rs_words (map string_bytes words.now)) }
+// A resource server at an address, with at most 1,000,000 connections, and with a cache of 1 to 16,384 replies where there is a word for it.
+#[tactic(auto, using(crate::proofs::WordCounts::fifth_wrong))]
+fn resources(
+    alloc: Global,
+    config: &str,
+    listen: &str,
+    server: &str,
+    quota: &str,
+    cache: Option<&str>,
+) -> Result<Command, WrongWords>
+    ensures read { AreRead result (config.now ∷ listen.now ∷ server.now ∷ quota.now ∷ option_to_list (option_copied cache.entry))
+        (rs_words config.now listen.now server.now quota.now (option_copied cache.entry)) }
     ensures ranges { IfOk result IsWithinRanges }
 {
-    let Some((config, listen, server, quota, cache)) = five(words) else {
-        return Err(WrongWords::Count);
-    };
-    let config = argument(alloc, 0, config)?;
-    let listen = argument(alloc, 1, listen)?;
+    let (config, listen) = two_arguments(alloc, 0, config, listen)?;
     let server = argument(alloc, 2, server)?;
     let quota = number(3, WordForm::Connections, quota, 0, 1_000_000)?;
-    let cache = number(4, WordForm::Replies, cache, 1, 16_384)?;
-    Ok(Command::Rs(config, listen, server, quota as u32, Some(cache as usize)))
+    let cache = optional_replies(4, cache)?;
+    Ok(Command::Rs(config, listen, server, quota as u32, cache))
 }
 
-// Four words, or five with a cache.
-#[tactic(auto, using(crate::proofs::WordCounts::rs_of_five, crate::proofs::WordCounts::rs_of_four))]
 fn rs_of(alloc: Global, words: &[String]) -> Result<Command, WrongWords>
-    ensures read { AreRead result (map string_bytes words.now) (rs_of (map string_bytes words.now)) }
+    ensures read { AreRead result (map string_bytes words.now) (four_or_five rs_words (map string_bytes words.now)) }
     ensures ranges { IfOk result IsWithinRanges }
 {
-    match five(words) {
-        Some(_) => cached_rs_of(alloc, words),
-        None => plain_rs_of(alloc, words),
+    match four_or_five(words) {
+        Some((config, listen, server, quota, cache)) => {
+            resources(alloc, config, listen, server, quota, cache)
+        }
+        None => Err(WrongWords::Count),
     }
 }
 
@@ -371,8 +407,7 @@ fn client_of(alloc: Global, words: &[String]) -> Result<Command, WrongWords>
     let Some((config, address, script)) = three(words) else {
         return Err(WrongWords::Count);
     };
-    let config = argument(alloc, 0, config)?;
-    let address = argument(alloc, 1, address)?;
+    let (config, address) = two_arguments(alloc, 0, config, address)?;
     let script = argument(alloc, 2, script)?;
     Ok(Command::Client(config, address, script))
 }
@@ -387,10 +422,8 @@ fn hash_of(alloc: Global, words: &[String]) -> Result<Command, WrongWords>
     let Some(long) = long_method(method.as_str()) else {
         return Err(WrongWords::Word(0, WordForm::HashMethod));
     };
-    let client_nonce = argument(alloc, 1, client.as_str())?;
-    let server_nonce = argument(alloc, 2, server.as_str())?;
-    let reference = argument(alloc, 3, reference.as_str())?;
-    let endpoint = argument(alloc, 4, endpoint.as_str())?;
+    let (client_nonce, server_nonce) = two_arguments(alloc, 1, client.as_str(), server.as_str())?;
+    let (reference, endpoint) = two_arguments(alloc, 3, reference.as_str(), endpoint.as_str())?;
     Ok(Command::Hash(HashedTexts {
         long,
         client_nonce,
@@ -455,7 +488,7 @@ fn command_named(alloc: Global, name: &str, words: &[String]) -> Result<Command,
         "sign" => sign_of(alloc, words),
         "verify" => verify_of(alloc, words),
         "as" => as_of(alloc, words),
-        "sets" => service_of(alloc, Service::Sets, words),
+        "sets" => sets_of(alloc, words),
         "rs" => rs_of(alloc, words),
         "client" => client_of(alloc, words),
         "hash" => hash_of(alloc, words),

@@ -1,7 +1,7 @@
 //! What the program says of itself.
 
 /// The usage, line by line. The script that runs the program prints these strings too, so each stands on a line of its own.
-pub const USAGE: [&str; 18] = [
+pub static USAGE: [&str; 18] = [
     "usage: gnap COMMAND WORDS\n",
     "  gnap replay FILE            answers the calls in FILE, whose first line is a setup\n",
     "  gnap field item FILE        prints the canonical text of the structured field in FILE\n",

@@ -7,7 +7,7 @@ use gnap_io::device::Sink;
 
 // Tells which commands there are.
 fn tell_usage<E: Sink>(err: &mut E) {
-    for line in USAGE {
+    for line in &USAGE {
         tell(err, &[line.as_bytes()]);
     }
 }
@@ -26,7 +26,7 @@ fn is_usage_of(line: &[u8], name: &[u8]) -> bool {
 // Tells how the command of this name is used.
 fn tell_usage_of<E: Sink>(err: &mut E, name: &str) {
     tell(err, &[b"usage:\n"]);
-    for line in USAGE {
+    for line in &USAGE {
         if is_usage_of(line.as_bytes(), name.as_bytes()) {
             tell(err, &[line.as_bytes()]);
         }

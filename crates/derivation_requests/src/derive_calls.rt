@@ -75,6 +75,20 @@ fn beginner(call: &Call) -> Option<&Bytes>
     }
 }
 
+// The parent that the body names, and the server's id.
+fn parent_and_server(
+    alloc: Global,
+    body: &[u8],
+    server: &Bytes,
+) -> Result<Option<(Bytes, Bytes)>, Mem>
+    ensures { IfOk result (λ found. found ≡ option_map (λ parent. (parent, server.now)) (parent_of body.now)) }
+{
+    match parent_of(alloc, body)? {
+        Some(parent) => Ok(Some((parent, server.copy()?))),
+        None => Ok(None),
+    }
+}
+
 // A grant request of the client that this server uses.
 fn by_parent(alloc: Global, body: &[u8], server: &Bytes, begin: Signed) -> Result<DeriveStep, Mem>
     requires server { IsUtf8 server.now }
@@ -83,15 +97,22 @@ fn by_parent(alloc: Global, body: &[u8], server: &Bytes, begin: Signed) -> Resul
     ensures step { IfOk result (λ s. s ≡ by_parent begin server.now (parent_of body.now)) }
     ensures derivable { IfOk result IsDerivable }
 {
-    match parent_of(alloc, body)? {
-        Some(parent) => Ok(DeriveStep::Derive {
+    // An exit that lets a call go writes its drop out, for each kind of call: `drop` is one call.
+    match parent_and_server(alloc, body, server) {
+        Ok(Some((parent, server))) => Ok(DeriveStep::Derive {
             parent,
-            server: server.copy()?,
+            server,
             begin,
         }),
-        None => Ok(DeriveStep::Plain(RequestStep::Direct(DirectAnswer::Error(
-            ErrorCode::InvalidRequest,
-        )))),
+        Ok(None) => {
+            drop(begin);
+            let refusal = DirectAnswer::Error(ErrorCode::InvalidRequest);
+            Ok(DeriveStep::Plain(RequestStep::Direct(refusal)))
+        }
+        Err(Mem) => {
+            drop(begin);
+            Err(Mem)
+        }
     }
 }
 

@@ -1,5 +1,5 @@
 //! Pairs of client keys and resource servers, read from bytes.
-ghost use Rattle.std.specs.Prelude.{◌≡◌, [], IfOk, IsUtf8, None, option_map};
+ghost use Rattle.std.specs.Prelude.{◌≡◌, ◌⊎◌, [], IfOk, IsUtf8, None, option_map};
 ghost use Rattle.std.specs.List.{AllByRecursion};
 ghost use Rattle.serde_json.specs.View.{view, items_view};
 ghost use Rattle.structured_fields.specs.Named.{value_at};
@@ -11,12 +11,22 @@ ghost use Rattle.derivation_requests.specs.Pairs.{PairFits, ArePairs, has_role, 
 
 use crate::pairs::Pairs;
 use bytes_and_lists::bytes::Bytes;
+use bytes_and_lists::memory::Mem;
 use gnap_model::objects::{KeyRow, Role, Setup};
 use gnap_objects::members::{required_items, required_text, without_others};
 use gnap_objects::setup_members::object_of;
 use gnap_objects::{ObjectFault, SetupFault};
 use serde_json::Value;
 use std::alloc::Global;
+
+fn wrong(alloc: Global, name: &str) -> ObjectFault
+    ensures { (result ≡ faults.OutOfMemory) ⊎ (result ≡ faults.Wrong name.now) }
+{
+    match Bytes::from_slice(alloc, name.as_bytes()) {
+        Ok(name) => ObjectFault::Wrong(name),
+        Err(Mem) => ObjectFault::OutOfMemory,
+    }
+}
 
 fn has_role(role: Role, key: Option<&KeyRow>) -> bool
     ensures { result ≡ has_role role (option_map (λ k. k.now) key.entry) }
@@ -51,7 +61,7 @@ fn key_id_of(
 {
     let id = required_text(alloc, value, name)?;
     if !has_key(setup, role, id.as_slice()) {
-        return Err(ObjectFault::Wrong(Bytes::from_slice(alloc, name.as_bytes())?));
+        return Err(wrong(alloc, name));
     }
     Ok(id)
 }
@@ -70,7 +80,7 @@ fn pair_of(
 {
     let client = key_id_of(alloc, setup, Role::Client, "client", value)?;
     if before.server_of(client.as_slice()).is_some() {
-        return Err(ObjectFault::Wrong(Bytes::from_slice(alloc, b"client")?));
+        return Err(wrong(alloc, "client"));
     }
     let server = key_id_of(alloc, setup, Role::Server, "server", value)?;
     without_others(alloc, value, &["client", "server"], (client, server))
@@ -89,17 +99,16 @@ fn pairs_from(alloc: Global, setup: &Setup, items: &Vec<Value>) -> Result<Pairs,
 }
 
 // 1 to 256 pairs.
-fn counted_pairs(alloc: Global, pairs: Pairs) -> Result<Pairs, ObjectFault>
-    ensures value { Gives faults.OutOfMemory (λ p. p) result (counted_pairs pairs) }
-    ensures same { IfOk result (λ p. p ≡ pairs) }
+fn counted_pairs(alloc: Global, pairs: &Pairs) -> Result<(), ObjectFault>
+    ensures { Gives faults.OutOfMemory (λ _. pairs.now) result (counted_pairs pairs.now) }
 {
     if pairs.len() == 0 {
-        return Err(ObjectFault::Wrong(Bytes::from_slice(alloc, b"pairs")?));
+        return Err(wrong(alloc, "pairs"));
     }
     if 256 < pairs.len() {
         return Err(ObjectFault::TooMany(Bytes::from_slice(alloc, b"pairs")?));
     }
-    Ok(pairs)
+    Ok(())
 }
 
 #[tactic(auto, unfolding(crate::specs::Pairs::pairs_in))]
@@ -109,8 +118,8 @@ fn pairs_in(alloc: Global, setup: &Setup, value: &Value) -> Result<Pairs, Object
 {
     let items = required_items(alloc, value, "pairs")?;
     let pairs = pairs_from(alloc, setup, items)?;
-    let counted = counted_pairs(alloc, pairs)?;
-    without_others(alloc, value, &["pairs"], counted)
+    counted_pairs(alloc, &pairs)?;
+    without_others(alloc, value, &["pairs"], pairs)
 }
 
 #[tactic(auto, unfolding(crate::specs::Pairs::pairs_of))]

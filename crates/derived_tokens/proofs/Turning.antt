@@ -44,7 +44,7 @@ use Rattle.serving.specs.MessageTurns.{HasWrittenText, TakesTurn}
 use Rattle.serving.specs.declared.ends.AfterTurn.{AfterTurn}
 use Rattle.serving.specs.declared.ends.AfterTurn.TheVariants.{MoreMayCome}
 use Rattle.serving.proofs.MessageTurnLemmas.{follows_on, follows_none, entered-none, entered-reply, entered-lapse, turn-of}
-use Rattle.derived_tokens.specs.Answering.{HasAnswered, said}
+use Rattle.derived_tokens.specs.Answering.{HasAnswered, said, HasReplied, replied, unreplied}
 use Rattle.derived_tokens.specs.Answering as answered
 use Rattle.derived_tokens.specs.DerivedTurns.{deriving_face, question, active_until, with_end, ending, AsksParent, GoesOnWith, IsDerivingTurn}
 use Rattle.derived_tokens.specs.DerivedTurns as derived
@@ -124,7 +124,7 @@ module _ {D Home : Type 0} (rules : D → Setup) (number : D → ℕ) (home : D 
   -- a call was entered first
   module _ (c : D) (g2 : GearState) (same_rules : rules c ≡ rules b) (same_number : number c ≡ number b) (same_home : home c ≡ home b) (draw : List ℕ)
       (drew : g2 ≡ with_draw draw g1) where
-    pub ask-lapsed : (call : Signed) → derive_call pairs setup m t ≡ Plain (Ask call) → EntersLapse gnap (rules b) (number b) h t draw (seen c)
+    ask-lapsed : (call : Signed) → derive_call pairs setup m t ≡ Plain (Ask call) → EntersLapse gnap (rules b) (number b) h t draw (seen c)
         → HasWrittenText (reply_bytes busy_reply) conn conn' f f' after → after ≢ MoreMayCome
         → TakesTurn (desk_backend rules number home seen setup) (IsDerivingTurn pairs setup) last m b h c g g2 conn conn' f f' after
     ask-lapsed call is x written off =
@@ -135,7 +135,7 @@ module _ {D Home : Type 0} (rules : D → Setup) (number : D → ℕ) (home : D 
         x)
         (omega arith) written (follows_none after off) (derived.plain _ (lapsed m e call is refl))
 
-    pub ask-answered : (call : Signed) (reply : Reply) → derive_call pairs setup m t ≡ Plain (Ask call)
+    ask-answered : (call : Signed) (reply : Reply) → derive_call pairs setup m t ≡ Plain (Ask call)
         → (x : Enters gnap (rules b) (number b) h t draw call reply (seen c))
         → HasAnswered (reply_bytes (http_reply last (response_of setup reply))) conn conn' f f' after
         → TakesTurn (desk_backend rules number home seen setup) (IsDerivingTurn pairs setup) last m b h c g g2 conn conn' f f' after
@@ -214,7 +214,7 @@ module _ {D Home : Type 0} (rules : D → Setup) (number : D → ℕ) (home : D 
             goes_on : (k : GnapEntry) → k.moment ≡ t → GoesOnWith pairs setup m begin e k end
             goes_on k same = record { parent = asks; live = ap active_until (sym x.reply_is) ∙ live; moment = same }
 
-            pub begin-lapsed : EntersLapse gnap (rules c) (number c) then_seen t draw' (seen d)
+            begin-lapsed : EntersLapse gnap (rules c) (number c) then_seen t draw' (seen d)
                 → HasWrittenText (reply_bytes busy_reply) conn conn' f f' after → after ≢ MoreMayCome
                 → TakesTurn (desk_backend rules number home seen setup) (IsDerivingTurn pairs setup) last m b h d g g3 conn conn' f f' after
             begin-lapsed y written off =
@@ -225,7 +225,7 @@ module _ {D Home : Type 0} (rules : D → Setup) (number : D → ℕ) (home : D 
                 (entered-lapse rules number home seen setup gnap b c d h (e ∷ []) then_seen t g g2 g3 one rules_again number_again home_again draw' drew' y)
                 (omega arith) written (follows_none after off) (derived.begin_lapsed m begin e k end (goes_on k refl) refl)
 
-            pub begin-answered : (begun : Signed) → begun ≡ ending end begin → (reply : Reply)
+            begin-answered : (begun : Signed) → begun ≡ ending end begin → (reply : Reply)
                 → (y : Enters gnap (rules c) (number c) then_seen t draw' begun reply (seen d))
                 → HasAnswered (reply_bytes (http_reply last (response_of setup reply))) conn conn' f f' after
                 → TakesTurn (desk_backend rules number home seen setup) (IsDerivingTurn pairs setup) last m b h d g g3 conn conn' f f' after
@@ -251,3 +251,20 @@ module _ {D Home : Type 0} (rules : D → Setup) (number : D → ℕ) (home : D 
                     g g3 conn conn' f f' after
                     (reply_bytes busy_reply) false both (omega arith) written (follows_none after off)
                     (derived.begin_unsaid m begin e k end (goes_on k refl) begun_is)
+
+          pub begin-turn : (end : ℕ) → active_until told ≡ Some end → (d : D) (g3 : GearState) → rules d ≡ rules c → number d ≡ number c → home d ≡ home c
+              → (begun : Signed) → begun ≡ ending end begin
+              → HasReplied setup last (rules c) (number c) then_seen t begun (seen d) g2 g3 conn conn' f f' after
+              → TakesTurn (desk_backend rules number home seen setup) (IsDerivingTurn pairs setup) last m b h d g g3 conn conn' f f' after
+          begin-turn end live d g3 rules_again number_again home_again begun is (replied draw' drew' reply y how) =
+              begin-answered end live d g3 rules_again number_again home_again draw' drew' begun is reply y how
+          begin-turn end live d g3 rules_again number_again home_again begun is (unreplied draw' drew' y written off) =
+              begin-lapsed end live d g3 rules_again number_again home_again draw' drew' y written off
+
+  pub ask-turn : (c : D) (g2 : GearState) → rules c ≡ rules b → number c ≡ number b → home c ≡ home b → (call : Signed)
+      → derive_call pairs setup m t ≡ Plain (Ask call) → HasReplied setup last (rules b) (number b) h t call (seen c) g1 g2 conn conn' f f' after
+      → TakesTurn (desk_backend rules number home seen setup) (IsDerivingTurn pairs setup) last m b h c g g2 conn conn' f f' after
+  ask-turn c g2 same_rules same_number same_home call is (replied draw drew reply x how) =
+      ask-answered c g2 same_rules same_number same_home draw drew call reply is x how
+  ask-turn c g2 same_rules same_number same_home call is (unreplied draw drew x written off) =
+      ask-lapsed c g2 same_rules same_number same_home draw drew call is x written off

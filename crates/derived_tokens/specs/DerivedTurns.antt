@@ -1,6 +1,8 @@
 -- What a message's turn may be where tokens are derived (RFC 9767, section 4).
-use Rattle.std.specs.Prelude.{◌≡◌, ℕ, Bool, true, false, List, [], ◌∷◌, Option, Some, None}
+use Rattle.std.specs.Prelude.{◌≡◌, ℕ, Bool, true, false, List, [], ◌∷◌, Option, Some, None, Result, Ok, Err}
+use Rattle.gnap_io.specs.Gears.{GearState, with_draw}
 use Rattle.bytes_and_lists.specs.declared.message.Message.{Message}
+use Rattle.histories.specs.Steps.{Enters, EntersLapse}
 use Rattle.histories.specs.Turns.{Face, Turn, IsTurn}
 use Rattle.http_edge.specs.Replies.{reply_bytes, busy_reply}
 use Rattle.gnap_model.specs.Common.{Text}
@@ -47,6 +49,16 @@ question server parent = record { mark = None; call = Introspect server parent N
 abbrev pub active_until : Reply → Option ℕ
 active_until (Active access iat exp instance bearer) = Some exp
 active_until _ = None
+
+-- The question was entered behind a history that a desk had seen, with words that its gear drew, and this is before which moment the parent was told to be
+-- live; or memory ran out.
+abbrev pub WasTold : {E : Type 0} → Setup → ℕ → List GnapEntry → ℕ → Text → Text → (List GnapEntry → Type 0) → GearState → GearState → Result (Option ℕ) E
+    → Type 0
+WasTold rules number h moment server parent seen gear gear_now (Ok end) =
+    (draw : List ℕ) × (gear_now ≡ with_draw draw gear)
+    × (told : Reply) × (active_until told ≡ end) × Enters gnap rules number h moment draw (question server parent) told seen
+WasTold rules number h moment server parent seen gear gear_now (Err e) =
+    (draw : List ℕ) × (gear_now ≡ with_draw draw gear) × EntersLapse gnap rules number h moment draw seen
 
 -- the grant request, whose grant ends at this moment at the latest
 abbrev pub with_end : ℕ → Call → Call

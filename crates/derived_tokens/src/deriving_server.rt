@@ -1,10 +1,12 @@
 //! The authorization server that derives tokens, as `serving` serves it.
-ghost use Rattle.std.specs.Prelude.{◌≡◌, ◌≢◌, ◌≤◌, IfOk, IsUtf8};
+ghost use Rattle.std.specs.Prelude.{◌≡◌, ◌≢◌, ◌<◌, ◌≤◌, IfOk, IsUtf8, length};
 ghost use Rattle.gnap_io.specs.Gears.{with_moment};
 ghost use Rattle.histories.specs.History.{last_moment};
+ghost use Rattle.histories.specs.Whole.{own_of};
 ghost use Rattle.http_edge.specs.Replies.{reply_bytes, busy_reply};
 ghost use Rattle.gnap_objects.specs.CallsFit.{ReplyFits};
 ghost use Rattle.gnap_replies.specs.Responses.{response_of};
+ghost use Rattle.signed_calls.specs.Marks.{unmarked_lapse};
 ghost use Rattle.grant_machine.specs.Gnap.{SignedFits};
 ghost use Rattle.as_edge.specs.DirectReplies.{http_reply, direct_reply};
 ghost use Rattle.serving.specs.Desks.{desk_backend};
@@ -13,8 +15,8 @@ ghost use Rattle.derivation_requests.specs.declared.derive_calls.DeriveStep.TheV
 ghost use Rattle.derivation_requests.specs.Pairs.{ArePairs};
 ghost use Rattle.derivation_requests.specs.Deriving.{IsDerivable, derive_call};
 ghost use Rattle.as_requests.specs.DeskCalls.{IsAskable};
-ghost use Rattle.derived_tokens.specs.Answering.{HasAnswered};
-ghost use Rattle.derived_tokens.specs.DerivedTurns.{question, active_until, ending, IsDerivingTurn};
+ghost use Rattle.derived_tokens.specs.Answering.{HasAnswered, HasReplied};
+ghost use Rattle.derived_tokens.specs.DerivedTurns.{question, active_until, ending, WasTold, IsDerivingTurn};
 
 use as_edge::{AuthorizationServer, print_direct};
 use as_requests::{DirectAnswer, Edge, RequestStep};
@@ -172,6 +174,62 @@ fn ending(end: u64, begin: Signed) -> Signed
 
 // ---- turns
 
+// An exit that lets a call or a reply go writes its drop out, for each kind of them: below `drop` is one call.
+
+// Enters a call at a moment, and says the machine's reply.
+fn enter_and_reply<D: Desk<M = Gnap>, S: Source + Sink, G: Draws>(
+    server: &DerivingServer,
+    alloc: Global,
+    desk: &mut D,
+    conn: &mut S,
+    gear: &mut G,
+    moment: u64,
+    call: Signed,
+    last: bool,
+) -> AfterTurn
+    requires fits { SignedFits call }
+    requires no_lapse { call ≢ unmarked_lapse }
+    requires in_time { moment ≤ last_moment }
+    requires room { (h : _) × D.seen desk.old h × (length (own_of (D.number desk.old) h) < 4503599627370496) }
+    ensures rules { D.rules desk.new ≡ D.rules desk.old }
+    ensures number { D.number desk.new ≡ D.number desk.old }
+    ensures home { D.home desk.new ≡ D.home desk.old }
+    ensures replied { (h : _) → D.seen desk.old h → HasReplied server.now.setup last (D.rules desk.old) (D.number desk.old) h moment call (D.seen desk.new)
+        (G.state gear.old) (G.state gear.new) (S.told conn.old) (S.told conn.new) (S.faults conn.old) (S.faults conn.new) result }
+{
+    match enter(desk, gear, moment, call) {
+        Ok(reply) => {
+            let ended = server.say_reply(alloc, conn, &reply, last);
+            drop(reply);
+            ended
+        }
+        Err(Mem) => server.say_starved(conn),
+    }
+}
+
+// Before which moment the parent is live, as the machine answers the server's question. None where it isn't.
+fn live_until<D: Desk<M = Gnap>, G: Draws>(
+    desk: &mut D,
+    gear: &mut G,
+    moment: u64,
+    asker: Bytes,
+    parent: Bytes,
+) -> Result<Option<u64>, Mem>
+    requires asker { IsUtf8 asker }
+    requires in_time { moment ≤ last_moment }
+    requires room { (h : _) × D.seen desk.old h × (length (own_of (D.number desk.old) h) < 4503599627370496) }
+    ensures rules { D.rules desk.new ≡ D.rules desk.old }
+    ensures number { D.number desk.new ≡ D.number desk.old }
+    ensures home { D.home desk.new ≡ D.home desk.old }
+    ensures told { (h : _) → D.seen desk.old h → WasTold (D.rules desk.old) (D.number desk.old) h moment asker parent (D.seen desk.new)
+        (G.state gear.old) (G.state gear.new) result }
+{
+    let told = enter(desk, gear, moment, question(asker, parent))?;
+    let end = active_until(&told);
+    drop(told);
+    Ok(end)
+}
+
 // The turn of a message by which no token is to be derived.
 fn plain_turn<D: Desk<M = Gnap>, S: Source + Sink, G: Clock + Draws>(
     server: &DerivingServer,
@@ -195,10 +253,9 @@ fn plain_turn<D: Desk<M = Gnap>, S: Source + Sink, G: Clock + Draws>(
     let _message = message;
     match step {
         RequestStep::Direct(answer) => server.say_direct(alloc, conn, answer, last),
-        RequestStep::Ask(call) => match enter(desk, gear, moment, call) {
-            Ok(reply) => server.say_reply(alloc, conn, &reply, last),
-            Err(Mem) => server.say_starved(conn),
-        },
+        RequestStep::Ask(call) => {
+            enter_and_reply(server, alloc, desk, conn, gear, moment, call, last)
+        }
     }
 }
 
@@ -225,18 +282,20 @@ fn derived_turn<D: Desk<M = Gnap>, S: Source + Sink, G: Clock + Draws>(
         desk.old h desk.new g (G.state gear.new) (S.told conn.old) (S.told conn.new) (S.faults conn.old) (S.faults conn.new) result }
 {
     let _message = message;
-    match enter(desk, gear, moment, question(asker, parent)) {
-        Err(Mem) => server.say_starved(conn),
-        Ok(told) => match active_until(&told) {
-            None => {
-                let denied = DirectAnswer::Error(ErrorCode::RequestDenied);
-                server.say_direct(alloc, conn, denied, last)
-            }
-            Some(end) => match enter(desk, gear, moment, ending(end, begin)) {
-                Err(Mem) => server.say_starved(conn),
-                Ok(reply) => server.say_reply(alloc, conn, &reply, last),
-            },
-        },
+    match live_until(desk, gear, moment, asker, parent) {
+        Ok(Some(end)) => {
+            let begun = ending(end, begin);
+            enter_and_reply(server, alloc, desk, conn, gear, moment, begun, last)
+        }
+        Ok(None) => {
+            drop(begin);
+            let denied = DirectAnswer::Error(ErrorCode::RequestDenied);
+            server.say_direct(alloc, conn, denied, last)
+        }
+        Err(Mem) => {
+            drop(begin);
+            server.say_starved(conn)
+        }
     }
 }
 

@@ -4,7 +4,7 @@ use Rattle.std.proofs.lemmas.List.{append-nil, take_all, take_more_set}
 use Rattle.rand_core.specs.Steps.{first_words}
 use Rattle.rand_chacha.specs.ChaCha.{ChaCha}
 use Rattle.grant_machine.specs.Gnap.{GnapEntry}
-use Rattle.desk_load.specs.Words.{next_of, Drawn, HaveDraws, after_words, draw_from, draw_of, generator_at}
+use Rattle.desk_load.specs.Words.{next_of, Drawn, HaveDraws, after_words, draw_from, generator_at}
 
 -- the generator at a place, whose number is reduced already or not
 abbrev at_place : List ℕ → ℕ → ℕ → ChaCha

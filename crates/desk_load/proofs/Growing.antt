@@ -1,5 +1,5 @@
 -- What a desk has seen, call by call.
-use Rattle.std.proofs.Common.{◌≡◌, ◌∙◌, ℕ, zero, suc, ◌+◌, ◌<◌, ◌≤◌, ◌^◌, Bool, true, false, List, [], ◌∷◌, ◌++◌, map, length, length-append, refl, ap, sym, subst, arith, append_assoc}
+use Rattle.std.proofs.Common.{◌≡◌, ◌∙◌, ℕ, zero, suc, ◌+◌, ◌<◌, ◌≤◌, ◌^◌, Bool, false, List, [], ◌∷◌, ◌++◌, map, length, length-append, refl, ap, sym, subst, arith, append_assoc}
 use Rattle.std.proofs.lemmas.List.{append-nil}
 use Rattle.std.specs.Prelude.{All, ◌%◌, ◌==◌, Some, Result, Ok, Err, IfOk}
 use Rattle.histories.specs.History.{entry_of, places}
@@ -10,13 +10,12 @@ use Rattle.gnap_model.specs.declared.calls.Reply.{Reply}
 use Rattle.gnap_model.specs.declared.objects.Setup.{Setup}
 use Rattle.signed_calls.specs.declared.signed.Signed.{Signed}
 use Rattle.grant_machine.specs.Gnap.{gnap, GnapEntry}
-use Rattle.rand_chacha.specs.ChaCha.{ChaCha}
 use Rattle.desk_load.specs.declared.progress.Progress.{Progress}
 use Rattle.desk_load.specs.declared.tally.Tally.{Tally}
-use Rattle.desk_load.specs.LoadCalls.{load_moment, marked, unmarked, opening_place, rotation_place, cancellation_place, opening_call, question_about, rotation_of, cancellation_of, calls_after, calls_through}
+use Rattle.desk_load.specs.LoadCalls.{load_moment, marked, opening_place, rotation_place, opening_call, rotation_of, calls_rotated, calls_opened, calls_through}
 use Rattle.desk_load.specs.Tallies.{count_by, one_if_active, one_if_inactive, one_if_done, tally_of, tally_of_reply, none_counted, Adds}
 use Rattle.desk_load.specs.Words.{Drawn, draw_from, after_words}
-use Rattle.desk_load.specs.Loads.{HasRoom, Grows, Asks, PutsThrough, EndsGrant, IsPutThrough, IsPart, IsShare, IsDrawnShare, DoesShare, begun}
+use Rattle.desk_load.specs.Loads.{HasRoom, Grows, Asks, AsksAbout, PutsThrough, AreMade, IsOpenedThrough, IsPutThrough, IsPart, IsShare, IsDrawnShare, DoesShare, begun}
 use Rattle.desk_load.proofs.Drawing.{drawn-append, have_draws}
 
 count-append : (one : Reply → ℕ) (h k : List GnapEntry) → count_by one (h ++ k) ≡ count_by one h + count_by one k
@@ -113,63 +112,71 @@ asks-of : (call : Signed) (reply : Reply) (n n' : ℕ) (seen : List GnapEntry �
     → Asks call reply n' seen h t u → Asks call reply n seen h t u
 asks-of call reply n n' seen h t u same asks = subst (λ k. Asks call reply k seen h t u) same asks
 
-pub not_ended : (grant : ℕ) (opened rotated : Reply) (n : ℕ) (seen : List GnapEntry → Type 0) (h : List GnapEntry) (t : Progress) → seen h
-    → PutsThrough (EndsGrant false grant opened rotated) n seen h t t
-not_ended grant opened rotated n seen h t s = record { entries = []; is_done = record { calls = refl; moments = none_at }; grows = grows-none n seen h t s }
+pub made_none : (n : ℕ) (seen : List GnapEntry → Type 0) (h : List GnapEntry) (t : Progress) → seen h → PutsThrough (AreMade []) n seen h t t
+made_none n seen h t s = record { entries = []; is_done = record { calls = refl; moments = none_at }; grows = grows-none n seen h t s }
 
-module _ (grant n n1 n2 : ℕ) (s0 s1 s2 : List GnapEntry → Type 0) (t0 t1 t2 : Progress) (opened rotated r1 r2 : Reply) (same1 : n1 ≡ n)
-    (ask1 : (h : List GnapEntry) → s0 h → Asks (marked grant cancellation_place (cancellation_of opened)) r1 n s1 h t0 t1)
-    (ask2 : (h : List GnapEntry) → s1 h → Asks (unmarked (question_about rotated)) r2 n1 s2 h t1 t2) where
-  pub ended : (h : List GnapEntry) → s0 h → PutsThrough (EndsGrant true grant opened rotated) n s2 h t0 t2
-  ended h s =
-      let a = ask1 h s in
-      let b = asks-of (unmarked (question_about rotated)) r2 n n1 s2 a.grows.history t1 t2 same1 (ask2 a.grows.history a.grows.seen_now) in
-      let calls : map (λ e. e.call) (a.entry ∷ b.entry ∷ []) ≡ calls_after true grant opened rotated = rw (a.call_is, b.call_is) refl in
+module _ (n n1 : ℕ) (s0 s1 s2 : List GnapEntry → Type 0) (t0 t1 t2 : Progress) (same : n1 ≡ n) where
+  -- a call, and calls behind it
+  pub made_behind : (call : Signed) (calls : List Signed)
+      → ((h : List GnapEntry) → s0 h → (reply : Reply) × Asks call reply n s1 h t0 t1)
+      → ((h : List GnapEntry) → s1 h → PutsThrough (AreMade calls) n1 s2 h t1 t2)
+      → (h : List GnapEntry) → s0 h → PutsThrough (AreMade (call ∷ calls)) n s2 h t0 t2
+  made_behind call calls ask behind h s =
+      let a = (ask h s).1 in
+      let more = behind a.grows.history a.grows.seen_now in
+      let are : map (λ e. e.call) (a.entry ∷ more.entries) ≡ call ∷ calls = rw (a.call_is, more.is_done.calls) refl in
       record {
-        entries = a.entry ∷ b.entry ∷ [];
-        is_done = record { calls = calls; moments = at_moment a.entry (b.entry ∷ []) a.moment_is (at_moment b.entry [] b.moment_is none_at) };
-        grows = grows-then n n s1 s2 h t0 t1 t2 (a.entry ∷ []) (b.entry ∷ []) refl a.grows b.grows;
+        entries = a.entry ∷ more.entries;
+        is_done = record { calls = are; moments = at_moment a.entry more.entries a.moment_is more.is_done.moments };
+        grows = grows-then n n1 s1 s2 h t0 t1 t2 (a.entry ∷ []) more.entries same a.grows more.grows;
       }
 
-module _ (grant n n1 n2 n3 n4 n5 : ℕ) (s0 s1 s2 s3 s4 s5 s6 : List GnapEntry → Type 0) (t0 t1 t2 t3 t4 t5 t6 : Progress) (ends : Bool)
-    (opened r2 rotated r4 r5 : Reply)
-    (same1 : n1 ≡ n) (same2 : n2 ≡ n1) (same3 : n3 ≡ n2) (same4 : n4 ≡ n3) (same5 : n5 ≡ n4)
-    (ask1 : (h : List GnapEntry) → s0 h → Asks (marked grant opening_place opening_call) opened n s1 h t0 t1)
-    (ask2 : (h : List GnapEntry) → s1 h → Asks (unmarked (question_about opened)) r2 n1 s2 h t1 t2)
-    (ask3 : (h : List GnapEntry) → s2 h → Asks (marked grant rotation_place (rotation_of opened)) rotated n2 s3 h t2 t3)
-    (ask4 : (h : List GnapEntry) → s3 h → Asks (unmarked (question_about opened)) r4 n3 s4 h t3 t4)
-    (ask5 : (h : List GnapEntry) → s4 h → Asks (unmarked (question_about rotated)) r5 n4 s5 h t4 t5)
-    (end : (h : List GnapEntry) → s5 h → PutsThrough (EndsGrant ends grant opened rotated) n5 s6 h t5 t6) where
-  pub put_through : (h : List GnapEntry) → s0 h → PutsThrough (IsPutThrough ends grant) n s6 h t0 t6
-  put_through h s =
-      let e1 = ask1 h s in
-      let e2 = asks-of _ _ n n1 _ _ _ _ same1 (ask2 e1.grows.history e1.grows.seen_now) in
-      let e3 = asks-of _ _ n n2 _ _ _ _ (same2 ∙ same1) (ask3 e2.grows.history e2.grows.seen_now) in
-      let e4 = asks-of _ _ n n3 _ _ _ _ (same3 ∙ same2 ∙ same1) (ask4 e3.grows.history e3.grows.seen_now) in
-      let e5 = asks-of _ _ n n4 _ _ _ _ (same4 ∙ same3 ∙ same2 ∙ same1) (ask5 e4.grows.history e4.grows.seen_now) in
-      let more = end e5.grows.history e5.grows.seen_now in
-      let g2 = grows-then n n _ _ h t0 t1 t2 (e1.entry ∷ []) (e2.entry ∷ []) refl e1.grows e2.grows in
-      let g3 = grows-then n n _ _ h t0 t2 t3 (e1.entry ∷ e2.entry ∷ []) (e3.entry ∷ []) refl g2 e3.grows in
-      let g4 = grows-then n n _ _ h t0 t3 t4 (e1.entry ∷ e2.entry ∷ e3.entry ∷ []) (e4.entry ∷ []) refl g3 e4.grows in
-      let g5 = grows-then n n _ _ h t0 t4 t5 (e1.entry ∷ e2.entry ∷ e3.entry ∷ e4.entry ∷ []) (e5.entry ∷ []) refl g4 e5.grows in
-      let calls : map (λ e. e.call) (e1.entry ∷ e2.entry ∷ e3.entry ∷ e4.entry ∷ e5.entry ∷ more.entries) ≡ calls_through ends grant opened rotated
-      = rw (e1.call_is, e2.call_is, e3.call_is, e4.call_is, e5.call_is, more.is_done.calls) refl in
+  -- the opening, and what is left of the grant
+  pub put_through : (ends : Bool) (grant : ℕ) (opened : Reply)
+      → ((h : List GnapEntry) → s0 h → Asks (marked grant opening_place opening_call) opened n s1 h t0 t1)
+      → ((h : List GnapEntry) → s1 h → PutsThrough (IsOpenedThrough ends grant opened) n1 s2 h t1 t2)
+      → (h : List GnapEntry) → s0 h → PutsThrough (IsPutThrough ends grant) n s2 h t0 t2
+  put_through ends grant opened ask behind h s =
+      let a = ask h s in
+      let more = behind a.grows.history a.grows.seen_now in
+      let rest = more.is_done in
+      let are : map (λ e. e.call) (a.entry ∷ more.entries) ≡ calls_through ends grant opened rest.rotated = rw (a.call_is, rest.calls) refl in
       record {
-        entries = e1.entry ∷ e2.entry ∷ e3.entry ∷ e4.entry ∷ e5.entry ∷ more.entries;
+        entries = a.entry ∷ more.entries;
         is_done = record {
           opened = opened;
-          rotated = rotated;
-          calls = calls;
-          opened_is = ap Some e1.reply_is;
-          rotated_is = ap Some e3.reply_is;
-          moments = at_moment e1.entry (e2.entry ∷ e3.entry ∷ e4.entry ∷ e5.entry ∷ more.entries) e1.moment_is
-              (at_moment e2.entry (e3.entry ∷ e4.entry ∷ e5.entry ∷ more.entries) e2.moment_is
-              (at_moment e3.entry (e4.entry ∷ e5.entry ∷ more.entries) e3.moment_is
-              (at_moment e4.entry (e5.entry ∷ more.entries) e4.moment_is
-              (at_moment e5.entry more.entries e5.moment_is more.is_done.moments))));
+          rotated = rest.rotated;
+          calls = are;
+          opened_is = ap Some a.reply_is;
+          rotated_is = rest.rotated_is;
+          moments = at_moment a.entry more.entries a.moment_is rest.moments;
         };
-        grows = grows-then n n5 _ _ h t0 t5 t6 (e1.entry ∷ e2.entry ∷ e3.entry ∷ e4.entry ∷ e5.entry ∷ []) more.entries
-            (same5 ∙ same4 ∙ same3 ∙ same2 ∙ same1) g5 more.grows;
+        grows = grows-then n n1 s1 s2 h t0 t1 t2 (a.entry ∷ []) more.entries same a.grows more.grows;
+      }
+
+module _ (n n1 n2 : ℕ) (s0 s1 s2 s3 : List GnapEntry → Type 0) (t0 t1 t2 t3 : Progress) (same1 : n1 ≡ n) (same2 : n2 ≡ n1) where
+  -- a question and the rotation, and what is left of the grant
+  pub opened_through : (ends : Bool) (grant : ℕ) (opened rotated : Reply)
+      → ((h : List GnapEntry) → s0 h → AsksAbout opened n s1 h t0 t1)
+      → ((h : List GnapEntry) → s1 h → Asks (marked grant rotation_place (rotation_of opened)) rotated n1 s2 h t1 t2)
+      → ((h : List GnapEntry) → s2 h → PutsThrough (AreMade (calls_rotated ends grant opened rotated)) n2 s3 h t2 t3)
+      → (h : List GnapEntry) → s0 h → PutsThrough (IsOpenedThrough ends grant opened) n s3 h t0 t3
+  opened_through ends grant opened rotated ask rotate behind h s =
+      let a = (ask h s).1 in
+      let b = asks-of _ _ n n1 _ _ _ _ same1 (rotate a.grows.history a.grows.seen_now) in
+      let more = behind b.grows.history b.grows.seen_now in
+      let g2 = grows-then n n s1 s2 h t0 t1 t2 (a.entry ∷ []) (b.entry ∷ []) refl a.grows b.grows in
+      let are : map (λ e. e.call) (a.entry ∷ b.entry ∷ more.entries) ≡ calls_opened ends grant opened rotated
+      = rw (a.call_is, b.call_is, more.is_done.calls) refl in
+      record {
+        entries = a.entry ∷ b.entry ∷ more.entries;
+        is_done = record {
+          rotated = rotated;
+          calls = are;
+          rotated_is = ap Some b.reply_is;
+          moments = at_moment a.entry (b.entry ∷ more.entries) a.moment_is (at_moment b.entry more.entries b.moment_is more.is_done.moments);
+        };
+        grows = grows-then n n2 s2 s3 h t0 t2 t3 (a.entry ∷ b.entry ∷ []) more.entries (same2 ∙ same1) g2 more.grows;
       }
 
 -- ---- a share

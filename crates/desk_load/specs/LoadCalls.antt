@@ -126,7 +126,14 @@ abbrev pub calls_after : Bool → ℕ → Reply → Reply → List Signed
 calls_after true grant opened rotated = marked grant cancellation_place (cancellation_of opened) ∷ unmarked (question_about rotated) ∷ []
 calls_after false grant opened rotated = []
 
+-- what follows the rotation, and what follows the opening
+abbrev pub calls_rotated : Bool → ℕ → Reply → Reply → List Signed
+calls_rotated ends grant opened rotated =
+    unmarked (question_about opened) ∷ unmarked (question_about rotated) ∷ calls_after ends grant opened rotated
+
+abbrev pub calls_opened : Bool → ℕ → Reply → Reply → List Signed
+calls_opened ends grant opened rotated =
+    unmarked (question_about opened) ∷ marked grant rotation_place (rotation_of opened) ∷ calls_rotated ends grant opened rotated
+
 abbrev pub calls_through : Bool → ℕ → Reply → Reply → List Signed
-calls_through ends grant opened rotated =
-    marked grant opening_place opening_call ∷ unmarked (question_about opened) ∷ marked grant rotation_place (rotation_of opened)
-    ∷ unmarked (question_about opened) ∷ unmarked (question_about rotated) ∷ calls_after ends grant opened rotated
+calls_through ends grant opened rotated = marked grant opening_place opening_call ∷ calls_opened ends grant opened rotated

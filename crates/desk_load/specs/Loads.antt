@@ -9,7 +9,7 @@ use Rattle.signed_calls.specs.Marks.{unmarked_lapse}
 use Rattle.grant_machine.specs.Gnap.{gnap, GnapEntry, SignedFits}
 use Rattle.desk_load.specs.declared.progress.Progress.{Progress}
 use Rattle.desk_load.specs.declared.tally.Tally.{Tally}
-use Rattle.desk_load.specs.LoadCalls.{load_moment, load_setup, calls_after, calls_through}
+use Rattle.desk_load.specs.LoadCalls.{load_moment, load_setup, unmarked, question_about, calls_opened, calls_through}
 use Rattle.desk_load.specs.Tallies.{none_counted, tally_of, Adds}
 use Rattle.desk_load.specs.Words.{HaveDraws, Drawn, generator_at}
 
@@ -22,9 +22,17 @@ pub record IsPutThrough (ends : Bool) (grant : ℕ) (entries : List GnapEntry) :
   pub rotated_is : slice_get (map (λ e. e.reply) entries) 2 ≡ Some rotated
   pub moments : All (λ e. e.moment ≡ load_moment) entries
 
--- The grant with this number was ended by these entries, where that is to be, by the replies to its opening and to its rotation.
-pub record EndsGrant (ends : Bool) (grant : ℕ) (opened rotated : Reply) (entries : List GnapEntry) : Type 0 where
-  pub calls : map (λ e. e.call) entries ≡ calls_after ends grant opened rotated
+-- What is left of the grant, whose opening got this reply, was done by these entries: their calls are those that follow from it and from the reply to the
+-- second.
+pub record IsOpenedThrough (ends : Bool) (grant : ℕ) (opened : Reply) (entries : List GnapEntry) : Type 0 where
+  pub rotated : Reply
+  pub calls : map (λ e. e.call) entries ≡ calls_opened ends grant opened rotated
+  pub rotated_is : slice_get (map (λ e. e.reply) entries) 1 ≡ Some rotated
+  pub moments : All (λ e. e.moment ≡ load_moment) entries
+
+-- These calls were made by these entries.
+pub record AreMade (made : List Signed) (entries : List GnapEntry) : Type 0 where
+  pub calls : map (λ e. e.call) entries ≡ made
   pub moments : All (λ e. e.moment ≡ load_moment) entries
 
 -- what a worker does of the grant with a number: all, where it is the worker's; each grant of an even number is ended
@@ -84,6 +92,11 @@ pub record Asks (call : Signed) (reply : Reply) (number : ℕ) (seen : List Gnap
   pub reply_is : entry.reply ≡ reply
   pub moment_is : entry.moment ≡ load_moment
   pub grows : Grows number seen before progress progress_now (entry ∷ [])
+
+-- One question more was asked about the token of a reply.
+abbrev pub AsksAbout : Reply → ℕ → (List GnapEntry → Type 0) → List GnapEntry → Progress → Progress → Type 0
+AsksAbout about number seen before progress progress_now =
+    (answer : Reply) × Asks (unmarked (question_about about)) answer number seen before progress progress_now
 
 -- A grant more was put through, or what a worker does of it.
 pub record PutsThrough (IsDone : List GnapEntry → Type 0) (number : ℕ) (seen : List GnapEntry → Type 0) (before : List GnapEntry)

@@ -98,10 +98,16 @@ fn mark_at(alloc: Global, grant: u32, place: u32) -> Result<Mark, Mem>
 fn marked(alloc: Global, grant: u32, place: u32, call: Call) -> Result<Signed, Mem>
     ensures { IfOk result (λ signed. signed ≡ marked grant place call) }
 {
-    Ok(Signed {
-        mark: Some(mark_at(alloc, grant, place)?),
-        call,
-    })
+    match mark_at(alloc, grant, place) {
+        Ok(mark) => Ok(Signed {
+            mark: Some(mark),
+            call,
+        }),
+        Err(Mem) => {
+            drop(call);
+            Err(Mem)
+        }
+    }
 }
 
 /// The client asks for a token for photos, in the grant with this number.

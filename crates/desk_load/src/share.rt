@@ -1,6 +1,7 @@
 //! A grant put through, and a worker's share of all grants.
 ghost use Rattle.std.specs.Prelude.{◌≡◌, ◌+◌, ◌*◌, ◌-◌, ◌<◌, ◌≤◌, ◌^◌, ◌==◌, ◌%◌, ℕ, Bool, IfOk, IsOk};
-ghost use Rattle.desk_load.specs.Loads.{HasRoom, Asks, PutsThrough, IsPutThrough, IsPart, EndsGrant, DoesShare};
+ghost use Rattle.desk_load.specs.LoadCalls.{calls_after, calls_rotated};
+ghost use Rattle.desk_load.specs.Loads.{HasRoom, AsksAbout, PutsThrough, AreMade, IsOpenedThrough, IsPutThrough, IsPart, DoesShare};
 ghost use Rattle.desk_load.specs.Tallies.{counted_in};
 
 use crate::asking::ask;
@@ -12,6 +13,28 @@ use gnap_model::calls::Reply;
 use grant_machine::Gnap;
 use histories::machine::Desk;
 use std::alloc::Global;
+
+// Asks about the token of a reply. The answer is only counted.
+fn ask_about<D: Desk<M = Gnap>>(
+    alloc: Global,
+    desk: &mut D,
+    progress: &mut Progress,
+    reply: &Reply,
+) -> Result<(), Mem>
+    requires room { HasRoom (D.number desk.old) (D.seen desk.old) 1 }
+    requires few { counted_in progress.old.tally + 1 < 2 ^ 64 }
+    ensures rules { D.rules desk.new ≡ D.rules desk.old }
+    ensures number { D.number desk.new ≡ D.number desk.old }
+    ensures home { D.home desk.new ≡ D.home desk.old }
+    ensures asks { IfOk result (λ _. (h : _) → D.seen desk.old h
+        → AsksAbout reply.now (D.number desk.old) (D.seen desk.new) h progress.old progress.new) }
+    ensures room { IsOk result → (m : ℕ) → HasRoom (D.number desk.old) (D.seen desk.old) (m + 1)
+        → HasRoom (D.number desk.new) (D.seen desk.new) m }
+    ensures most { counted_in progress.new.tally ≤ counted_in progress.old.tally + 1 }
+{
+    drop(ask(desk, progress, question_about(alloc, reply)?)?);
+    Ok(())
+}
 
 // Ends a grant where that is to be, and asks about its token once more.
 fn end_grant<D: Desk<M = Gnap>>(
@@ -29,7 +52,7 @@ fn end_grant<D: Desk<M = Gnap>>(
     ensures number { D.number desk.new ≡ D.number desk.old }
     ensures home { D.home desk.new ≡ D.home desk.old }
     ensures ends { IfOk result (λ _. (h : _) → D.seen desk.old h
-        → PutsThrough (EndsGrant ends grant opened.now rotated.now) (D.number desk.old) (D.seen desk.new) h progress.old progress.new) }
+        → PutsThrough (AreMade (calls_after ends grant opened.now rotated.now)) (D.number desk.old) (D.seen desk.new) h progress.old progress.new) }
     ensures room { IsOk result → (m : ℕ) → HasRoom (D.number desk.old) (D.seen desk.old) (m + 2)
         → HasRoom (D.number desk.new) (D.seen desk.new) m }
     ensures most { counted_in progress.new.tally ≤ counted_in progress.old.tally + 2 }
@@ -37,9 +60,61 @@ fn end_grant<D: Desk<M = Gnap>>(
     if !ends {
         return Ok(());
     }
-    ask(desk, progress, cancellation_of(alloc, grant, opened)?)?;
-    ask(desk, progress, question_about(alloc, rotated)?)?;
-    Ok(())
+    drop(ask(desk, progress, cancellation_of(alloc, grant, opened)?)?);
+    ask_about(alloc, desk, progress, rotated)
+}
+
+// Asks about the tokens of a grant whose token was rotated, the old one and the new one, and ends the grant where that is to be.
+fn put_rotated_through<D: Desk<M = Gnap>>(
+    alloc: Global,
+    desk: &mut D,
+    progress: &mut Progress,
+    ends: bool,
+    grant: u32,
+    opened: &Reply,
+    rotated: &Reply,
+) -> Result<(), Mem>
+    requires room { HasRoom (D.number desk.old) (D.seen desk.old) 4 }
+    requires few { counted_in progress.old.tally + 4 < 2 ^ 64 }
+    ensures rules { D.rules desk.new ≡ D.rules desk.old }
+    ensures number { D.number desk.new ≡ D.number desk.old }
+    ensures home { D.home desk.new ≡ D.home desk.old }
+    ensures puts { IfOk result (λ _. (h : _) → D.seen desk.old h
+        → PutsThrough (AreMade (calls_rotated ends grant opened.now rotated.now)) (D.number desk.old) (D.seen desk.new) h progress.old progress.new) }
+    ensures room { IsOk result → (m : ℕ) → HasRoom (D.number desk.old) (D.seen desk.old) (m + 4)
+        → HasRoom (D.number desk.new) (D.seen desk.new) m }
+    ensures most { counted_in progress.new.tally ≤ counted_in progress.old.tally + 4 }
+{
+    ask_about(alloc, desk, progress, opened)?;
+    ask_about(alloc, desk, progress, rotated)?;
+    end_grant(alloc, desk, progress, ends, grant, opened, rotated)
+}
+
+// Asks about the token of a grant that was opened, rotates it, and puts the rest of the grant through.
+fn put_opened_through<D: Desk<M = Gnap>>(
+    alloc: Global,
+    desk: &mut D,
+    progress: &mut Progress,
+    ends: bool,
+    grant: u32,
+    opened: &Reply,
+) -> Result<(), Mem>
+    requires room { HasRoom (D.number desk.old) (D.seen desk.old) 6 }
+    requires few { counted_in progress.old.tally + 6 < 2 ^ 64 }
+    ensures rules { D.rules desk.new ≡ D.rules desk.old }
+    ensures number { D.number desk.new ≡ D.number desk.old }
+    ensures home { D.home desk.new ≡ D.home desk.old }
+    ensures puts { IfOk result (λ _. (h : _) → D.seen desk.old h
+        → PutsThrough (IsOpenedThrough ends grant opened.now) (D.number desk.old) (D.seen desk.new) h progress.old progress.new) }
+    ensures room { IsOk result → (m : ℕ) → HasRoom (D.number desk.old) (D.seen desk.old) (m + 6)
+        → HasRoom (D.number desk.new) (D.seen desk.new) m }
+    ensures most { counted_in progress.new.tally ≤ counted_in progress.old.tally + 6 }
+{
+    ask_about(alloc, desk, progress, opened)?;
+    let rotated = ask(desk, progress, rotation_of(alloc, grant, opened)?)?;
+    let put = put_rotated_through(alloc, desk, progress, ends, grant, opened, &rotated);
+    drop(rotated);
+    put
 }
 
 // Puts a grant through.
@@ -62,11 +137,9 @@ fn put_through<D: Desk<M = Gnap>>(
     ensures most { counted_in progress.new.tally ≤ counted_in progress.old.tally + 7 }
 {
     let opened = ask(desk, progress, opening_call(alloc, grant)?)?;
-    ask(desk, progress, question_about(alloc, &opened)?)?;
-    let rotated = ask(desk, progress, rotation_of(alloc, grant, &opened)?)?;
-    ask(desk, progress, question_about(alloc, &opened)?)?;
-    ask(desk, progress, question_about(alloc, &rotated)?)?;
-    end_grant(alloc, desk, progress, ends, grant, &opened, &rotated)
+    let put = put_opened_through(alloc, desk, progress, ends, grant, &opened);
+    drop(opened);
+    put
 }
 
 // Puts a grant through where it is the worker's. Each grant of an even number is ended.

@@ -1,5 +1,5 @@
 -- Where a text is at fault that should be a setup.
-use Rattle.std.specs.Prelude.{◌≡◌, ◌⊎◌, ◌≤◌, ℕ, List, true, false, Option, Some, None, is_some, option_and_then, codes}
+use Rattle.std.specs.Prelude.{◌≡◌, ◌⊎◌, ℕ, List, true, false, Option, Some, None, is_some, option_and_then, codes}
 use Rattle.std.specs.Str.{IsUtf8}
 use Rattle.serde_json.specs.Data.{Data}
 use Rattle.serde_json.specs.Find.{get, at, as_str, as_object}
@@ -21,14 +21,13 @@ IsNoJson text = IsUtf8 text → read text ≡ None
 abbrev pub id_at : ℕ → Data → Option (List ℕ)
 id_at place value = option_and_then as_str (option_and_then (get (codes "id")) (option_and_then (at place) (get (codes "keys") value)))
 
--- where a text is at fault that is no object with whole numbers; no place is known of no JSON of which its reader tells no line, and there is none in an object
--- with whole numbers
+-- where a text is at fault that is no object with whole numbers; an object with whole numbers has no such place
 abbrev pub IsInText : List ℕ → FaultPlace → Type 0
-IsInText text (Syntax line column) = IsNoJson text × (1 ≤ line)
+IsInText text (Syntax line column) = IsNoJson text
 IsInText text NoObject = (value : Data) × IsJsonOf value text × (is_some (as_object value) ≡ false)
 IsInText text Number = (value : Data) × IsJsonOf value text × (is_some (as_object value) ≡ true) × (has_float value ≡ true)
 IsInText text (Key id) = ⊥
-IsInText text Unknown = IsNoJson text ⊎ ((value : Data) × IsJsonOf value text × (is_some (as_object value) ≡ true) × (has_float value ≡ false))
+IsInText text Unknown = (value : Data) × IsJsonOf value text × (is_some (as_object value) ≡ true) × (has_float value ≡ false)
 IsInText text OutOfMemory = Unit {0}
 
 -- where a text is at fault in its key at a place; none is known where the text is no JSON, or has no id there

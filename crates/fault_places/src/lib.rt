@@ -1,8 +1,8 @@
 //! Where in a text a person finds its fault: the line and the column of what is no JSON, or the id of a key.
 //!
 //! This is for what is said on standard error alone. The contract of `fault_place` says that a place that is told is one: no JSON, no object, a number that
-//! isn't whole, or the id of the key. That none is known is told only where the text has none of these, or is no JSON and its reader knows no line, and that
-//! memory ran out is told by itself.
+//! isn't whole, or the id of the key. That none is known is told only where the text has none of these, and that memory ran out is told by itself. Which line
+//! it is that can't be read on is the word of the JSON reader, whose contract says nothing of it.
 #![tactic(auto)]
 
 ghost use Rattle.std.specs.Prelude.{◌≡◌, option_map};
@@ -19,7 +19,7 @@ use std::fmt;
 /// Where a text that should be a setup or a configuration is at fault.
 #[derive(Drop)]
 pub enum FaultPlace {
-    /// It is no JSON: it can't be read on from this line and this column, both counted from 1.
+    /// It is no JSON: it can't be read on from this line and this column, both counted from 1; both are 0 where the reader knows no line.
     Syntax { line: usize, column: usize },
     /// It is JSON, but no object.
     NoObject,
@@ -36,6 +36,7 @@ pub enum FaultPlace {
 impl fmt::Display for FaultPlace {
     fn fmt<W: fmt::Write>(&self, f: &mut fmt::Formatter<W>) -> fmt::Result {
         match self {
+            FaultPlace::Syntax { line: 0, .. } => f.write_str("it is no JSON"),
             FaultPlace::Syntax { line, column } => {
                 write!(f, "it is no JSON at line {line}, column {column}")
             }
@@ -70,12 +71,8 @@ fn json_place(alloc: Global, text: &[u8]) -> FaultPlace
             if error.is_memory() {
                 return FaultPlace::OutOfMemory;
             }
-            let line = error.line();
-            if line == 0 {
-                return FaultPlace::Unknown;
-            }
             FaultPlace::Syntax {
-                line,
+                line: error.line(),
                 column: error.column(),
             }
         }

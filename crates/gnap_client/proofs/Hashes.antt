@@ -18,7 +18,7 @@ use Rattle.gnap_client.specs.declared.client.ReadReply.TheVariants.{Given, Resou
 use Rattle.gnap_client.specs.declared.config.ClientConfig.{ClientConfig}
 use Rattle.gnap_client.specs.declared.client.ClientFault.TheVariants as faults
 use Rattle.gnap_client.specs.Received.{finish_of}
-use Rattle.gnap_client.specs.Calls.{is_pending, nonce_of, both_of, awaits, awaited, awaited_hash, checked_hash, finish_call}
+use Rattle.gnap_client.specs.Calls.{is_pending, nonce_of, both_of, awaits, awaited, awaited_hash, checked_hash, own_hash, finish_call}
 use Rattle.gnap_client.specs.Laws.{last_told, pending_told, interaction_told, FinishesByHash}
 use Rattle.gnap_client.proofs.Memory.{finish_is_last_law, interaction_is_last_law}
 
@@ -130,13 +130,13 @@ record IsDue (c : Client) (hash reference : List ℕ) : Type 0 where
 finish_due : (c : Client) (hash reference : List ℕ) (request : DueRequest) → finish_call c hash reference ≡ Ok request → IsDue c hash reference
 unfolding finish_call
 finish_due c hash reference request e =
-    let waits = bind_ok (awaited c.received.state (awaits c.received)) _ request e in
-    let checks = bind_ok (checked_hash (awaited_hash c.config.server waits.0 reference) hash) _ request waits.2 in
+    let own = bind_ok (own_hash c hash reference) _ request e in
+    let waits = bind_ok (awaited c.received.state (awaits c.received)) _ own.0 own.1 in
     record {
       both = waits.0;
       awaits_it = awaited_ok c.received.state (awaits c.received) waits.0 waits.1;
       same = (bytes_eq-Decides (awaited_hash c.config.server waits.0 reference) hash).0
-          (checked_ok (awaited_hash c.config.server waits.0 reference) hash checks.0 checks.1);
+          (checked_ok (awaited_hash c.config.server waits.0 reference) hash own.0 waits.2);
     }
 
 pub finishes_by_hash_law : FinishesByHash

@@ -69,6 +69,22 @@ reference_fields reference = (codes "interact_ref", Some (string reference)) ∷
 abbrev pub reference_body : List ℕ → List ℕ
 reference_body reference = compact_text (object_of (reference_fields reference))
 
+-- a request to continue the grant, with what it asks for (section 5)
+abbrev pub continuation : Client → List ℕ → List ℕ → Asked → DueRequest
+continuation c method body asked = record {
+  base = c.config.server;
+  message = request_message method (codes "/continue") (with_door c.received) body;
+  asks = asked;
+}
+
+-- a request to manage a token (section 6)
+abbrev pub management : Client → List ℕ → TokenOut → Asked → DueRequest
+management c method token asked = record {
+  base = c.config.server;
+  message = request_message method (codes "/token") (Some (Gnap, token.manage)) [];
+  asks = asked;
+}
+
 -- ---- the calls
 
 -- a grant request (section 2)
@@ -81,27 +97,16 @@ begin_call c request = in_state is_fresh c.received >>= λ received. Ok (record 
 
 -- a continuation without a reference (section 5.2)
 unfoldable pub poll_call : Client → Result DueRequest ClientFault
-poll_call c = in_state is_open c.received >>= λ received. Ok (record {
-  base = c.config.server;
-  message = request_message (codes "POST") (codes "/continue") (with_door received) [];
-  asks = asks.Continuation;
-})
+poll_call c = in_state is_open c.received >>= λ received. Ok (continuation c (codes "POST") [] asks.Continuation)
 
 -- a modification (section 5.3)
 unfoldable pub patch_call : Client → GrantRequest → Result DueRequest ClientFault
-patch_call c request = in_state is_open c.received >>= λ received. Ok (record {
-  base = c.config.server;
-  message = request_message (codes "PATCH") (codes "/continue") (with_door received) (grant_text request);
-  asks = asks.Grant (finish_asked request.modes);
-})
+patch_call c request =
+    in_state is_open c.received >>= λ received. Ok (continuation c (codes "PATCH") (grant_text request) (asks.Grant (finish_asked request.modes)))
 
 -- a cancellation (section 5.4)
 unfoldable pub cancel_call : Client → Result DueRequest ClientFault
-cancel_call c = in_state is_open c.received >>= λ received. Ok (record {
-  base = c.config.server;
-  message = request_message (codes "DELETE") (codes "/continue") (with_door received) [];
-  asks = asks.Cancellation;
-})
+cancel_call c = in_state is_open c.received >>= λ received. Ok (continuation c (codes "DELETE") [] asks.Cancellation)
 
 abbrev pub nonce_of : Option Interaction → Option (List ℕ)
 nonce_of None = None
@@ -126,16 +131,14 @@ awaited_hash server both reference = interaction_hash both.0.long both.0.nonce b
 abbrev pub checked_hash : List ℕ → List ℕ → Result (List ℕ) ClientFault
 checked_hash wanted hash = if bytes_eq wanted hash then Ok wanted else Err (faults.HashDiffers wanted hash)
 
+-- the hash of the client's interaction with this reference, where it is this one
+abbrev pub own_hash : Client → List ℕ → List ℕ → Result (List ℕ) ClientFault
+own_hash c hash reference =
+    awaited c.received.state (awaits c.received) >>= λ both. checked_hash (awaited_hash c.config.server both reference) hash
+
 -- a continuation with an interaction reference (section 5.1), where the hash is that of the interaction
 unfoldable pub finish_call : Client → List ℕ → List ℕ → Result DueRequest ClientFault
-finish_call c hash reference = do
-  both ← awaited c.received.state (awaits c.received)
-  same ← checked_hash (awaited_hash c.config.server both reference) hash
-  Ok (record {
-    base = c.config.server;
-    message = request_message (codes "POST") (codes "/continue") (with_door c.received) (reference_body reference);
-    asks = asks.Continuation;
-  })
+finish_call c hash reference = own_hash c hash reference >>= λ same. Ok (continuation c (codes "POST") (reference_body reference) asks.Continuation)
 
 abbrev pub token_in : List TokenOut → Option TokenOut → Result TokenOut ClientFault
 token_in tokens None = Err (faults.NoToken (length tokens))
@@ -147,19 +150,11 @@ token_at received i = in_state is_approved received >>= λ (r : Received). token
 
 -- the rotation of a token (section 6.1)
 unfoldable pub rotate_call : Client → ℕ → Result DueRequest ClientFault
-rotate_call c i = token_at c.received i >>= λ (token : TokenOut). Ok (record {
-  base = c.config.server;
-  message = request_message (codes "POST") (codes "/token") (Some (Gnap, token.manage)) [];
-  asks = asks.Rotation i;
-})
+rotate_call c i = token_at c.received i >>= λ (token : TokenOut). Ok (management c (codes "POST") token (asks.Rotation i))
 
 -- its revocation (section 6.2)
 unfoldable pub revoke_call : Client → ℕ → Result DueRequest ClientFault
-revoke_call c i = token_at c.received i >>= λ (token : TokenOut). Ok (record {
-  base = c.config.server;
-  message = request_message (codes "DELETE") (codes "/token") (Some (Gnap, token.manage)) [];
-  asks = asks.Revocation;
-})
+revoke_call c i = token_at c.received i >>= λ (token : TokenOut). Ok (management c (codes "DELETE") token asks.Revocation)
 
 abbrev pub scheme_for : TokenOut → Scheme
 scheme_for token = if token.bearer then Bearer else Gnap

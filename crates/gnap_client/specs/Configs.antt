@@ -23,13 +23,16 @@ Parts = List ℕ × List ℕ × List ℕ × List ℕ
 abbrev pub parts_of : ClientConfig → Parts
 parts_of c = (c.server, c.resource, c.id, c.secret)
 
--- The parts of the configuration that the bytes are: one JSON object in which each number is whole, with exactly these members.
-unfoldable pub client_config_of : List ℕ → Result Parts SetupFault
-client_config_of text = do
-  d ← object_in (body_of text)
+-- the parts of the configuration that an object is, with exactly these members
+unfoldable pub config_in : Data → Result Parts SetupFault
+config_in d = do
   server ← in_setup (base_of (codes "server") d)
   resource ← in_setup (base_of (codes "resource") d)
   id ← in_setup (client_id_of d)
   secret ← in_setup (secret_of d)
   no_others ← in_setup (without_others config_members d (tt {0}))
   Ok (server, resource, id, secret)
+
+-- The parts of the configuration that the bytes are: one JSON object in which each number is whole.
+unfoldable pub client_config_of : List ℕ → Result Parts SetupFault
+client_config_of text = object_in (body_of text) >>= config_in

@@ -8,7 +8,7 @@ ghost use Rattle.gnap_objects.specs.CallsFit.{ModesFitOr};
 ghost use Rattle.message_signature.specs.Marks.{is_nonce};
 ghost use Rattle.signed_requests.specs.Forms.{is_method, is_target};
 ghost use Rattle.gnap_client.specs.declared.client.ClientFault.TheVariants.{OutOfMemory, WrongState};
-ghost use Rattle.gnap_client.specs.Calls.{HasAsked, is_fresh, is_pending, is_approved, is_open, request_message, with_door, finish_asked, reference_fields, reference_body, begin_call, poll_call, patch_call, cancel_call, awaited_hash, checked_hash, awaits, finish_call, token_at, rotate_call, revoke_call, scheme_for, use_call};
+ghost use Rattle.gnap_client.specs.Calls.{HasAsked, is_fresh, is_pending, is_approved, is_open, request_message, with_door, finish_asked, continuation, management, reference_fields, reference_body, begin_call, poll_call, patch_call, cancel_call, awaited_hash, checked_hash, awaits, own_hash, finish_call, token_at, rotate_call, revoke_call, scheme_for, use_call};
 
 use crate::client::{Asked, Client, ClientFault, Received, State};
 use bytes_and_lists::bytes::Bytes;
@@ -17,8 +17,8 @@ use gnap_model::calls::TokenOut;
 use gnap_model::objects::{Finish, GrantRequest, Modes};
 use grant_values::grant_text;
 use interaction::interaction_hash;
-use json_objects::{compact_text, put, text_value};
-use serde_json::{Map, Value};
+use json_objects::{Draft, compact_text, text_value};
+use serde_json::Value;
 use signed_requests::{Scheme, UnsignedRequest, marked_request};
 use std::alloc::Global;
 
@@ -64,15 +64,28 @@ fn in_state(so: bool, state: State) -> Result<(), ClientFault>
     }
 }
 
+fn presented_copy(
+    alloc: Global,
+    presented: Option<(Scheme, &[u8])>,
+) -> Result<Option<(Scheme, Bytes)>, Mem>
+    ensures { IfOk result (λ p. p ≡ option_map (λ x. (x.0, x.1.now)) presented.entry) }
+{
+    match presented {
+        Some((scheme, value)) => Ok(Some((scheme, Bytes::from_slice(alloc, value)?))),
+        None => Ok(None),
+    }
+}
+
 fn request_message(
     alloc: Global,
     method: &[u8],
     target: &[u8],
-    presented: Option<(Scheme, Bytes)>,
+    presented: Option<(Scheme, &[u8])>,
     body: Bytes,
 ) -> Result<UnsignedRequest, Mem>
-    ensures { IfOk result (λ m. m ≡ request_message method.now target.now presented body) }
+    ensures { IfOk result (λ m. m ≡ request_message method.now target.now (option_map (λ x. (x.0, x.1.now)) presented.entry) body) }
 {
+    let presented = presented_copy(alloc, presented)?;
     Ok(UnsignedRequest {
         method: Bytes::from_slice(alloc, method)?,
         target: Bytes::from_slice(alloc, target)?,
@@ -81,12 +94,35 @@ fn request_message(
     })
 }
 
-fn with_door(received: &Received) -> Result<Option<(Scheme, Bytes)>, Mem>
-    ensures { IfOk result (λ p. p ≡ with_door received.now) }
+fn due_request(
+    alloc: Global,
+    base: &Bytes,
+    method: &[u8],
+    target: &[u8],
+    presented: Option<(Scheme, &[u8])>,
+    body: Bytes,
+    asks: Asked,
+) -> Result<DueRequest, ClientFault>
+    ensures { Gives OutOfMemory (λ r. r) result (Ok (record {
+      base = base.now;
+      message = request_message method.now target.now (option_map (λ x. (x.0, x.1.now)) presented.entry) body;
+      asks = asks;
+    })) }
+{
+    let message = request_message(alloc, method, target, presented, body)?;
+    Ok(DueRequest {
+        base: base.copy()?,
+        message,
+        asks,
+    })
+}
+
+fn with_door(received: &Received) -> Option<(Scheme, &[u8])>
+    ensures { option_map (λ p. (p.0, p.1.now)) result ≡ with_door received.now }
 {
     match &received.door {
-        Some(door) => Ok(Some((Scheme::Gnap, door.copy()?))),
-        None => Ok(None),
+        Some(door) => Some((Scheme::Gnap, door.as_slice())),
+        None => None,
     }
 }
 
@@ -103,10 +139,9 @@ fn reference_value(alloc: Global, reference: &[u8]) -> Result<Value, Mem>
     requires { IsUtf8 reference.now }
     ensures { IfOk result (λ v. view v ≡ object_of (reference_fields reference.now)) }
 {
-    let mut map = Map::new(alloc);
-    let text = text_value(alloc, reference)?;
-    put(&mut map, alloc, "interact_ref", Some(text))?;
-    Ok(Value::Object(map))
+    Draft::new(alloc)
+        .with("interact_ref", text_value(alloc, reference))
+        .value()
 }
 
 #[tactic(auto, using(crate::proofs::References::reference_whole))]
@@ -195,6 +230,46 @@ fn scheme_for(token: &TokenOut) -> Scheme
 
 // What each call asks for.
 impl Client {
+    // A request to continue the grant, with what it asks for.
+    fn continuation(
+        &self,
+        method: &[u8],
+        body: Bytes,
+        asks: Asked,
+    ) -> Result<DueRequest, ClientFault>
+        ensures { Gives OutOfMemory (λ r. r) result (Ok (continuation self.now method.now body asks)) }
+    {
+        due_request(
+            self.alloc,
+            &self.config.server,
+            method,
+            b"/continue",
+            with_door(&self.received),
+            body,
+            asks,
+        )
+    }
+
+    // A request to manage this token.
+    fn management(
+        &self,
+        method: &[u8],
+        token: &TokenOut,
+        asks: Asked,
+    ) -> Result<DueRequest, ClientFault>
+        ensures { Gives OutOfMemory (λ r. r) result (Ok (management self.now method.now token.now asks)) }
+    {
+        due_request(
+            self.alloc,
+            &self.config.server,
+            method,
+            b"/token",
+            Some((Scheme::Gnap, token.manage.as_slice())),
+            Bytes::new(self.alloc),
+            asks,
+        )
+    }
+
     #[tactic(auto, unfolding(crate::specs::Calls::begin_call))]
     fn begin_call(&self, request: &GrantRequest) -> Result<DueRequest, ClientFault>
         requires fits { RequestFits request.now }
@@ -204,27 +279,24 @@ impl Client {
         let alloc = self.alloc;
         in_state(is_fresh(self.received.state), self.received.state)?;
         let body = grant_text(alloc, request)?;
-        Ok(DueRequest {
-            base: self.config.server.copy()?,
-            message: request_message(alloc, b"POST", b"/gnap", None, body)?,
-            asks: Asked::Grant {
-                finish: finish_asked(&request.modes)?,
-            },
-        })
+        let finish = finish_asked(&request.modes)?;
+        due_request(
+            alloc,
+            &self.config.server,
+            b"POST",
+            b"/gnap",
+            None,
+            body,
+            Asked::Grant { finish },
+        )
     }
 
     #[tactic(auto, unfolding(crate::specs::Calls::poll_call))]
     fn poll_call(&self) -> Result<DueRequest, ClientFault>
         ensures { Gives OutOfMemory (λ r. r) result (poll_call self.now) }
     {
-        let alloc = self.alloc;
         in_state(is_open(self.received.state), self.received.state)?;
-        let presented = with_door(&self.received)?;
-        Ok(DueRequest {
-            base: self.config.server.copy()?,
-            message: request_message(alloc, b"POST", b"/continue", presented, Bytes::new(alloc))?,
-            asks: Asked::Continuation,
-        })
+        self.continuation(b"POST", Bytes::new(self.alloc), Asked::Continuation)
     }
 
     #[tactic(auto, unfolding(crate::specs::Calls::patch_call))]
@@ -233,31 +305,31 @@ impl Client {
         requires modes { ModesFitOr request.now.modes }
         ensures { Gives OutOfMemory (λ r. r) result (patch_call self.now request.now) }
     {
-        let alloc = self.alloc;
         in_state(is_open(self.received.state), self.received.state)?;
-        let presented = with_door(&self.received)?;
-        let body = grant_text(alloc, request)?;
-        Ok(DueRequest {
-            base: self.config.server.copy()?,
-            message: request_message(alloc, b"PATCH", b"/continue", presented, body)?,
-            asks: Asked::Grant {
-                finish: finish_asked(&request.modes)?,
-            },
-        })
+        let body = grant_text(self.alloc, request)?;
+        let finish = finish_asked(&request.modes)?;
+        self.continuation(b"PATCH", body, Asked::Grant { finish })
     }
 
     #[tactic(auto, unfolding(crate::specs::Calls::cancel_call))]
     fn cancel_call(&self) -> Result<DueRequest, ClientFault>
         ensures { Gives OutOfMemory (λ r. r) result (cancel_call self.now) }
     {
-        let alloc = self.alloc;
         in_state(is_open(self.received.state), self.received.state)?;
-        let presented = with_door(&self.received)?;
-        Ok(DueRequest {
-            base: self.config.server.copy()?,
-            message: request_message(alloc, b"DELETE", b"/continue", presented, Bytes::new(alloc))?,
-            asks: Asked::Cancellation,
-        })
+        self.continuation(b"DELETE", Bytes::new(self.alloc), Asked::Cancellation)
+    }
+
+    // The hash of the interaction with this reference, where it is this one.
+    fn own_hash(&self, hash: &[u8], reference: &[u8]) -> Result<Bytes, ClientFault>
+        ensures { Gives OutOfMemory (λ b. b) result (own_hash self.now hash.now reference.now) }
+    {
+        let Some((finish, nonce)) = awaits(&self.received) else {
+            return Err(ClientFault::WrongState {
+                state: self.received.state,
+            });
+        };
+        let wanted = awaited_hash(self.alloc, &self.config.server, finish, nonce, reference)?;
+        checked_hash(self.alloc, wanted, hash)
     }
 
     #[tactic(auto, unfolding(crate::specs::Calls::finish_call))]
@@ -265,67 +337,41 @@ impl Client {
         requires { IsUtf8 reference.now }
         ensures { Gives OutOfMemory (λ r. r) result (finish_call self.now hash.now reference.now) }
     {
-        let alloc = self.alloc;
-        let (finish, nonce) = match awaits(&self.received) {
-            Some(both) => both,
-            None => return Err(ClientFault::WrongState {
-                state: self.received.state,
-            }),
-        };
-        let wanted = awaited_hash(alloc, &self.config.server, finish, nonce, reference)?;
-        let _same = checked_hash(alloc, wanted, hash)?;
-        let presented = with_door(&self.received)?;
-        let body = reference_body(alloc, reference)?;
-        Ok(DueRequest {
-            base: self.config.server.copy()?,
-            message: request_message(alloc, b"POST", b"/continue", presented, body)?,
-            asks: Asked::Continuation,
-        })
+        let _same = self.own_hash(hash, reference)?;
+        let body = reference_body(self.alloc, reference)?;
+        self.continuation(b"POST", body, Asked::Continuation)
     }
 
     #[tactic(auto, unfolding(crate::specs::Calls::rotate_call))]
     fn rotate_call(&self, i: usize) -> Result<DueRequest, ClientFault>
         ensures { Gives OutOfMemory (λ r. r) result (rotate_call self.now i) }
     {
-        let alloc = self.alloc;
         let token = token_at(&self.received, i)?;
-        let manage = Bytes::from_slice(alloc, token.manage.as_slice())?;
-        let presented = Some((Scheme::Gnap, manage));
-        Ok(DueRequest {
-            base: self.config.server.copy()?,
-            message: request_message(alloc, b"POST", b"/token", presented, Bytes::new(alloc))?,
-            asks: Asked::Rotation { token: i },
-        })
+        self.management(b"POST", token, Asked::Rotation { token: i })
     }
 
     #[tactic(auto, unfolding(crate::specs::Calls::revoke_call))]
     fn revoke_call(&self, i: usize) -> Result<DueRequest, ClientFault>
         ensures { Gives OutOfMemory (λ r. r) result (revoke_call self.now i) }
     {
-        let alloc = self.alloc;
         let token = token_at(&self.received, i)?;
-        let manage = Bytes::from_slice(alloc, token.manage.as_slice())?;
-        let presented = Some((Scheme::Gnap, manage));
-        Ok(DueRequest {
-            base: self.config.server.copy()?,
-            message: request_message(alloc, b"DELETE", b"/token", presented, Bytes::new(alloc))?,
-            asks: Asked::Revocation,
-        })
+        self.management(b"DELETE", token, Asked::Revocation)
     }
 
     #[tactic(auto, unfolding(crate::specs::Calls::use_call))]
     fn use_call(&self, i: usize, method: &[u8], path: &[u8]) -> Result<DueRequest, ClientFault>
         ensures { Gives OutOfMemory (λ r. r) result (use_call self.now i method.now path.now) }
     {
-        let alloc = self.alloc;
         let token = token_at(&self.received, i)?;
-        let value = Bytes::from_slice(alloc, token.value.as_slice())?;
-        let presented = Some((scheme_for(token), value));
-        Ok(DueRequest {
-            base: self.config.resource.copy()?,
-            message: request_message(alloc, method, path, presented, Bytes::new(alloc))?,
-            asks: Asked::Resource,
-        })
+        due_request(
+            self.alloc,
+            &self.config.resource,
+            method,
+            path,
+            Some((scheme_for(token), token.value.as_slice())),
+            Bytes::new(self.alloc),
+            Asked::Resource,
+        )
     }
 
     // Signs the request with this nonce, and makes it the outstanding one. An `Err` changes nothing.

@@ -6,7 +6,7 @@ ghost use Rattle.json_objects.specs.Reading.{Gives};
 ghost use Rattle.structured_fields.specs.Letters.{is_string_byte};
 ghost use Rattle.gnap_objects.specs.declared.fault.ObjectFault.TheVariants as faults;
 ghost use Rattle.gnap_objects.specs.declared.setups.SetupFault.TheVariants.{OutOfMemory};
-ghost use Rattle.gnap_client.specs.Configs.{client_id_of, parts_of, client_config_of};
+ghost use Rattle.gnap_client.specs.Configs.{client_id_of, parts_of, config_in, client_config_of};
 
 use crate::config::ClientConfig;
 use bytes_and_lists::bytes::Bytes;
@@ -26,6 +26,23 @@ fn client_id_of(alloc: Global, value: &Value) -> Result<Bytes, ObjectFault>
     Ok(id)
 }
 
+#[tactic(auto, unfolding(crate::specs::Configs::config_in))]
+fn config_in(alloc: Global, value: &Value) -> Result<ClientConfig, SetupFault>
+    ensures { Gives OutOfMemory parts_of result (config_in (view value.now)) }
+{
+    let server = base_of(alloc, value, "server")?;
+    let resource = base_of(alloc, value, "resource")?;
+    let id = client_id_of(alloc, value)?;
+    let secret = secret_of(alloc, value)?;
+    without_others(alloc, value, &["server", "resource", "id", "secret"], ())?;
+    Ok(ClientConfig {
+        server,
+        resource,
+        id,
+        secret,
+    })
+}
+
 /// The configuration that the bytes are: a JSON object with exactly the members `server` and `resource`, addresses of servers
 /// (`gnap_objects::forms::is_base`), `id`, an id (`gnap_objects::forms::is_id`), and `secret`, 16 to 64 bytes in base64 with padding (RFC 4648,
 /// section 4). The members are read in this order, and the first fault is named.
@@ -34,15 +51,5 @@ pub fn read_client_config(alloc: Global, text: &[u8]) -> Result<ClientConfig, Se
     ensures { Gives OutOfMemory parts_of result (client_config_of text.now) }
 {
     let value = object_of(alloc, text)?;
-    let server = base_of(alloc, &value, "server")?;
-    let resource = base_of(alloc, &value, "resource")?;
-    let id = client_id_of(alloc, &value)?;
-    let secret = secret_of(alloc, &value)?;
-    without_others(alloc, &value, &["server", "resource", "id", "secret"], ())?;
-    Ok(ClientConfig {
-        server,
-        resource,
-        id,
-        secret,
-    })
+    config_in(alloc, &value)
 }

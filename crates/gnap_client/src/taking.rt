@@ -28,11 +28,11 @@ fn reply_kind(asked: &Asked) -> Option<ReplyKind>
     }
 }
 
-fn finish_of(asked: Asked) -> Option<Finish>
-    ensures { result ≡ finish_of asked }
+fn finish_of(asked: &mut Asked) -> Option<Finish>
+    ensures { result ≡ finish_of asked.old }
 {
     match asked {
-        Asked::Grant { finish } => finish,
+        Asked::Grant { finish } => finish.take(),
         Asked::Continuation => None,
         Asked::Cancellation => None,
         Asked::Rotation { .. } => None,
@@ -90,56 +90,61 @@ fn state_done(asked: &Asked, state: State) -> State
     }
 }
 
-// What is held after a reply of the authorization server. Takes no memory.
-#[tactic(auto, unfolding(crate::specs::Received::after_reply))]
-fn after_reply(alloc: Global, asked: Asked, reply: GrantReply, received: Received) -> Received
-    ensures { result ≡ after_reply asked reply received }
-{
-    match reply {
-        GrantReply::Granted {
-            door,
-            tokens,
-            subject,
-        } => Received {
-            state: State::Approved,
-            door: Some(door),
-            tokens,
-            interaction: None,
-            subject,
-            finish: received.finish,
-        },
-        GrantReply::Pending { door, interaction } => Received {
-            state: State::Pending,
-            door: Some(door),
-            tokens: Seq::new(alloc),
-            interaction: Some(interaction),
-            subject: received.subject,
-            finish: finish_of(asked),
-        },
-        GrantReply::Continuing { door: next } => Received {
-            door: Some(next),
-            ..received
-        },
-        GrantReply::Rotated { token } => Received {
-            tokens: rotated(&asked, received.tokens, token),
-            state: received.state,
-            door: received.door,
-            interaction: received.interaction,
-            subject: received.subject,
-            finish: received.finish,
-        },
-        GrantReply::Done => Received {
-            state: state_done(&asked, received.state),
-            ..received
-        },
-        GrantReply::Refused { code } => if is_end(code) {
-            Received {
-                state: State::Ended,
-                ..received
+impl Received {
+    // Keeps what a reply of the authorization server hands out. Takes no memory.
+    #[tactic(auto, unfolding(crate::specs::Received::after_reply))]
+    fn keep(&mut self, alloc: Global, asked: &mut Asked, reply: GrantReply)
+        ensures { self.new ≡ after_reply asked.old reply self.old }
+    {
+        match reply {
+            GrantReply::Granted {
+                door,
+                tokens,
+                subject,
+            } => {
+                self.state = State::Approved;
+                self.door = Some(door);
+                self.tokens = tokens;
+                self.interaction = None;
+                self.subject = subject;
             }
-        } else {
-            received
-        },
+            GrantReply::Pending { door, interaction } => {
+                self.state = State::Pending;
+                self.door = Some(door);
+                self.tokens = Seq::new(alloc);
+                self.interaction = Some(interaction);
+                self.finish = finish_of(asked);
+            }
+            GrantReply::Continuing { door } => self.door = Some(door),
+            GrantReply::Rotated { token } => {
+                let tokens = mem::replace(&mut self.tokens, Seq::new(alloc));
+                self.tokens = rotated(asked, tokens, token);
+            }
+            GrantReply::Done => self.state = state_done(asked, self.state),
+            GrantReply::Refused { code } => if is_end(code) {
+                self.state = State::Ended;
+            },
+        }
+    }
+
+    // Takes what a reply handed out. Takes no memory.
+    fn take(
+        &mut self,
+        alloc: Global,
+        mut asked: Asked,
+        reading: ReadReply,
+    ) -> Result<Took, ClientFault>
+        ensures answer { result ≡ took_of reading }
+        ensures leaves { self.new ≡ after_read self.old (asked, reading) }
+    {
+        match reading {
+            ReadReply::Resource { status, body } => Ok(Took::Resource { status, body }),
+            ReadReply::Given(reply) => {
+                let took = took_of(&reply);
+                self.keep(alloc, &mut asked, reply);
+                took
+            }
+        }
     }
 }
 
@@ -199,23 +204,6 @@ impl Client {
         }
     }
 
-    // Takes what a reply handed out. Takes no memory.
-    fn take(&mut self, asked: Asked, reading: ReadReply) -> Result<Took, ClientFault>
-        ensures answer { result ≡ took_of reading }
-        ensures leaves { self.new ≡ record self.old { received = after_read self.old.received (asked, reading); asked = None } }
-    {
-        self.asked = None;
-        let reply = match reading {
-            ReadReply::Resource { status, body } => return Ok(Took::Resource { status, body }),
-            ReadReply::Given(reply) => reply,
-        };
-        let answer = took_of(&reply);
-        let empty = Received::new(self.alloc);
-        let received = mem::replace(&mut self.received, empty);
-        self.received = after_reply(self.alloc, asked, reply, received);
-        answer
-    }
-
     /// Takes the bytes as the reply to the outstanding request, and keeps what they hand out. An `Err` other than Refused changes nothing.
     #[tactic(auto, using(crate::proofs::Taken::taken_by))]
     pub fn take_reply(&mut self, bytes: &[u8]) -> Result<Took, ClientFault>
@@ -223,7 +211,7 @@ impl Client {
     {
         match self.says_next(bytes) {
             Ok(Some(reading)) => match self.asked.take() {
-                Some(asked) => self.take(asked, reading),
+                Some(asked) => self.received.take(self.alloc, asked, reading),
                 None => unreachable!(),
             },
             Ok(None) => Err(ClientFault::NotInGrammar),

@@ -1,4 +1,3 @@
-pub mod Drafts
 pub mod Endpoints
 pub mod Tokens
 pub mod Grants

@@ -5,11 +5,10 @@ ghost use Rattle.serde_json.specs.Written.{compact_text};
 ghost use Rattle.json_objects.specs.Objects.{texts_data};
 ghost use Rattle.gnap_replies.specs.Discovery.{client_discovery, server_discovery};
 
-use crate::drafts::{Draft, word_value};
 use crate::endpoints::place_value;
 use bytes_and_lists::bytes::Bytes;
 use bytes_and_lists::memory::Mem;
-use json_objects::compact_text;
+use json_objects::{Draft, compact_text, word_value};
 use serde_json::Value;
 use std::alloc::Global;
 

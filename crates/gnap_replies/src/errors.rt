@@ -4,9 +4,9 @@ ghost use Rattle.serde_json.specs.View.{view};
 ghost use Rattle.json_objects.specs.Objects.{object_of};
 ghost use Rattle.gnap_replies.specs.Errors.{code_fields, error_fields};
 
-use crate::drafts::{Draft, word_value};
 use bytes_and_lists::memory::Mem;
 use gnap_model::objects::ErrorCode;
+use json_objects::{Draft, word_value};
 use serde_json::Value;
 use std::alloc::Global;
 

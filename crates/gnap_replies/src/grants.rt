@@ -9,14 +9,13 @@ ghost use Rattle.gnap_objects.specs.CallsFit.{TokenFits};
 ghost use Rattle.gnap_replies.specs.Endpoints.{interaction_page};
 ghost use Rattle.gnap_replies.specs.Grants.{continue_data, sub_id_fields, subject_data, granted_fields, where_offered, code_page_fields, interact_data, pending_fields, continuing_fields, rotated_fields};
 
-use crate::drafts::{Draft, lone_value, word_value};
 use crate::endpoints::{interaction_page_value, place_value};
 use crate::tokens::{bare_token_value, token_value, tokens_value};
 use bytes_and_lists::bytes::Bytes;
 use bytes_and_lists::memory::Mem;
 use gnap_model::calls::TokenOut;
 use gnap_model::objects::Modes;
-use json_objects::{optional_value, text_value};
+use json_objects::{Draft, lone_value, optional_value, text_value, word_value};
 use serde_json::Value;
 use std::alloc::Global;
 

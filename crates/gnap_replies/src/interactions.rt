@@ -11,7 +11,6 @@ ghost use Rattle.gnap_objects.specs.Fits.{AskFits};
 ghost use Rattle.gnap_objects.specs.CallsFit.{EndingFits};
 ghost use Rattle.gnap_replies.specs.Interactions.{ask_data, shown_fields, handle_fields, hash_of, pushed_fields, redirected_fields, decided_fields};
 
-use crate::drafts::{Draft, word_value};
 use crate::endpoints::joined;
 use crate::tokens::flags_value;
 use access_rights::printing::rights_value;
@@ -20,7 +19,7 @@ use bytes_and_lists::memory::Mem;
 use gnap_model::calls::FinishOut;
 use gnap_model::objects::Ask;
 use interaction::{UriFault, finish_uri, interaction_hash, push_body};
-use json_objects::{optional_value, text_value};
+use json_objects::{Draft, optional_value, text_value, word_value};
 use serde_json::Value;
 use std::alloc::Global;
 

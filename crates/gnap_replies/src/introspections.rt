@@ -6,13 +6,12 @@ ghost use Rattle.json_objects.specs.Objects.{object_of};
 ghost use Rattle.access_rights.specs.Fits.{Fits};
 ghost use Rattle.gnap_replies.specs.Introspections.{key_data, active_fields, inactive_fields};
 
-use crate::drafts::Draft;
 use crate::endpoints::place_value;
 use crate::tokens::flags_value;
 use access_rights::printing::rights_value;
 use bytes_and_lists::memory::Mem;
 use gnap_model::rights::Rights;
-use json_objects::text_value;
+use json_objects::{Draft, text_value};
 use serde_json::Value;
 use std::alloc::Global;
 

@@ -7,7 +7,6 @@
 #![tactic(auto)]
 
 pub mod discovery;
-mod drafts;
 mod endpoints;
 mod errors;
 mod grants;

@@ -64,7 +64,7 @@ fn body(alloc: Global, setup: &Setup, reply: &Reply) -> Result<Option<Value>, Me
                 *single,
                 subject,
                 instance,
-            )?
+            )
         }
         Reply::Pending {
             door,
@@ -85,10 +85,10 @@ fn body(alloc: Global, setup: &Setup, reply: &Reply) -> Result<Option<Value>, Me
                 nonce.as_slice(),
                 *expires_in,
             )?;
-            pending_value(alloc, base, door.as_slice(), interact, instance)?
+            pending_value(alloc, base, door.as_slice(), interact, instance)
         }
-        Reply::Continuing { door } => continuing_value(alloc, base, door.as_slice())?,
-        Reply::Rotated { token } => rotated_value(alloc, base, token)?,
+        Reply::Continuing { door } => continuing_value(alloc, base, door.as_slice()),
+        Reply::Rotated { token } => rotated_value(alloc, base, token),
         Reply::Active {
             access,
             iat,
@@ -104,9 +104,9 @@ fn body(alloc: Global, setup: &Setup, reply: &Reply) -> Result<Option<Value>, Me
                 *exp,
                 instance.as_slice(),
                 *bearer,
-            )?
+            )
         }
-        Reply::Inactive => inactive_value(alloc)?,
+        Reply::Inactive => inactive_value(alloc),
         Reply::Shown {
             asks,
             client,
@@ -121,14 +121,14 @@ fn body(alloc: Global, setup: &Setup, reply: &Reply) -> Result<Option<Value>, Me
                 *expires_in,
                 *subject,
                 user,
-            )?
+            )
         }
-        Reply::Handle { handle } => handle_value(alloc, handle.as_slice())?,
-        Reply::Decided { finish } => decided_value(alloc, base, finish)?,
-        Reply::Error { code } => error_value(alloc, *code)?,
+        Reply::Handle { handle } => handle_value(alloc, handle.as_slice()),
+        Reply::Decided { finish } => decided_value(alloc, base, finish),
+        Reply::Error { code } => error_value(alloc, *code),
         Reply::Done | Reply::Lapsed => return Ok(None),
     };
-    Ok(Some(value))
+    Ok(Some(value?))
 }
 
 /// The status of a reply and the text of its body, a compact JSON object whose members stand in the ascending byte order of their names. `Done` (204) and

@@ -6,12 +6,11 @@ ghost use Rattle.json_objects.specs.Objects.{object_of};
 ghost use Rattle.gnap_objects.specs.CallsFit.{TokenFits};
 ghost use Rattle.gnap_replies.specs.Tokens.{flags_data, bare_token_fields, manage_fields, token_data, tokens_data};
 
-use crate::drafts::{Draft, lone_value, word_value};
 use crate::endpoints::place_value;
 use access_rights::printing::rights_value;
 use bytes_and_lists::memory::Mem;
 use gnap_model::calls::TokenOut;
-use json_objects::{optional_value, text_value};
+use json_objects::{Draft, lone_value, optional_value, text_value, word_value};
 use serde_json::Value;
 use std::alloc::Global;
 

@@ -1,23 +1,38 @@
 //! Grant requests and modifications as JSON (RFC 9635, sections 2 and 5.3).
-ghost use Rattle.std.specs.Prelude.{◌≡◌, ◌≤◌, Ok, IfOk, option_map};
+ghost use Rattle.std.specs.Prelude.{◌≡◌, ◌≤◌, Ok, IfOk, IsUtf8, option_map, codes, [], ◌∷◌};
 ghost use Rattle.std.specs.Option.{option_copied};
 ghost use Rattle.serde_json.specs.Data.{depth, string};
 ghost use Rattle.serde_json.specs.Read.{max_depth};
 ghost use Rattle.serde_json.specs.View.{view};
 ghost use Rattle.json_objects.specs.Bodies.{body_of};
+ghost use Rattle.json_objects.specs.Objects.{object_of, texts_data};
 ghost use Rattle.json_objects.specs.Texts.{IsUtf8Or};
 ghost use Rattle.gnap_objects.specs.Fits.{RequestFits};
 ghost use Rattle.gnap_objects.specs.CallsFit.{ModesFitOr};
-ghost use Rattle.grant_values.specs.Grants.{subject_request_data, client_data, request_data, request_text, grant_data, grant_text};
+ghost use Rattle.grant_values.specs.Grants.{subject_request_fields, subject_request_data, key_object_fields, client_data, request_data, request_text, grant_data, grant_text};
 
 use crate::interactions::optional_modes;
 use crate::token_requests::token_requests_value;
 use bytes_and_lists::bytes::Bytes;
 use bytes_and_lists::memory::Mem;
 use gnap_model::objects::GrantRequest;
-use json_objects::{optional_value, put, text_value};
-use serde_json::{Map, Value};
+use json_objects::{Draft, lone_value, optional_value, text_value, word_value};
+use serde_json::Value;
 use std::alloc::Global;
+
+fn formats_value(alloc: Global) -> Result<Value, Mem>
+    ensures { IfOk result (λ v. view v ≡ texts_data (codes "opaque" ∷ [])) }
+{
+    lone_value(alloc, word_value(alloc, "opaque")?)
+}
+
+fn subject_object(alloc: Global) -> Result<Value, Mem>
+    ensures { IfOk result (λ v. view v ≡ object_of subject_request_fields) }
+{
+    Draft::new(alloc)
+        .with("sub_id_formats", formats_value(alloc))
+        .value()
+}
 
 fn subject_request_value(alloc: Global, subject: bool) -> Result<Option<Value>, Mem>
     ensures { IfOk result (λ v. option_map view v ≡ subject_request_data subject) }
@@ -25,19 +40,28 @@ fn subject_request_value(alloc: Global, subject: bool) -> Result<Option<Value>, 
     if !subject {
         return Ok(None);
     }
-    let mut formats = Vec::new(alloc);
-    formats.push(Value::try_from_str(alloc, "opaque")?)?;
-    let mut map = Map::new(alloc);
-    put(
-        &mut map,
-        alloc,
-        "sub_id_formats",
-        Some(Value::Array(formats)),
-    )?;
-    Ok(Some(Value::Object(map)))
+    Ok(Some(subject_object(alloc)?))
 }
 
-fn client_value(
+fn key_object(alloc: Global, id: &[u8]) -> Result<Value, Mem>
+    requires { IsUtf8 id.now }
+    ensures { IfOk result (λ v. view v ≡ object_of (key_object_fields id.now)) }
+{
+    Draft::new(alloc).with("key", text_value(alloc, id)).value()
+}
+
+fn client_value(alloc: Global, by_object: bool, id: &[u8]) -> Result<Value, Mem>
+    requires { IsUtf8 id.now }
+    ensures { IfOk result (λ v. view v ≡ client_data by_object id.now) }
+{
+    if by_object {
+        key_object(alloc, id)
+    } else {
+        text_value(alloc, id)
+    }
+}
+
+fn optional_client(
     alloc: Global,
     by_object: bool,
     client: &Option<Bytes>,
@@ -45,16 +69,10 @@ fn client_value(
     requires { IsUtf8Or client.now }
     ensures { IfOk result (λ v. option_map view v ≡ option_map (client_data by_object) client.now) }
 {
-    let Some(id) = client else {
-        return Ok(None);
-    };
-    let id = text_value(alloc, id.as_slice())?;
-    if !by_object {
-        return Ok(Some(id));
+    match client {
+        None => Ok(None),
+        Some(id) => Ok(Some(client_value(alloc, by_object, id.as_slice())?)),
     }
-    let mut map = Map::new(alloc);
-    put(&mut map, alloc, "key", Some(id))?;
-    Ok(Some(Value::Object(map)))
 }
 
 fn existing_value(alloc: Global, existing: Option<&Bytes>) -> Result<Option<Value>, Mem>
@@ -82,20 +100,20 @@ fn request_value(
     requires modes { ModesFitOr request.now.modes }
     ensures { IfOk result (λ v. view v ≡ request_data (option_copied existing.entry) request.now) }
 {
-    let mut map = Map::new(alloc);
-    let user = optional_value(alloc, &request.user)?;
-    put(&mut map, alloc, "user", user)?;
-    let subject = subject_request_value(alloc, request.subject)?;
-    put(&mut map, alloc, "subject", subject)?;
-    let interact = optional_modes(alloc, &request.modes)?;
-    put(&mut map, alloc, "interact", interact)?;
-    let existing = existing_value(alloc, existing)?;
-    put(&mut map, alloc, "existing_access_token", existing)?;
-    let client = client_value(alloc, request.by_object, &request.client)?;
-    put(&mut map, alloc, "client", client)?;
-    let tokens = token_requests_value(alloc, request.single, request.asks.as_slice())?;
-    put(&mut map, alloc, "access_token", tokens)?;
-    Ok(Value::Object(map))
+    Draft::new(alloc)
+        .with_optional("user", optional_value(alloc, &request.user))
+        .with_optional("subject", subject_request_value(alloc, request.subject))
+        .with_optional("interact", optional_modes(alloc, &request.modes))
+        .with_optional("existing_access_token", existing_value(alloc, existing))
+        .with_optional(
+            "client",
+            optional_client(alloc, request.by_object, &request.client),
+        )
+        .with_optional(
+            "access_token",
+            token_requests_value(alloc, request.single, request.asks.as_slice()),
+        )
+        .value()
 }
 
 /// The object that a grant request or a modification is (RFC 9635, sections 2 and 5.3).

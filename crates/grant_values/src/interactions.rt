@@ -4,12 +4,12 @@ ghost use Rattle.serde_json.specs.Data.{string};
 ghost use Rattle.serde_json.specs.View.{view};
 ghost use Rattle.json_objects.specs.Objects.{texts_data};
 ghost use Rattle.gnap_objects.specs.CallsFit.{FinishFits, FinishFitsOr, ModesFit, ModesFitOr};
-ghost use Rattle.grant_values.specs.Interactions.{hash_method_data, finish_data, listed_if, starts_of, modes_data};
+ghost use Rattle.grant_values.specs.Interactions.{finish_method, hash_method_data, finish_data, listed_if, starts_of, modes_data};
 
 use bytes_and_lists::memory::Mem;
 use gnap_model::objects::{Finish, Modes};
-use json_objects::{put, text_value};
-use serde_json::{Map, Value};
+use json_objects::{Draft, text_value, word_value};
+use serde_json::Value;
 use std::alloc::Global;
 
 fn hash_method_value(alloc: Global, long: bool) -> Result<Option<Value>, Mem>
@@ -18,7 +18,13 @@ fn hash_method_value(alloc: Global, long: bool) -> Result<Option<Value>, Mem>
     if !long {
         return Ok(None);
     }
-    Ok(Some(Value::try_from_str(alloc, "sha-512")?))
+    Ok(Some(word_value(alloc, "sha-512")?))
+}
+
+fn finish_method(push: bool) -> &'static str
+    ensures { result.now ≡ finish_method push }
+{
+    if push { "push" } else { "redirect" }
 }
 
 #[tactic(auto, unfolding(crate::specs::Interactions::finish_data), using(interaction::proofs::WebUrls::uri_is_utf8))]
@@ -26,17 +32,12 @@ fn finish_value(alloc: Global, finish: &Finish) -> Result<Value, Mem>
     requires { FinishFits finish.now }
     ensures { IfOk result (λ v. view v ≡ finish_data finish.now) }
 {
-    let mut map = Map::new(alloc);
-    let uri = text_value(alloc, finish.uri.as_slice())?;
-    put(&mut map, alloc, "uri", Some(uri))?;
-    let nonce = text_value(alloc, finish.nonce.as_slice())?;
-    put(&mut map, alloc, "nonce", Some(nonce))?;
-    let method = if finish.push { "push" } else { "redirect" };
-    let method = Value::try_from_str(alloc, method)?;
-    put(&mut map, alloc, "method", Some(method))?;
-    let hash_method = hash_method_value(alloc, finish.long)?;
-    put(&mut map, alloc, "hash_method", hash_method)?;
-    Ok(Value::Object(map))
+    Draft::new(alloc)
+        .with("uri", text_value(alloc, finish.uri.as_slice()))
+        .with("nonce", text_value(alloc, finish.nonce.as_slice()))
+        .with("method", word_value(alloc, finish_method(finish.push)))
+        .with_optional("hash_method", hash_method_value(alloc, finish.long))
+        .value()
 }
 
 fn optional_finish(alloc: Global, finish: &Option<Finish>) -> Result<Option<Value>, Mem>
@@ -54,7 +55,7 @@ fn push_if(alloc: Global, starts: &mut Vec<Value>, offered: bool, mode: &str) ->
         ≡ map view starts.old.items ++ map string (listed_if offered mode.now)) }
 {
     if offered {
-        starts.push(Value::try_from_str(alloc, mode)?)?;
+        starts.push(word_value(alloc, mode)?)?;
     }
     Ok(())
 }
@@ -74,11 +75,10 @@ fn modes_value(alloc: Global, modes: &Modes) -> Result<Value, Mem>
     requires { ModesFit modes.now }
     ensures { IfOk result (λ v. view v ≡ modes_data modes.now) }
 {
-    let mut map = Map::new(alloc);
-    put(&mut map, alloc, "start", Some(starts_value(alloc, modes)?))?;
-    let finish = optional_finish(alloc, &modes.finish)?;
-    put(&mut map, alloc, "finish", finish)?;
-    Ok(Value::Object(map))
+    Draft::new(alloc)
+        .with("start", starts_value(alloc, modes))
+        .with_optional("finish", optional_finish(alloc, &modes.finish))
+        .value()
 }
 
 /// The value of the member `interact`, where ways to interact are offered.

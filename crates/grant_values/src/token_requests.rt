@@ -8,8 +8,8 @@ ghost use Rattle.grant_values.specs.TokenRequests.{asked_flags, token_request_da
 use access_rights::rights_value;
 use bytes_and_lists::memory::Mem;
 use gnap_model::objects::Ask;
-use json_objects::{optional_value, put};
-use serde_json::{Map, Value};
+use json_objects::{Draft, lone_value, optional_value, word_value};
+use serde_json::Value;
 use std::alloc::Global;
 
 fn asked_flags(alloc: Global, bearer: bool) -> Result<Option<Value>, Mem>
@@ -18,9 +18,7 @@ fn asked_flags(alloc: Global, bearer: bool) -> Result<Option<Value>, Mem>
     if !bearer {
         return Ok(None);
     }
-    let mut flags = Vec::new(alloc);
-    flags.push(Value::try_from_str(alloc, "bearer")?)?;
-    Ok(Some(Value::Array(flags)))
+    Ok(Some(lone_value(alloc, word_value(alloc, "bearer")?)?))
 }
 
 #[tactic(auto, unfolding(crate::specs::TokenRequests::token_request_data))]
@@ -28,12 +26,11 @@ fn token_request_value(alloc: Global, ask: &Ask) -> Result<Value, Mem>
     requires { AskFits ask.now }
     ensures { IfOk result (λ v. view v ≡ token_request_data ask.now) }
 {
-    let mut map = Map::new(alloc);
-    put(&mut map, alloc, "label", optional_value(alloc, &ask.label)?)?;
-    put(&mut map, alloc, "flags", asked_flags(alloc, ask.bearer)?)?;
-    let access = rights_value(alloc, &ask.rights)?;
-    put(&mut map, alloc, "access", Some(access))?;
-    Ok(Value::Object(map))
+    Draft::new(alloc)
+        .with_optional("label", optional_value(alloc, &ask.label))
+        .with_optional("flags", asked_flags(alloc, ask.bearer))
+        .with("access", rights_value(alloc, &ask.rights))
+        .value()
 }
 
 fn each_token_request(alloc: Global, asks: &[Ask]) -> Result<Vec<Value>, Mem>

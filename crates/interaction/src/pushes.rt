@@ -5,8 +5,8 @@ ghost use Rattle.interaction.specs.Pushes.{push_data, push_body};
 
 use bytes_and_lists::bytes::Bytes;
 use bytes_and_lists::memory::Mem;
-use json_objects::{put, text_value};
-use serde_json::{Map, Value};
+use json_objects::{Draft, text_value};
+use serde_json::Value;
 use std::alloc::Global;
 
 #[tactic(auto, unfolding(crate::specs::Pushes::push_data))]
@@ -15,15 +15,10 @@ fn push_value(alloc: Global, hash: &[u8], reference: &[u8]) -> Result<Value, Mem
     requires reference { IsUtf8 reference.now }
     ensures { IfOk result (λ v. view v ≡ push_data hash.now reference.now) }
 {
-    let mut map = Map::new(alloc);
-    put(
-        &mut map,
-        alloc,
-        "interact_ref",
-        Some(text_value(alloc, reference)?),
-    )?;
-    put(&mut map, alloc, "hash", Some(text_value(alloc, hash)?))?;
-    Ok(Value::Object(map))
+    Draft::new(alloc)
+        .with("interact_ref", text_value(alloc, reference))
+        .with("hash", text_value(alloc, hash))
+        .value()
 }
 
 /// The compact JSON object with the members `hash` and `interact_ref`.

@@ -5,3 +5,4 @@ pub mod Objects
 pub mod Texts
 pub mod TextSets
 pub mod Sizes
+pub mod Drafts

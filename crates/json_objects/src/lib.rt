@@ -6,12 +6,14 @@
 #![tactic(auto)]
 
 pub mod body;
+pub mod drafts;
 pub mod members;
 pub mod sizes;
 pub mod text_set;
 pub mod values;
 
 pub use body::{BodyFault, has_fraction, read_body};
+pub use drafts::{Draft, lone_value, word_value};
 pub use members::{member, member_within, other_member};
 pub use text_set::TextSet;
 pub use values::{compact_text, optional_value, put, text_value, texts_value};

@@ -1,5 +1,6 @@
 -- Replies to grant requests, continuations and management calls, as a client reads them (RFC 9635, sections 3, 5 and 6).
-use Rattle.std.specs.Prelude.{ℕ, ◌==◌, ◌||◌, Bool, true, false, List, [], ◌∷◌, Option, Some, None, Result, Ok, Err, is_some, if◌then◌else◌, codes}
+use Rattle.std.specs.Prelude.{ℕ, ◌==◌, ◌||◌, Bool, List, [], ◌∷◌, Option, Some, None, Result, Ok, Err, is_some, if◌then◌else◌, codes}
+use Rattle.std.specs.List.{find}
 use Rattle.std.specs.Result.{result_ok}
 use Rattle.std.specs.Str.{bytes_eq}
 use Rattle.serde_json.specs.Data.{Data, Items, no_items, item}
@@ -18,7 +19,7 @@ use Rattle.reply_readers.specs.declared.grant_reply.GrantReply.{GrantReply}
 use Rattle.reply_readers.specs.declared.grant_reply.GrantReply.TheVariants.{Granted, Pending, Continuing, Rotated, Done, Refused}
 use Rattle.reply_readers.specs.declared.grant_reply.ReplyKind.{ReplyKind}
 use Rattle.reply_readers.specs.declared.grant_reply.ReplyKind.TheVariants as kinds
-use Rattle.reply_readers.specs.Members.{there, where_there, tested, needed, needed_text, needed_number, optional_text, is_value, is_drawn, needed_rights, bearer_of}
+use Rattle.reply_readers.specs.Members.{there, where_there, tested, needed, needed_text, needed_number, optional_text, is_value, needed_drawn, needed_rights, bearer_of}
 
 -- ---- tokens
 
@@ -28,18 +29,16 @@ manage_of d = do
   manage ← needed (codes "manage") d
   token ← needed (codes "access_token") manage
   uri ← needed_text (codes "uri") manage
-  value ← needed_text (codes "value") token
-  tested is_drawn value
+  needed_drawn (codes "value") token
 
 unfoldable pub token_of : Data → Result TokenOut FormFault
 token_of d = do
-  rights ← needed_rights (codes "access") d
   expires_in ← needed_number (codes "expires_in") d
   bearer ← bearer_of d
   label ← optional_text (codes "label") d
   manage ← manage_of d
-  text ← needed_text (codes "value") d
-  value ← tested is_drawn text
+  value ← needed_drawn (codes "value") d
+  rights ← needed_rights (codes "access") d
   Ok (record { value = value; manage = manage; label = label; rights = rights; expires_in = expires_in; bearer = bearer })
 
 abbrev pub some_tokens : List TokenOut → Result (List TokenOut) FormFault
@@ -122,10 +121,10 @@ interaction_of d = do
 
 unfoldable pub granted_of : Data → Result GrantReply FormFault
 granted_of d = do
-  tokens ← tokens_of d
   door ← continue_of d
   instance ← optional_text (codes "instance_id") d
   subject ← subject_of d
+  tokens ← tokens_of d
   Ok (Granted door tokens subject)
 
 unfoldable pub pending_of : Data → Result GrantReply FormFault
@@ -154,36 +153,29 @@ given_of kinds.Continuing d =
 given_of kinds.Rotating d = rotated_of d
 given_of kinds.Ending d = Err faults.NotOfForm
 
+abbrev pub error_codes : List ErrorCode
+error_codes =
+    code.InvalidRequest ∷ code.InvalidClient ∷ code.InvalidInteraction ∷ code.InvalidFlag ∷ code.InvalidRotation ∷ code.KeyRotationNotSupported
+    ∷ code.InvalidContinuation ∷ code.UserDenied ∷ code.RequestDenied ∷ code.UnknownUser ∷ code.UnknownInteraction ∷ code.TooFast
+    ∷ code.TooManyAttempts ∷ code.InvalidResourceServer ∷ code.InvalidAccess ∷ []
+
+abbrev pub is_code : List ℕ → ErrorCode → Bool
+is_code s c = bytes_eq s (error_text c)
+
 -- the code that a text is
 unfoldable pub code_named : List ℕ → Result ErrorCode FormFault
-code_named s =
-    if bytes_eq s (error_text code.InvalidRequest) then Ok code.InvalidRequest
-    else if bytes_eq s (error_text code.InvalidClient) then Ok code.InvalidClient
-    else if bytes_eq s (error_text code.InvalidInteraction) then Ok code.InvalidInteraction
-    else if bytes_eq s (error_text code.InvalidFlag) then Ok code.InvalidFlag
-    else if bytes_eq s (error_text code.InvalidRotation) then Ok code.InvalidRotation
-    else if bytes_eq s (error_text code.KeyRotationNotSupported) then Ok code.KeyRotationNotSupported
-    else if bytes_eq s (error_text code.InvalidContinuation) then Ok code.InvalidContinuation
-    else if bytes_eq s (error_text code.UserDenied) then Ok code.UserDenied
-    else if bytes_eq s (error_text code.RequestDenied) then Ok code.RequestDenied
-    else if bytes_eq s (error_text code.UnknownUser) then Ok code.UnknownUser
-    else if bytes_eq s (error_text code.UnknownInteraction) then Ok code.UnknownInteraction
-    else if bytes_eq s (error_text code.TooFast) then Ok code.TooFast
-    else if bytes_eq s (error_text code.TooManyAttempts) then Ok code.TooManyAttempts
-    else if bytes_eq s (error_text code.InvalidResourceServer) then Ok code.InvalidResourceServer
-    else if bytes_eq s (error_text code.InvalidAccess) then Ok code.InvalidAccess
-    else Err faults.NotOfForm
+code_named s = there (find (is_code s) error_codes)
+
+-- the code in `error`
+abbrev pub code_in : Data → Result ErrorCode FormFault
+code_in d = needed (codes "error") d >>= needed_text (codes "code") >>= code_named
 
 abbrev pub at_status : ℕ → ErrorCode → Result GrantReply FormFault
 at_status status c = if status == error_status c then Ok (Refused c) else Err faults.NotOfForm
 
 -- an error, at its status
 unfoldable pub refused_of : ℕ → Data → Result GrantReply FormFault
-refused_of status d = do
-  error ← needed (codes "error") d
-  text ← needed_text (codes "code") error
-  c ← code_named text
-  at_status status c
+refused_of status d = code_in d >>= at_status status
 
 abbrev pub object_in : Result Data BodyFault → Result Data FormFault
 object_in (Ok d) = Ok d

@@ -1,5 +1,5 @@
 -- Replies to introspections, as a resource server reads them (RFC 9767, section 3.3).
-use Rattle.std.specs.Prelude.{ℕ, ◌==◌, ◌&&◌, not, Bool, true, false, List, Option, Some, None, Result, Ok, Err, if◌then◌else◌, codes}
+use Rattle.std.specs.Prelude.{ℕ, ◌==◌, ◌&&◌, not, Bool, List, Option, Some, None, Result, Ok, Err, if◌then◌else◌, codes}
 use Rattle.std.specs.Result.{result_ok}
 use Rattle.std.specs.Str.{bytes_eq}
 use Rattle.serde_json.specs.Data.{Data}
@@ -18,16 +18,26 @@ abbrev pub key_of : Bool → List ℕ → Option (List ℕ) → Result (Option (
 key_of bearer instance None = if bearer then Ok None else Err faults.NotOfForm
 key_of bearer instance (Some key) = if not bearer && bytes_eq key instance then Ok (Some key) else Err faults.NotOfForm
 
+unfoldable pub key_in : Data → Result (Option (List ℕ)) FormFault
+key_in d = do
+  bearer ← bearer_of d
+  instance ← needed_text (codes "instance_id") d
+  named ← optional_text (codes "key") d
+  key_of bearer instance named
+
+-- when the token ends; when it was given, and by whom, is told too
+unfoldable pub exp_in : Data → Result ℕ FormFault
+exp_in d = do
+  exp ← needed_number (codes "exp") d
+  iat ← needed_number (codes "iat") d
+  iss ← needed_text (codes "iss") d
+  Ok exp
+
 unfoldable pub active_of : Data → Result Judgement FormFault
 active_of d = do
+  exp ← exp_in d
+  key ← key_in d
   access ← needed_rights (codes "access") d
-  exp ← needed_number (codes "exp") d
-  bearer ← bearer_of d
-  iat ← needed_number (codes "iat") d
-  instance ← needed_text (codes "instance_id") d
-  iss ← needed_text (codes "iss") d
-  named ← optional_text (codes "key") d
-  key ← key_of bearer instance named
   Ok (Active access key exp)
 
 abbrev pub needed_flag : Data → Result Bool FormFault

@@ -1,5 +1,5 @@
 -- Reading the objects of replies: the members that have to be there, and the forms of those that are there.
-use Rattle.std.specs.Prelude.{ℕ, ◌==◌, ◌&&◌, nat_le, nat_lt, Bool, true, false, List, length, Option, Some, None, Result, Ok, Err, if◌then◌else◌, codes}
+use Rattle.std.specs.Prelude.{◌≡◌, ℕ, ◌==◌, ◌&&◌, nat_le, nat_lt, Bool, true, false, List, length, Option, Some, None, Result, Ok, Err, if◌then◌else◌, codes}
 use Rattle.std.specs.List.{list_all}
 use Rattle.std.specs.Str.{bytes_eq}
 use Rattle.serde_json.specs.Data.{Data, Num, Items, no_items, item}
@@ -23,6 +23,11 @@ where_there reading (Some d) = reading d >>= λ x. Ok (Some x)
 -- what has passed the test
 abbrev pub tested : {A : Type 0} → (A → Bool) → A → Result A FormFault
 tested test x = if test x then Ok x else Err faults.NotOfForm
+
+-- A reader that keeps nothing answers what the reading is, seen by view, or that there is none.
+abbrev pub Tells : {X Y : Type 0} → (X → Y) → Option X → Result Y FormFault → Type 0
+Tells view (Some x) reading = reading ≡ Ok (view x)
+Tells view None reading = reading ≡ Err faults.NotOfForm
 
 -- ---- members
 
@@ -62,6 +67,9 @@ is_value s = nat_lt 0 (length s) && list_all is_value_byte s
 -- an access token's value or management value
 abbrev pub is_drawn : List ℕ → Bool
 is_drawn s = list_all is_value_byte s && length s == 32
+
+abbrev pub needed_drawn : List ℕ → Data → Result (List ℕ) FormFault
+needed_drawn name d = needed_text name d >>= tested is_drawn
 
 -- ---- rights and flags
 

@@ -1,6 +1,5 @@
 //! What a client is told.
 use bytes_and_lists::bytes::Bytes;
-use bytes_and_lists::memory::{Duplicate, Mem};
 use gnap_model::calls::{TokenOut, Tokens};
 use gnap_model::objects::ErrorCode;
 
@@ -17,18 +16,6 @@ pub struct Interaction {
     pub nonce: Option<Bytes>,
     /// The seconds for which the user may decide.
     pub expires_in: u64,
-}
-
-impl Duplicate for Interaction {
-    fn copy(&self) -> Result<Interaction, Mem> {
-        Ok(Interaction {
-            redirect: self.redirect.copy()?,
-            user_code: self.user_code.copy()?,
-            user_code_uri: self.user_code_uri.copy()?,
-            nonce: self.nonce.copy()?,
-            expires_in: self.expires_in,
-        })
-    }
 }
 
 /// A reply to a grant request, a continuation or a management call. A `door` is a continuation value.

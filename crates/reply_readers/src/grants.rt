@@ -1,113 +1,106 @@
 //! The other members of replies, and the replies at status 200 (RFC 9635, sections 3, 5 and 6).
-ghost use Rattle.std.specs.Prelude.{◌≡◌, codes};
+ghost use Rattle.std.specs.Prelude.{◌≡◌, codes, option_map, IfOk};
 ghost use Rattle.std.specs.Str.{bytes_eq};
-ghost use Rattle.serde_json.specs.Find.{get, as_array};
+ghost use Rattle.serde_json.specs.Find.{get};
 ghost use Rattle.serde_json.specs.View.{view, items_view};
 ghost use Rattle.json_objects.specs.Bodies.{IsBody};
 ghost use Rattle.json_objects.specs.Reading.{Gives};
 ghost use Rattle.reply_readers.specs.declared.members.FormFault.TheVariants.{OutOfMemory};
-ghost use Rattle.reply_readers.specs.Members.{there, where_there, tested};
+ghost use Rattle.reply_readers.specs.Members.{Tells, where_there, tested};
 ghost use Rattle.reply_readers.specs.Grants.{continue_of, only_item, subject_in, subject_of, code_uri_in, code_of, uri_of, interaction_of, granted_of, pending_of, continuing_of, rotated_of, has, given_of};
 
 use crate::grant_reply::{GrantReply, Interaction, ReplyKind};
 use crate::members::{
-    FormFault, checked_value, needed, needed_number, needed_str, needed_text, optional_str,
-    optional_text,
+    FormFault, checked_value, copied, needed_number, needed_str, optional_copied, optional_str,
 };
 use crate::tokens::{token_of, tokens_of};
 use bytes_and_lists::bytes::Bytes;
+use bytes_and_lists::memory::Mem;
 use json_objects::member;
 use serde_json::Value;
 use std::alloc::Global;
 
 #[tactic(auto, unfolding(crate::specs::Grants::continue_of))]
-fn continue_of(alloc: Global, value: &Value) -> Result<Bytes, FormFault>
-    ensures { Gives OutOfMemory (λ v. v) result (continue_of (view value.now)) }
+fn continue_of(value: &Value) -> Option<&str>
+    ensures { Tells (λ v. v.now) result (continue_of (view value.now)) }
 {
-    let continuation = needed(value, "continue")?;
-    let token = needed(continuation, "access_token")?;
+    let continuation = member(value, "continue")?;
+    let token = member(continuation, "access_token")?;
     let _uri = needed_str(continuation, "uri")?;
     let _wait = needed_number(continuation, "wait")?;
-    checked_value(needed_text(alloc, token, "value")?)
+    checked_value(needed_str(token, "value")?)
 }
 
 #[tactic(auto, using(crate::proofs::Arrays::not_alone))]
-fn only_item(items: &Vec<Value>) -> Result<&Value, FormFault>
-    ensures { Gives OutOfMemory (λ v. view v.now) result (only_item (items_view items.now.items)) }
+fn only_item(items: &Vec<Value>) -> Option<&Value>
+    ensures { Tells (λ v. view v.now) result (only_item (items_view items.now.items)) }
 {
     match items.as_slice() {
-        [] => Err(FormFault::NotOfForm),
-        [item] => Ok(item),
-        [_, _, ..] => Err(FormFault::NotOfForm),
+        [] => None,
+        [item] => Some(item),
+        [_, _, ..] => None,
     }
 }
 
-fn items_of(value: &Value) -> Result<&Vec<Value>, FormFault>
-    ensures { Gives OutOfMemory (λ v. items_view v.now.items) result (there (as_array (view value.now))) }
+fn opaque(text: &str) -> Option<&str>
+    ensures { Tells (λ s. s.now) result (tested (bytes_eq (codes "opaque")) text.now) }
 {
-    match value.as_array() {
-        Some(items) => Ok(items),
-        None => Err(FormFault::NotOfForm),
-    }
-}
-
-fn opaque(text: &str) -> Result<&str, FormFault>
-    ensures { Gives OutOfMemory (λ s. s.now) result (tested (bytes_eq (codes "opaque")) text.now) }
-{
-    if "opaque" == text {
-        Ok(text)
-    } else {
-        Err(FormFault::NotOfForm)
-    }
+    if "opaque" == text { Some(text) } else { None }
 }
 
 #[tactic(auto, unfolding(crate::specs::Grants::subject_in))]
-fn subject_in(alloc: Global, value: &Value) -> Result<Bytes, FormFault>
-    ensures { Gives OutOfMemory (λ v. v) result (subject_in (view value.now)) }
+fn subject_in(value: &Value) -> Option<&str>
+    ensures { Tells (λ v. v.now) result (subject_in (view value.now)) }
 {
-    let sub_ids = needed(value, "sub_ids")?;
-    let items = items_of(sub_ids)?;
-    let sub_id = only_item(items)?;
+    let sub_ids = member(value, "sub_ids")?;
+    let sub_id = only_item(sub_ids.as_array()?)?;
     let _format = opaque(needed_str(sub_id, "format")?)?;
-    needed_text(alloc, sub_id, "id")
+    needed_str(sub_id, "id")
 }
 
 #[tactic(auto, unfolding(crate::specs::Grants::subject_of))]
-fn subject_of(alloc: Global, value: &Value) -> Result<Option<Bytes>, FormFault>
-    ensures { Gives OutOfMemory (λ v. v) result (subject_of (view value.now)) }
+fn subject_of(value: &Value) -> Option<Option<&str>>
+    ensures { Tells (option_map (λ v. v.now)) result (subject_of (view value.now)) }
 {
     match member(value, "subject") {
-        None => Ok(None),
-        Some(member) => Ok(Some(subject_in(alloc, member)?)),
+        None => Some(None),
+        Some(member) => Some(Some(subject_in(member)?)),
     }
 }
 
 #[tactic(auto, unfolding(crate::specs::Grants::code_uri_in))]
-fn code_uri_in(alloc: Global, value: &Value) -> Result<(Bytes, Bytes), FormFault>
-    ensures { Gives OutOfMemory (λ v. v) result (code_uri_in (view value.now)) }
+fn code_uri_in(value: &Value) -> Option<(&str, &str)>
+    ensures { Tells (λ v. (v.0.now, v.1.now)) result (code_uri_in (view value.now)) }
 {
-    let code = needed_text(alloc, value, "code")?;
-    let uri = needed_text(alloc, value, "uri")?;
-    Ok((code, uri))
+    let code = needed_str(value, "code")?;
+    let uri = needed_str(value, "uri")?;
+    Some((code, uri))
 }
 
-fn code_uri_of(alloc: Global, value: &Value) -> Result<Option<(Bytes, Bytes)>, FormFault>
-    ensures { Gives OutOfMemory (λ v. v) result (where_there code_uri_in (get (codes "user_code_uri") (view value.now))) }
+fn code_uri_of(value: &Value) -> Option<Option<(&str, &str)>>
+    ensures { Tells (option_map (λ v. (v.0.now, v.1.now))) result (where_there code_uri_in (get (codes "user_code_uri") (view value.now))) }
 {
     match member(value, "user_code_uri") {
-        None => Ok(None),
-        Some(member) => Ok(Some(code_uri_in(alloc, member)?)),
+        None => Some(None),
+        Some(member) => Some(Some(code_uri_in(member)?)),
     }
 }
 
 // The code, alone or with the URI, and the URI.
-fn code_parts(alone: Option<Bytes>, both: Option<(Bytes, Bytes)>) -> (Option<Bytes>, Option<Bytes>)
-    ensures code { result.0 ≡ code_of alone both }
-    ensures uri { result.1 ≡ uri_of both }
+fn code_parts(
+    alloc: Global,
+    alone: Option<&str>,
+    both: Option<(&str, &str)>,
+) -> Result<(Option<Bytes>, Option<Bytes>), Mem>
+    ensures code { IfOk result (λ r. r.0 ≡ code_of (option_map (λ s. s.now) alone.entry) (option_map (λ v. (v.0.now, v.1.now)) both.entry)) }
+    ensures uri { IfOk result (λ r. r.1 ≡ uri_of (option_map (λ v. (v.0.now, v.1.now)) both.entry)) }
 {
     match both {
-        None => (alone, None),
-        Some((code, uri)) => (Some(code), Some(uri)),
+        None => Ok((optional_copied(alloc, alone)?, None)),
+        Some((code, uri)) => {
+            let code = copied(alloc, code)?;
+            Ok((Some(code), Some(copied(alloc, uri)?)))
+        }
     }
 }
 
@@ -115,12 +108,24 @@ fn code_parts(alone: Option<Bytes>, both: Option<(Bytes, Bytes)>) -> (Option<Byt
 fn interaction_of(alloc: Global, value: &Value) -> Result<Interaction, FormFault>
     ensures { Gives OutOfMemory (λ v. v) result (interaction_of (view value.now)) }
 {
-    let expires_in = needed_number(value, "expires_in")?;
-    let nonce = optional_text(alloc, value, "finish")?;
-    let redirect = optional_text(alloc, value, "redirect")?;
-    let alone = optional_text(alloc, value, "user_code")?;
-    let both = code_uri_of(alloc, value)?;
-    let (user_code, user_code_uri) = code_parts(alone, both);
+    let Some(expires_in) = needed_number(value, "expires_in") else {
+        return Err(FormFault::NotOfForm);
+    };
+    let Some(nonce) = optional_str(value, "finish") else {
+        return Err(FormFault::NotOfForm);
+    };
+    let Some(redirect) = optional_str(value, "redirect") else {
+        return Err(FormFault::NotOfForm);
+    };
+    let Some(alone) = optional_str(value, "user_code") else {
+        return Err(FormFault::NotOfForm);
+    };
+    let Some(both) = code_uri_of(value) else {
+        return Err(FormFault::NotOfForm);
+    };
+    let nonce = optional_copied(alloc, nonce)?;
+    let redirect = optional_copied(alloc, redirect)?;
+    let (user_code, user_code_uri) = code_parts(alloc, alone, both)?;
     Ok(Interaction {
         redirect,
         user_code,
@@ -135,10 +140,18 @@ fn granted_of(alloc: Global, value: &Value) -> Result<GrantReply, FormFault>
     requires { IsBody (view value.now) }
     ensures { Gives OutOfMemory (λ v. v) result (granted_of (view value.now)) }
 {
+    let Some(door) = continue_of(value) else {
+        return Err(FormFault::NotOfForm);
+    };
+    let Some(_) = optional_str(value, "instance_id") else {
+        return Err(FormFault::NotOfForm);
+    };
+    let Some(subject) = subject_of(value) else {
+        return Err(FormFault::NotOfForm);
+    };
+    let door = copied(alloc, door)?;
+    let subject = optional_copied(alloc, subject)?;
     let tokens = tokens_of(alloc, value)?;
-    let door = continue_of(alloc, value)?;
-    let _instance = optional_str(value, "instance_id")?;
-    let subject = subject_of(alloc, value)?;
     Ok(GrantReply::Granted {
         door,
         tokens,
@@ -150,9 +163,16 @@ fn granted_of(alloc: Global, value: &Value) -> Result<GrantReply, FormFault>
 fn pending_of(alloc: Global, value: &Value) -> Result<GrantReply, FormFault>
     ensures { Gives OutOfMemory (λ v. v) result (pending_of (view value.now)) }
 {
-    let door = continue_of(alloc, value)?;
-    let _instance = optional_str(value, "instance_id")?;
-    let interact = needed(value, "interact")?;
+    let Some(door) = continue_of(value) else {
+        return Err(FormFault::NotOfForm);
+    };
+    let Some(_) = optional_str(value, "instance_id") else {
+        return Err(FormFault::NotOfForm);
+    };
+    let Some(interact) = member(value, "interact") else {
+        return Err(FormFault::NotOfForm);
+    };
+    let door = copied(alloc, door)?;
     let interaction = interaction_of(alloc, interact)?;
     Ok(GrantReply::Pending { door, interaction })
 }
@@ -161,8 +181,12 @@ fn pending_of(alloc: Global, value: &Value) -> Result<GrantReply, FormFault>
 fn continuing_of(alloc: Global, value: &Value) -> Result<GrantReply, FormFault>
     ensures { Gives OutOfMemory (λ v. v) result (continuing_of (view value.now)) }
 {
-    let door = continue_of(alloc, value)?;
-    Ok(GrantReply::Continuing { door })
+    let Some(door) = continue_of(value) else {
+        return Err(FormFault::NotOfForm);
+    };
+    Ok(GrantReply::Continuing {
+        door: copied(alloc, door)?,
+    })
 }
 
 #[tactic(auto, unfolding(crate::specs::Grants::rotated_of))]
@@ -170,7 +194,10 @@ fn rotated_of(alloc: Global, value: &Value) -> Result<GrantReply, FormFault>
     requires { IsBody (view value.now) }
     ensures { Gives OutOfMemory (λ v. v) result (rotated_of (view value.now)) }
 {
-    let token = token_of(alloc, needed(value, "access_token")?)?;
+    let Some(member) = member(value, "access_token") else {
+        return Err(FormFault::NotOfForm);
+    };
+    let token = token_of(alloc, member)?;
     Ok(GrantReply::Rotated { token })
 }
 

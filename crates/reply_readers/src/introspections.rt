@@ -1,37 +1,51 @@
 //! Replies to introspections (RFC 9767, section 3.3).
-ghost use Rattle.std.specs.Prelude.{◌≡◌, IfOk};
+ghost use Rattle.std.specs.Prelude.{◌≡◌, IfOk, option_map};
 ghost use Rattle.serde_json.specs.View.{view};
 ghost use Rattle.json_objects.specs.Bodies.{IsBody};
 ghost use Rattle.json_objects.specs.Reading.{Gives};
 ghost use Rattle.reply_readers.specs.declared.members.FormFault.TheVariants.{OutOfMemory};
-ghost use Rattle.reply_readers.specs.Introspections.{key_of, needed_flag, active_of, judgement_of, judgement_reading, judgement};
+ghost use Rattle.reply_readers.specs.Members.{Tells};
+ghost use Rattle.reply_readers.specs.Introspections.{key_of, key_in, exp_in, needed_flag, active_of, judgement_of, judgement_reading, judgement};
 
 use crate::judgement::Judgement;
 use crate::members::{
-    FormFault, bearer_of, needed, needed_number, needed_rights, needed_str, optional_text,
+    FormFault, bearer_of, needed_number, needed_rights, needed_str, optional_copied, optional_str,
 };
 use crate::reading::object_of;
-use bytes_and_lists::bytes::Bytes;
 use bytes_and_lists::memory::Mem;
+use json_objects::member;
 use serde_json::Value;
 use std::alloc::Global;
 
 // The key of a bound token: a token has a key or the flag, and not both.
-fn key_of(bearer: bool, instance: &str, key: Option<Bytes>) -> Result<Option<Bytes>, FormFault>
-    ensures { Gives OutOfMemory (λ k. k) result (key_of bearer instance.now key) }
+fn key_of<'v>(bearer: bool, instance: &str, key: Option<&'v str>) -> Option<Option<&'v str>>
+    ensures { Tells (option_map (λ k. k.now)) result (key_of bearer instance.now (option_map (λ k. k.now) key.entry)) }
 {
-    match key {
-        None => if bearer {
-            Ok(None)
-        } else {
-            Err(FormFault::NotOfForm)
-        },
-        Some(key) => if !bearer && key.as_slice() == instance.as_bytes() {
-            Ok(Some(key))
-        } else {
-            Err(FormFault::NotOfForm)
-        },
-    }
+    let is_right = match key {
+        None => bearer,
+        Some(key) => !bearer && key == instance,
+    };
+    if is_right { Some(key) } else { None }
+}
+
+#[tactic(auto, unfolding(crate::specs::Introspections::key_in))]
+fn key_in(value: &Value) -> Option<Option<&str>>
+    ensures { Tells (option_map (λ k. k.now)) result (key_in (view value.now)) }
+{
+    let bearer = bearer_of(value)?;
+    let instance = needed_str(value, "instance_id")?;
+    key_of(bearer, instance, optional_str(value, "key")?)
+}
+
+// The second at which the token ends, where it is told too when and by whom it was given.
+#[tactic(auto, unfolding(crate::specs::Introspections::exp_in))]
+fn exp_in(value: &Value) -> Option<u64>
+    ensures { Tells (λ n. n) result (exp_in (view value.now)) }
+{
+    let exp = needed_number(value, "exp")?;
+    let _iat = needed_number(value, "iat")?;
+    let _iss = needed_str(value, "iss")?;
+    Some(exp)
 }
 
 #[tactic(auto, unfolding(crate::specs::Introspections::active_of))]
@@ -39,24 +53,21 @@ fn active_of(alloc: Global, value: &Value) -> Result<Judgement, FormFault>
     requires { IsBody (view value.now) }
     ensures { Gives OutOfMemory (λ j. j) result (active_of (view value.now)) }
 {
+    let Some(exp) = exp_in(value) else {
+        return Err(FormFault::NotOfForm);
+    };
+    let Some(key) = key_in(value) else {
+        return Err(FormFault::NotOfForm);
+    };
+    let key = optional_copied(alloc, key)?;
     let access = needed_rights(alloc, value, "access")?;
-    let exp = needed_number(value, "exp")?;
-    let bearer = bearer_of(value)?;
-    let _iat = needed_number(value, "iat")?;
-    let instance = needed_str(value, "instance_id")?;
-    let _iss = needed_str(value, "iss")?;
-    let named = optional_text(alloc, value, "key")?;
-    let key = key_of(bearer, instance, named)?;
     Ok(Judgement::Active { access, key, exp })
 }
 
-fn needed_flag(value: &Value) -> Result<bool, FormFault>
-    ensures { Gives OutOfMemory (λ b. b) result (needed_flag (view value.now)) }
+fn needed_flag(value: &Value) -> Option<bool>
+    ensures { Tells (λ b. b) result (needed_flag (view value.now)) }
 {
-    match needed(value, "active")?.as_bool() {
-        Some(active) => Ok(active),
-        None => Err(FormFault::NotOfForm),
-    }
+    member(value, "active")?.as_bool()
 }
 
 #[tactic(auto, unfolding(crate::specs::Introspections::judgement_of))]
@@ -64,10 +75,13 @@ fn judgement_of(alloc: Global, value: &Value) -> Result<Judgement, FormFault>
     requires { IsBody (view value.now) }
     ensures { Gives OutOfMemory (λ j. j) result (judgement_of (view value.now)) }
 {
-    if needed_flag(value)? {
-        active_of(alloc, value)
-    } else {
-        Ok(Judgement::Inactive)
+    match needed_flag(value) {
+        None => Err(FormFault::NotOfForm),
+        Some(active) => if active {
+            active_of(alloc, value)
+        } else {
+            Ok(Judgement::Inactive)
+        },
     }
 }
 

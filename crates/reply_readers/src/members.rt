@@ -5,7 +5,7 @@ ghost use Rattle.serde_json.specs.View.{view, items_view};
 ghost use Rattle.json_objects.specs.Bodies.{IsBody};
 ghost use Rattle.json_objects.specs.Reading.{Gives};
 ghost use Rattle.reply_readers.specs.declared.members.FormFault.TheVariants.{OutOfMemory};
-ghost use Rattle.reply_readers.specs.Members.{text_of, tested, needed, needed_text, needed_number, optional_text, is_value, is_drawn, needed_rights, bearer_of, is_bearer_text, is_bearer_only, is_bearer_list};
+ghost use Rattle.reply_readers.specs.Members.{Tells, tested, needed_text, needed_number, optional_text, is_value, is_drawn, needed_drawn, needed_rights, bearer_of, is_bearer_text, is_bearer_only, is_bearer_list};
 
 use crate::values::{all_value_bytes, is_value};
 use access_rights::{RightsFault, read_rights};
@@ -31,85 +31,50 @@ impl From<Mem> for FormFault {
     }
 }
 
-pub(crate) fn needed<'v>(value: &'v Value, name: &str) -> Result<&'v Value, FormFault>
-    ensures value { Gives OutOfMemory (λ v. view v.now) result (needed name.now (view value.now)) }
-    ensures body { IsBody (view value.now) → IfOk result (λ v. IsBody (view v.now)) }
-{
-    match member(value, name) {
-        Some(member) => Ok(member),
-        None => Err(FormFault::NotOfForm),
-    }
-}
-
-fn str_of(value: &Value) -> Result<&str, FormFault>
-    ensures { Gives OutOfMemory (λ s. s.now) result (text_of (view value.now)) }
-{
-    match value.as_str() {
-        Some(text) => Ok(text),
-        None => Err(FormFault::NotOfForm),
-    }
-}
-
 // The text, where it isn't kept.
-pub(crate) fn needed_str<'v>(value: &'v Value, name: &str) -> Result<&'v str, FormFault>
-    ensures { Gives OutOfMemory (λ s. s.now) result (needed_text name.now (view value.now)) }
+pub(crate) fn needed_str<'v>(value: &'v Value, name: &str) -> Option<&'v str>
+    ensures { Tells (λ s. s.now) result (needed_text name.now (view value.now)) }
 {
-    str_of(needed(value, name)?)
+    member(value, name)?.as_str()
 }
 
-pub(crate) fn optional_str<'v>(value: &'v Value, name: &str) -> Result<Option<&'v str>, FormFault>
-    ensures { Gives OutOfMemory (option_map (λ s. s.now)) result (optional_text name.now (view value.now)) }
+pub(crate) fn optional_str<'v>(value: &'v Value, name: &str) -> Option<Option<&'v str>>
+    ensures { Tells (option_map (λ s. s.now)) result (optional_text name.now (view value.now)) }
 {
     match member(value, name) {
+        None => Some(None),
+        Some(member) => Some(Some(member.as_str()?)),
+    }
+}
+
+pub(crate) fn needed_number(value: &Value, name: &str) -> Option<u64>
+    ensures { Tells (λ n. n) result (needed_number name.now (view value.now)) }
+{
+    member(value, name)?.as_u64()
+}
+
+pub(crate) fn copied(alloc: Global, text: &str) -> Result<Bytes, Mem>
+    ensures { IfOk result (λ b. b ≡ text.now) }
+{
+    Bytes::from_slice(alloc, text.as_bytes())
+}
+
+pub(crate) fn optional_copied(alloc: Global, text: Option<&str>) -> Result<Option<Bytes>, Mem>
+    ensures { IfOk result (λ b. b ≡ option_map (λ s. s.now) text.entry) }
+{
+    match text {
         None => Ok(None),
-        Some(member) => Ok(Some(str_of(member)?)),
+        Some(text) => Ok(Some(copied(alloc, text)?)),
     }
 }
 
-pub(crate) fn text_of(alloc: Global, value: &Value) -> Result<Bytes, FormFault>
-    ensures { Gives OutOfMemory (λ b. b) result (text_of (view value.now)) }
+pub(crate) fn checked_value(text: &str) -> Option<&str>
+    ensures { Tells (λ s. s.now) result (tested is_value text.now) }
 {
-    match value.as_str() {
-        Some(text) => Ok(Bytes::from_slice(alloc, text.as_bytes())?),
-        None => Err(FormFault::NotOfForm),
-    }
-}
-
-pub(crate) fn needed_text(alloc: Global, value: &Value, name: &str) -> Result<Bytes, FormFault>
-    ensures { Gives OutOfMemory (λ b. b) result (needed_text name.now (view value.now)) }
-{
-    text_of(alloc, needed(value, name)?)
-}
-
-pub(crate) fn needed_number(value: &Value, name: &str) -> Result<u64, FormFault>
-    ensures { Gives OutOfMemory (λ n. n) result (needed_number name.now (view value.now)) }
-{
-    match needed(value, name)?.as_u64() {
-        Some(number) => Ok(number),
-        None => Err(FormFault::NotOfForm),
-    }
-}
-
-pub(crate) fn optional_text(
-    alloc: Global,
-    value: &Value,
-    name: &str,
-) -> Result<Option<Bytes>, FormFault>
-    ensures { Gives OutOfMemory (λ b. b) result (optional_text name.now (view value.now)) }
-{
-    match member(value, name) {
-        None => Ok(None),
-        Some(member) => Ok(Some(text_of(alloc, member)?)),
-    }
-}
-
-pub(crate) fn checked_value(text: Bytes) -> Result<Bytes, FormFault>
-    ensures { Gives OutOfMemory (λ b. b) result (tested is_value text) }
-{
-    if is_value(text.as_slice()) {
-        Ok(text)
+    if is_value(text.as_bytes()) {
+        Some(text)
     } else {
-        Err(FormFault::NotOfForm)
+        None
     }
 }
 
@@ -122,23 +87,30 @@ fn array_of(text: &[u8]) -> Option<[u8; 32]>
     }
 }
 
-pub(crate) fn checked_drawn(text: &str) -> Result<[u8; 32], FormFault>
-    ensures { Gives OutOfMemory (λ b. b) result (tested is_drawn text.now) }
+fn checked_drawn(text: &str) -> Option<[u8; 32]>
+    ensures { Tells (λ b. b) result (tested is_drawn text.now) }
 {
-    if !all_value_bytes(text.as_bytes()) {
-        return Err(FormFault::NotOfForm);
+    if all_value_bytes(text.as_bytes()) {
+        array_of(text.as_bytes())
+    } else {
+        None
     }
-    match array_of(text.as_bytes()) {
-        Some(array) => Ok(array),
-        None => Err(FormFault::NotOfForm),
-    }
+}
+
+// An access token's value or management value.
+pub(crate) fn needed_drawn(value: &Value, name: &str) -> Option<[u8; 32]>
+    ensures { Tells (λ b. b) result (needed_drawn name.now (view value.now)) }
+{
+    checked_drawn(needed_str(value, name)?)
 }
 
 pub(crate) fn needed_rights(alloc: Global, value: &Value, name: &str) -> Result<Rights, FormFault>
     requires { IsBody (view value.now) }
     ensures { Gives OutOfMemory (λ r. r) result (needed_rights name.now (view value.now)) }
 {
-    let member = needed(value, name)?;
+    let Some(member) = member(value, name) else {
+        return Err(FormFault::NotOfForm);
+    };
     match read_rights(alloc, member) {
         Ok(rights) => Ok(rights),
         Err(RightsFault::Wrong) => Err(FormFault::NotOfForm),
@@ -176,15 +148,15 @@ fn is_bearer_list(value: &Value) -> bool
     }
 }
 
-pub(crate) fn bearer_of(value: &Value) -> Result<bool, FormFault>
-    ensures { Gives OutOfMemory (λ b. b) result (bearer_of (view value.now)) }
+pub(crate) fn bearer_of(value: &Value) -> Option<bool>
+    ensures { Tells (λ b. b) result (bearer_of (view value.now)) }
 {
     match member(value, "flags") {
-        None => Ok(false),
+        None => Some(false),
         Some(flags) => if is_bearer_list(flags) {
-            Ok(true)
+            Some(true)
         } else {
-            Err(FormFault::NotOfForm)
+            None
         },
     }
 }

@@ -3,11 +3,12 @@ ghost use Rattle.serde_json.specs.View.{view, items_view};
 ghost use Rattle.json_objects.specs.Bodies.{IsBody, AreBodies};
 ghost use Rattle.json_objects.specs.Reading.{Gives, each};
 ghost use Rattle.reply_readers.specs.declared.members.FormFault.TheVariants.{OutOfMemory};
+ghost use Rattle.reply_readers.specs.Members.{Tells};
 ghost use Rattle.reply_readers.specs.Grants.{manage_of, token_of, tokens_in, tokens_of, some_tokens};
 
 use crate::members::{
-    FormFault, bearer_of, checked_drawn, needed, needed_number, needed_rights, needed_str,
-    optional_text,
+    FormFault, bearer_of, needed_drawn, needed_number, needed_rights, needed_str, optional_copied,
+    optional_str,
 };
 use bytes_and_lists::seq::Seq;
 use gnap_model::calls::{TokenOut, Tokens};
@@ -16,13 +17,13 @@ use serde_json::Value;
 use std::alloc::Global;
 
 #[tactic(auto, unfolding(crate::specs::Grants::manage_of))]
-fn manage_of(value: &Value) -> Result<[u8; 32], FormFault>
-    ensures { Gives OutOfMemory (λ v. v) result (manage_of (view value.now)) }
+fn manage_of(value: &Value) -> Option<[u8; 32]>
+    ensures { Tells (λ v. v) result (manage_of (view value.now)) }
 {
-    let manage = needed(value, "manage")?;
-    let token = needed(manage, "access_token")?;
+    let manage = member(value, "manage")?;
+    let token = member(manage, "access_token")?;
     let _uri = needed_str(manage, "uri")?;
-    checked_drawn(needed_str(token, "value")?)
+    needed_drawn(token, "value")
 }
 
 #[tactic(auto, unfolding(crate::specs::Grants::token_of))]
@@ -30,14 +31,25 @@ pub(crate) fn token_of(alloc: Global, value: &Value) -> Result<TokenOut, FormFau
     requires { IsBody (view value.now) }
     ensures { Gives OutOfMemory (λ t. t) result (token_of (view value.now)) }
 {
+    let Some(expires_in) = needed_number(value, "expires_in") else {
+        return Err(FormFault::NotOfForm);
+    };
+    let Some(bearer) = bearer_of(value) else {
+        return Err(FormFault::NotOfForm);
+    };
+    let Some(label) = optional_str(value, "label") else {
+        return Err(FormFault::NotOfForm);
+    };
+    let Some(manage) = manage_of(value) else {
+        return Err(FormFault::NotOfForm);
+    };
+    let Some(drawn) = needed_drawn(value, "value") else {
+        return Err(FormFault::NotOfForm);
+    };
+    let label = optional_copied(alloc, label)?;
     let rights = needed_rights(alloc, value, "access")?;
-    let expires_in = needed_number(value, "expires_in")?;
-    let bearer = bearer_of(value)?;
-    let label = optional_text(alloc, value, "label")?;
-    let manage = manage_of(value)?;
-    let value = checked_drawn(needed_str(value, "value")?)?;
     Ok(TokenOut {
-        value,
+        value: drawn,
         manage,
         label,
         rights,

@@ -99,15 +99,32 @@ routes_of d = required_items (codes "routes") d >>= counted_items >>= routes_fro
 abbrev pub rs_setup_members : List (List ℕ)
 rs_setup_members = codes "base" ∷ codes "server" ∷ codes "id" ∷ codes "secret" ∷ codes "keys" ∷ codes "routes" ∷ []
 
--- the setup that the bytes are: one JSON object in which each number is whole, with exactly these members
-unfoldable pub rs_setup_of : List ℕ → Result RsSetup SetupFault
-rs_setup_of text = do
-  d ← object_in (body_of text)
-  base ← in_setup (base_of (codes "base") d)
-  server ← in_setup (base_of (codes "server") d)
-  id ← in_setup (named_id_of d)
-  secret ← in_setup (secret_of d)
+unfoldable pub addresses_of : Data → Result (List ℕ × List ℕ) ObjectFault
+addresses_of d = do
+  base ← base_of (codes "base") d
+  server ← base_of (codes "server") d
+  Ok (base, server)
+
+unfoldable pub own_key_of : Data → Result (List ℕ × List ℕ) ObjectFault
+own_key_of d = do
+  id ← named_id_of d
+  secret ← secret_of d
+  Ok (id, secret)
+
+unfoldable pub ring_and_routes_of : Data → Result (List (List ℕ × List ℕ) × List Route) SetupFault
+ring_and_routes_of d = do
   ring ← ring_of d
   routes ← in_setup (routes_of d)
+  Ok (ring, routes)
+
+unfoldable pub setup_in : Data → Result RsSetup SetupFault
+setup_in d = do
+  addresses ← in_setup (addresses_of d)
+  key ← in_setup (own_key_of d)
+  served ← ring_and_routes_of d
   in_setup (without_others rs_setup_members d
-      (record { base = base; server = server; id = id; secret = secret; ring = ring; routes = routes }))
+      (record { base = addresses.0; server = addresses.1; id = key.0; secret = key.1; ring = served.0; routes = served.1 }))
+
+-- the setup that the bytes are: one JSON object in which each number is whole, with exactly these members
+unfoldable pub rs_setup_of : List ℕ → Result RsSetup SetupFault
+rs_setup_of text = object_in (body_of text) >>= setup_in

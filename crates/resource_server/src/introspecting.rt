@@ -1,6 +1,7 @@
 //! The introspection of a token: its question, and how it is asked.
 ghost use Rattle.std.specs.Prelude.{◌≡◌, ◌<◌, ◌^◌, [], ◌∷◌, Some, IfOk, IsUtf8};
 ghost use Rattle.std.specs.List.{AllByRecursion};
+ghost use Rattle.serde_json.specs.Data.{string};
 ghost use Rattle.serde_json.specs.View.{view};
 ghost use Rattle.access_rights.specs.Fits.{Fits};
 ghost use Rattle.resource_server.specs.Fits.{RsSetupFits};
@@ -13,8 +14,8 @@ use bytes_and_lists::memory::{Duplicate, Mem};
 use bytes_and_lists::seq::Seq;
 use gnap_io::link::{Link, LinkFault};
 use gnap_model::rights::Rights;
-use json_objects::{compact_text, put, text_value};
-use serde_json::{Map, Value};
+use json_objects::{Draft, compact_text, text_value, word_value};
+use serde_json::Value;
 use signed_requests::{Scheme, UnsignedRequest, signed_request};
 use std::alloc::Global;
 
@@ -38,6 +39,12 @@ fn proof_of(scheme: Scheme) -> &'static str
     }
 }
 
+fn proof_value(alloc: Global, scheme: Scheme) -> Result<Value, Mem>
+    ensures { IfOk result (λ v. view v ≡ string (proof_of scheme)) }
+{
+    word_value(alloc, proof_of(scheme))
+}
+
 #[tactic(auto, unfolding(crate::specs::Introspecting::introspection_data))]
 fn introspection_value(
     alloc: Global,
@@ -51,16 +58,12 @@ fn introspection_value(
     requires value { IsUtf8 value.now }
     ensures { IfOk result (λ v. view v ≡ introspection_data id.now wanted.now (scheme, value.now)) }
 {
-    let mut map = Map::new(alloc);
-    let server = text_value(alloc, id.as_slice())?;
-    put(&mut map, alloc, "resource_server", Some(server))?;
-    let proof = Value::try_from_str(alloc, proof_of(scheme))?;
-    put(&mut map, alloc, "proof", Some(proof))?;
-    let token = text_value(alloc, value)?;
-    put(&mut map, alloc, "access_token", Some(token))?;
-    let access = rights_value(alloc, wanted)?;
-    put(&mut map, alloc, "access", Some(access))?;
-    Ok(Value::Object(map))
+    Draft::new(alloc)
+        .with("resource_server", text_value(alloc, id.as_slice()))
+        .with("proof", proof_value(alloc, scheme))
+        .with("access_token", text_value(alloc, value))
+        .with("access", rights_value(alloc, wanted))
+        .value()
 }
 
 /// The question about a token with this value, presented so, for these rights: the body of its introspection (RFC 9767, section 3.3).

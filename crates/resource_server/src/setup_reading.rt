@@ -6,7 +6,9 @@ ghost use Rattle.serde_json.specs.View.{view, items_view};
 ghost use Rattle.json_objects.specs.Bodies.{IsBody, AreBodies};
 ghost use Rattle.json_objects.specs.Reading.{Gives};
 ghost use Rattle.structured_fields.specs.Letters.{is_string_byte};
+ghost use Rattle.access_rights.specs.declared.reading.RightsFault.TheVariants as rights_faults;
 ghost use Rattle.access_rights.specs.Fits.{Fits};
+ghost use Rattle.access_rights.specs.Reading.{rights_of};
 ghost use Rattle.gnap_objects.specs.declared.fault.ObjectFault.TheVariants as faults;
 ghost use Rattle.gnap_objects.specs.declared.setups.SetupFault.TheVariants.{OutOfMemory};
 ghost use Rattle.gnap_objects.specs.Reading.{without_others};
@@ -14,7 +16,7 @@ ghost use Rattle.gnap_objects.specs.Setups.{in_setup};
 ghost use Rattle.signed_requests.specs.Forms.{begins_with_slash, is_method};
 ghost use Rattle.resource_server.specs.Fits.{RouteFits, RsSetupFits};
 ghost use Rattle.resource_server.specs.Routing.{is_route};
-ghost use Rattle.resource_server.specs.RsSetups.{named_id_of, with_key, ring_from, ring_of, method_of, route_path_of, first_of, one_right_of, route_from, routes_from, counted_items, routes_of, rs_setup_members, rs_setup_of};
+ghost use Rattle.resource_server.specs.RsSetups.{named_id_of, with_key, ring_from, ring_of, method_of, route_path_of, first_of, one_right_of, route_from, routes_from, counted_items, routes_of, rs_setup_members, addresses_of, own_key_of, ring_and_routes_of, setup_in, rs_setup_of};
 
 use crate::routing::is_route;
 use crate::setup::{Route, Routes, RsSetup};
@@ -178,6 +180,16 @@ fn first_of(alloc: Global, rights: Rights) -> Result<Right, ObjectFault>
     }
 }
 
+// The rights that the array of the value alone is.
+fn rights_alone(alloc: Global, value: &Value) -> Result<Rights, RightsFault>
+    requires { IsBody (array (item (view value.now) no_items)) }
+    ensures value { Gives rights_faults.OutOfMemory (λ r. r) result (rights_of (array (item (view value.now) no_items))) }
+    ensures fits { IfOk result (AllByRecursion Fits) }
+{
+    let alone = alone(alloc, value)?;
+    read_rights(alloc, &alone)
+}
+
 // One right.
 #[tactic(auto, unfolding(crate::specs::RsSetups::one_right_of))]
 fn one_right_of(alloc: Global, value: &Value) -> Result<Right, ObjectFault>
@@ -186,8 +198,7 @@ fn one_right_of(alloc: Global, value: &Value) -> Result<Right, ObjectFault>
     ensures fits { IfOk result Fits }
 {
     let member = required(alloc, value, "right")?;
-    let alone = alone(alloc, member)?;
-    match read_rights(alloc, &alone) {
+    match rights_alone(alloc, member) {
         Ok(rights) => first_of(alloc, rights),
         Err(RightsFault::Wrong) => Err(wrong(alloc, "right")),
         Err(RightsFault::TooMany) => Err(too_many(alloc, "right")),
@@ -260,6 +271,60 @@ fn only_setup_members(alloc: Global, value: &Value, setup: RsSetup) -> Result<Rs
     Ok(without_others(alloc, value, &names, setup)?)
 }
 
+// The server's own address and that of the authorization server.
+#[tactic(auto, unfolding(crate::specs::RsSetups::addresses_of))]
+fn addresses_of(alloc: Global, value: &Value) -> Result<(Bytes, Bytes), ObjectFault>
+    ensures { Gives faults.OutOfMemory (λ s. s) result (addresses_of (view value.now)) }
+{
+    let base = base_of(alloc, value, "base")?;
+    let server = base_of(alloc, value, "server")?;
+    Ok((base, server))
+}
+
+// The server's own key: its id and its secret.
+#[tactic(auto, unfolding(crate::specs::RsSetups::own_key_of))]
+fn own_key_of(alloc: Global, value: &Value) -> Result<(Bytes, Bytes), ObjectFault>
+    ensures value { Gives faults.OutOfMemory (λ s. s) result (own_key_of (view value.now)) }
+    ensures utf8 { IfOk result (λ key. IsUtf8 key.0) }
+    ensures string { IfOk result (λ key. list_all is_string_byte key.0 ≡ true) }
+{
+    let id = named_id_of(alloc, value)?;
+    let secret = secret_of(alloc, value)?;
+    Ok((id, secret))
+}
+
+// The keys of clients, and the routes.
+#[tactic(auto, unfolding(crate::specs::RsSetups::ring_and_routes_of))]
+fn ring_and_routes_of(alloc: Global, value: &Value) -> Result<(Keyring, Routes), SetupFault>
+    requires { IsBody (view value.now) }
+    ensures value { Gives OutOfMemory (λ s. s) result (ring_and_routes_of (view value.now)) }
+    ensures fits { IfOk result (λ read. AllByRecursion RouteFits read.1) }
+{
+    let ring = ring_of(alloc, value)?;
+    let routes = routes_of(alloc, value)?;
+    Ok((ring, routes))
+}
+
+#[tactic(auto, unfolding(crate::specs::RsSetups::setup_in))]
+fn setup_in(alloc: Global, value: &Value) -> Result<RsSetup, SetupFault>
+    requires { IsBody (view value.now) }
+    ensures value { Gives OutOfMemory (λ s. s) result (setup_in (view value.now)) }
+    ensures fits { IfOk result RsSetupFits }
+{
+    let (base, server) = addresses_of(alloc, value)?;
+    let (id, secret) = own_key_of(alloc, value)?;
+    let (ring, routes) = ring_and_routes_of(alloc, value)?;
+    let setup = RsSetup {
+        base,
+        server,
+        id,
+        secret,
+        ring,
+        routes,
+    };
+    only_setup_members(alloc, value, setup)
+}
+
 /// The setup of a resource server that the bytes are.
 ///
 /// It is a JSON object with exactly the members `base` and `server`, addresses of servers (`gnap_objects::forms::is_base`); `id`
@@ -274,19 +339,5 @@ pub fn read_rs_setup(alloc: Global, text: &[u8]) -> Result<RsSetup, SetupFault>
     ensures fits { IfOk result RsSetupFits }
 {
     let value = object_of(alloc, text)?;
-    let base = base_of(alloc, &value, "base")?;
-    let server = base_of(alloc, &value, "server")?;
-    let id = named_id_of(alloc, &value)?;
-    let secret = secret_of(alloc, &value)?;
-    let ring = ring_of(alloc, &value)?;
-    let routes = routes_of(alloc, &value)?;
-    let setup = RsSetup {
-        base,
-        server,
-        id,
-        secret,
-        ring,
-        routes,
-    };
-    only_setup_members(alloc, &value, setup)
+    setup_in(alloc, &value)
 }

@@ -15,7 +15,7 @@ use Rattle.grant_values.proofs.RightsAgain.{rights_again}
 use Rattle.reply_readers.specs.declared.judgement.Judgement.{Judgement}
 use Rattle.reply_readers.specs.declared.judgement.Judgement.TheVariants as judged
 use Rattle.reply_readers.specs.Members.{needed_text, needed_number, needed_rights, optional_text, bearer_of}
-use Rattle.reply_readers.specs.Introspections.{key_of, active_of, needed_flag, judgement_of, judgement_reading, judgement}
+use Rattle.reply_readers.specs.Introspections.{key_of, key_in, exp_in, active_of, needed_flag, judgement_of, judgement_reading, judgement}
 use Rattle.round_trips.specs.Introspections.{key_told, AreRead, IntrospectionsReadBack}
 use Rattle.round_trips.proofs.MembersAgain.{text_there, number_there, rights_there, bearer_there}
 
@@ -47,7 +47,7 @@ active_parts : (d : Data) (access : List Right) (exp iat : ℕ) (bearer : Bool) 
     → needed_rights (codes "access") d ≡ Ok access → needed_number (codes "exp") d ≡ Ok exp → bearer_of d ≡ Ok bearer
     → needed_number (codes "iat") d ≡ Ok iat → needed_text (codes "instance_id") d ≡ Ok instance → needed_text (codes "iss") d ≡ Ok iss
     → optional_text (codes "key") d ≡ Ok named → key_of bearer instance named ≡ Ok key → active_of d ≡ Ok (judged.Active access key exp)
-unfolding active_of
+unfolding active_of exp_in key_in
 active_parts d access exp iat bearer instance iss named key e0 e1 e2 e3 e4 e5 e6 e7 = rw (e0, e1, e2, e3, e4, e5, e6, e7) refl
 
 active_again : (base : List ℕ) (access : List Right) (iat exp : ℕ) (instance : List ℕ) (bearer : Bool) → AreRead access

@@ -1,6 +1,6 @@
 -- Requests as a client or a resource server sends them (RFC 9112, sections 2 to 6; RFC 9635, sections 7.2 and 7.3.1).
 -- Bytes stand by their numbers: 45 `-`.
-use Rattle.std.specs.Prelude.{ℕ, ◌-◌, ◌==◌, ◌&&◌, Bool, true, false, if◌then◌else◌, List, [], ◌∷◌, ◌++◌, length, Option, Some, None, option_map, codes, decimal}
+use Rattle.std.specs.Prelude.{ℕ, ◌-◌, ◌==◌, ◌&&◌, Bool, true, if◌then◌else◌, List, [], ◌∷◌, ◌++◌, length, Option, Some, None, option_map, codes, decimal}
 use Rattle.std.specs.List.{flat_map}
 use Rattle.bytes_and_lists.specs.declared.message.Field.{Field}
 use Rattle.bytes_and_lists.specs.declared.message.Message.{Message}

@@ -1,5 +1,5 @@
 //! A request before it is signed, and its bytes once it is.
-ghost use Rattle.std.specs.Prelude.{◌≡◌, ◌++◌, ◌≤◌, length, ◌<◌, ◌^◌, true, Some, IfOk, OnOk};
+ghost use Rattle.std.specs.Prelude.{◌≡◌, ◌++◌, ◌≤◌, length, ◌<◌, ◌^◌, true, [], ◌∷◌, Some, IfOk, OnOk};
 ghost use Rattle.std.specs.List.{list_all};
 ghost use Rattle.structured_fields.specs.Letters.{is_string_byte};
 ghost use Rattle.message_signature.specs.Signed.{field};
@@ -69,6 +69,13 @@ fn authority_of(base: &[u8]) -> &[u8]
     }
 }
 
+fn push_field(alloc: Global, fields: &mut Fields, name: &[u8], value: &[u8]) -> Result<(), Mem>
+    ensures { OnOk result (fields.new ≡ fields.old ++ field name.now value.now ∷ []) }
+{
+    let value = Bytes::from_slice(alloc, value)?;
+    fields.push(field(alloc, name, value)?)
+}
+
 fn push_authorization(
     alloc: Global,
     fields: &mut Fields,
@@ -90,8 +97,21 @@ fn push_type(alloc: Global, fields: &mut Fields, body: &Bytes) -> Result<(), Mem
     if body.len() == 0 {
         return Ok(());
     }
-    let kind = Bytes::from_slice(alloc, b"application/json")?;
-    fields.push(field(alloc, b"content-type", kind)?)
+    push_field(alloc, fields, b"content-type", b"application/json")
+}
+
+fn push_fields(
+    alloc: Global,
+    fields: &mut Fields,
+    base: &Bytes,
+    request: &UnsignedRequest,
+) -> Result<(), Mem>
+    ensures { OnOk result (fields.new ≡ fields.old ++ (unsigned_message base.now request.now).fields) }
+{
+    push_field(alloc, fields, b"host", authority_of(base.as_slice()))?;
+    push_field(alloc, fields, b"connection", b"close")?;
+    push_authorization(alloc, fields, &request.presented)?;
+    push_type(alloc, fields, &request.body)
 }
 
 // The message before it is signed.
@@ -99,12 +119,7 @@ fn unsigned_message(alloc: Global, base: &Bytes, request: UnsignedRequest) -> Re
     ensures { IfOk result (λ m. m ≡ unsigned_message base.now request) }
 {
     let mut fields = Fields::new(alloc);
-    let authority = Bytes::from_slice(alloc, authority_of(base.as_slice()))?;
-    fields.push(field(alloc, b"host", authority)?)?;
-    let close = Bytes::from_slice(alloc, b"close")?;
-    fields.push(field(alloc, b"connection", close)?)?;
-    push_authorization(alloc, &mut fields, &request.presented)?;
-    push_type(alloc, &mut fields, &request.body)?;
+    push_fields(alloc, &mut fields, base, &request)?;
     Ok(Message {
         method: request.method,
         target: request.target,

@@ -98,7 +98,7 @@ asking_few modes = by (is_some modes.finish)
 pub asking_is : (entering : Entering) (o : OpeningNote) (request : GrantRequest) (modes : Modes) (reply : Reply) (count : ℕ) (row : Box GrantRow) (door : Text)
     (boxes : List (Box TokenRow))
     → o.grant ≡ entering.next → All (λ (r : GrantRow). r.number < entering.next) (tables entering).grants
-    → reply ≡ asking_reply entering (begun_round entering o.grant o.end modes) (instance_of o) → count ≡ asking_values modes → boxes ≡ []
+    → reply ≡ asking_reply entering door (begun_round entering o.grant o.end modes) (instance_of o) → count ≡ asking_values modes → boxes ≡ []
     → row.value ≡ with_round (begun_round entering o.grant o.end modes) (opened_row o request door (entering.supply.moment + wait))
     → door ≡ drawn_value (supply entering) 0
     → Plans entering (OpenAsking o request modes) (record { reply = reply; drawn = count; change = Open row entering.supply.first boxes })
@@ -111,7 +111,7 @@ asking_is entering o request modes reply count row door boxes number below says 
     let here : row.value ≡ with_round (round_for s o modes) (opened_row o request (drawn_value s 0) (entering.supply.moment + wait)) =
     is ∙ ap (λ (d : Text). with_round (round_for s o modes) (opened_row o request d (entering.supply.moment + wait))) drawn in
     record {
-      reply = says;
+      reply = says ∙ ap (λ (d : Text). asking_reply entering d (begun_round entering o.grant o.end modes) (instance_of o)) drawn;
       change = rw none (ap (λ (ts : List TokenRow). tables_in ((tables entering).grants ++ row.value ∷ []) ts) (append-nil (tables entering).tokens)
           ∙ ap (λ (r : GrantRow). tables_in ((tables entering).grants ++ r ∷ []) (tables entering).tokens) here
           ∙ sym (opened_asking o (terms_for o request) (round_for s o modes) (drawn_value s 0) (entering.supply.moment + wait) (tables entering).grants

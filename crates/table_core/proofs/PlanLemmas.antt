@@ -10,7 +10,7 @@ use Rattle.gnap_model.specs.Limits.{wait}
 use Rattle.gnap_model.specs.Values.{value_text, drawn}
 use Rattle.gnap_model.specs.Notes.{note_values}
 use Rattle.gnap_model.specs.Standing.{is_opening}
-use Rattle.gnap_model.specs.Actions.{Action, Supply, outcome_of, drawn_value, token_for, tokens_for, finish_of}
+use Rattle.gnap_model.specs.Actions.{Action, Supply, outcome_of, drawn_value, token_for, tokens_for, token_out, finish_of}
 use Rattle.gnap_model.specs.Actions.Action.{LastWrongReference, RenewDoor, TakeDecision, CollectDecision}
 use Rattle.gnap_model.specs.declared.rights.Right.{Right}
 use Rattle.gnap_model.specs.declared.objects.Ask.{Ask}
@@ -18,9 +18,10 @@ use Rattle.gnap_model.specs.declared.objects.Finish.{Finish}
 use Rattle.gnap_model.specs.declared.objects.DecideRequest.{DecideRequest}
 use Rattle.gnap_model.specs.declared.objects.ErrorCode.TheVariants.{TooManyAttempts}
 use Rattle.gnap_model.specs.declared.calls.Reply.{Reply}
-use Rattle.gnap_model.specs.declared.calls.Reply.TheVariants.{Error, Continuing, Decided}
+use Rattle.gnap_model.specs.declared.calls.Reply.TheVariants.{Error, Continuing, Decided, Granted}
 use Rattle.gnap_model.specs.declared.calls.FinishOut.{FinishOut}
 use Rattle.gnap_model.specs.declared.notes.OpeningNote.{OpeningNote}
+use Rattle.gnap_model.specs.declared.notes.TermsNote.{TermsNote}
 use Rattle.gnap_model.specs.declared.notes.DecisionNote.{DecisionNote}
 use Rattle.gnap_model.specs.declared.notes.Note.{Note}
 use Rattle.gnap_model.specs.declared.notes.Note.TheVariants.{Approved, Door, Issued}
@@ -37,7 +38,7 @@ use Rattle.token_manager.specs.Tokens.{IsTokenRow}
 use Rattle.grant_states.specs.declared.changes.Change.TheVariants.{Decide}
 use Rattle.table_core.specs.CallEffects.{ActsBy, tables_in}
 use Rattle.table_core.specs.Entries.{supply, tables}
-use Rattle.table_core.specs.Plans.{Plans, rows_in, carried, opened_by, IsDrawn, RiseFrom}
+use Rattle.table_core.specs.Plans.{Plans, rows_in, carried, opened_by, IsDrawn, RiseFrom, GrantsOn, granting_plan}
 use Rattle.table_core.specs.declared.answered.Answered.{Answered}
 use Rattle.table_core.specs.declared.entering.Entering.{Entering}
 use Rattle.table_core.specs.declared.entering.Plan.{Plan}
@@ -239,46 +240,60 @@ values_granted s o before asks single subject instance notes none are =
     ap (length {A = Text}) are ∙ length-append (flat_map note_values (map Issued (tokens_for s o asks 0))) (drawn_value s (2 * length asks) ∷ [])
     ∙ ap (λ n. n + 1) (tokens_length s o asks 0)
 
-pub collected_is : (entering : Entering) (row : GrantRow) (decision : DecisionNote) (asks : List Ask) (count : ℕ) (reply : Reply) (consent : List Right)
-    (door : Text) (tokens : List (Box TokenRow))
-    → count ≡ length asks → length asks ≤ 8 → entering.supply.first < 2 ^ 63 → consent ≡ decision.rights
-    → reply ≡ (outcome_of (supply entering) (CollectDecision (opening_of row) (terms_of_row row) decision asks)).reply
+-- ---- asks that are granted to a grant that goes on
+
+pub grants_on : (entering : Entering) (row : GrantRow) (asks : List Ask) (single : Bool) (subject : Option Text) (retires : Bool) (terms : Option TermsNote)
+    (consent : List Right) (count : ℕ) (reply : Reply) (door : Text) (tokens : List (Box TokenRow))
+    → count ≡ length asks
+    → reply ≡ Granted (drawn_value (supply entering) (2 * length asks))
+    (map (token_out entering.supply.moment) (tokens_for (supply entering) (opening_of row) asks 0)) single subject None
     → door ≡ drawn_value (supply entering) (2 * count) → rows_in tokens ≡ map new_token (tokens_for (supply entering) (opening_of row) asks 0)
-    → Plans entering (CollectDecision (opening_of row) (terms_of_row row) decision asks) (record {
+    → GrantsOn entering row asks single subject retires terms consent (record {
       reply = reply;
       drawn = 2 * count + 1;
       change = Renew (record {
         number = row.number;
-        retires = false;
-        terms = None;
+        retires = retires;
+        terms = terms;
         consent = Some consent;
         door = door;
-        serial = entering.supply.first
-            + 2 * count;
+        serial = entering.supply.first + 2 * count;
         earliest = entering.supply.moment + wait;
         tokens = tokens;
       });
     })
-collected_is entering row decision asks count reply consent door tokens counted few small agreed says is rows =
+grants_on entering row asks single subject retires terms consent count reply door tokens counted says drawn rows = record {
+  tokens = tokens;
+  rows = rows;
+  is = rw (says, drawn, counted) refl;
+}
+
+pub collected_is : (entering : Entering) (row : GrantRow) (decision : DecisionNote) (asks : List Ask) (subject : Option Text) (consent : List Right) (plan : Plan)
+    → length asks ≤ 8 → entering.supply.first < 2 ^ 63 → subject ≡ (if row.subject then decision.subject else None) → consent ≡ decision.rights
+    → GrantsOn entering row asks row.single subject false None consent plan
+    → Plans entering (CollectDecision (opening_of row) (terms_of_row row) decision asks) plan
+collected_is entering row decision asks subject consent plan few small tells agreed made =
     let s : Supply = supply entering in
     let o : OpeningNote = opening_of row in
-    let subject : Option Text = if row.subject then decision.subject else None in
+    let told : Option Text = if row.subject then decision.subject else None in
     let v : Text = drawn_value s (2 * length asks) in
-    let at : door ≡ v = is ∙ ap (λ n. drawn_value s (2 * n)) counted in
     let approved : List GrantRow = change_grant row.number (with_approval decision.rights) (tables entering).grants in
-    record {
-      reply = says;
-      change = rw (at, agreed) (ap (λ (ts : List TokenRow). tables_in (change_grant row.number (with_door v (entering.supply.moment + wait)) approved)
-          ((tables entering).tokens ++ ts)) rows
-          ∙ sym (all_issued (tokens_for s o asks 0) (Door row.number v (entering.supply.moment + wait) ∷ []) approved (tables entering).tokens));
-      opened = sym (grant_skipped is_opening s o (Approved row.number decision.rights ∷ []) asks row.single subject None skips);
-      drawn = (let e = values_granted s o (Approved row.number decision.rights ∷ []) asks row.single subject None
+    let is : plan ≡ granting_plan entering row asks row.single told false None decision.rights made.tokens = made.is
+    ∙ ap (λ (name : Option Text). granting_plan entering row asks row.single name false None consent made.tokens) tells
+    ∙ ap (λ (rights : List Right). granting_plan entering row asks row.single told false None rights made.tokens) agreed in
+    subst (λ (p : Plan). Plans entering (CollectDecision o (terms_of_row row) decision asks) p) (sym is) (record {
+      reply = refl;
+      change = ap (λ (ts : List TokenRow). tables_in (change_grant row.number (with_door v (entering.supply.moment + wait)) approved)
+          ((tables entering).tokens ++ ts)) made.rows
+          ∙ sym (all_issued (tokens_for s o asks 0) (Door row.number v (entering.supply.moment + wait) ∷ []) approved (tables entering).tokens);
+      opened = sym (grant_skipped is_opening s o (Approved row.number decision.rights ∷ []) asks row.single told None skips);
+      drawn = sym (values_granted s o (Approved row.number decision.rights ∷ []) asks row.single told None
           (outcome_of s (CollectDecision o (terms_of_row row) decision asks)).notes refl
-          (grant_values s o (Approved row.number decision.rights ∷ []) asks row.single subject None refl) in omega (arith, e, counted));
+          (grant_values s o (Approved row.number decision.rights ∷ []) asks row.single told None refl));
       few = omega arith;
       can = (
-        drawn_at entering (2 * count) (entering.supply.first + 2 * count) (2 * count + 1) door is refl (omega arith),
+        drawn_at entering (2 * length asks) (entering.supply.first + 2 * length asks) (2 * length asks + 1) v refl refl (omega arith),
         subst
-            (RiseFrom entering.supply.first) (sym rows) (tokens_rise s o asks 0 entering.supply.first small (omega arith) (omega arith)),
+            (RiseFrom entering.supply.first) (sym made.rows) (tokens_rise s o asks 0 entering.supply.first small (omega arith) (omega arith)),
       );
-    }
+    })

@@ -3,7 +3,7 @@ use Rattle.std.specs.Prelude.{ℕ, ◌-◌, false, [], is_some, if◌then◌else
 use Rattle.std.specs.declared.option.Option.{Option}
 use Rattle.std.specs.declared.option.Option.TheVariants.{None}
 use Rattle.gnap_model.specs.Common.{Text}
-use Rattle.gnap_model.specs.Actions.{drawn_value, round_for, or_zeros}
+use Rattle.gnap_model.specs.Actions.{round_for, or_zeros}
 use Rattle.gnap_model.specs.declared.objects.Modes.{Modes}
 use Rattle.gnap_model.specs.declared.calls.Reply.{Reply}
 use Rattle.gnap_model.specs.declared.calls.Reply.TheVariants.{Pending}
@@ -15,9 +15,10 @@ use Rattle.table_core.specs.declared.entering.Entering.{Entering}
 abbrev pub begun_round : Entering → ℕ → ℕ → Modes → RoundNote
 begun_round entering number end modes = round_for (supply entering) (record { grant = number; key = []; by_object = false; user = None; end = end }) modes
 
-abbrev pub asking_reply : Entering → RoundNote → Option Text → Reply
-asking_reply entering round instance =
-    Pending (drawn_value (supply entering) 0) round.modes round.handle (or_zeros 8 round.code) (or_zeros 32 round.nonce) (round.until - entering.supply.moment)
+-- with this continuation value
+abbrev pub asking_reply : Entering → (door : Text) → RoundNote → Option Text → Reply
+asking_reply entering door round instance =
+    Pending door round.modes round.handle (or_zeros 8 round.code) (or_zeros 32 round.nonce) (round.until - entering.supply.moment)
     instance
 
 -- the values of a continuation value and a round

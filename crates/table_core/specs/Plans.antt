@@ -1,20 +1,24 @@
 -- What a call comes to, and what it does to the tables.
-use Rattle.std.specs.Prelude.{◌≡◌, ℕ, ◌+◌, ◌≤◌, Bool, List, [], ◌∷◌, ◌++◌, map, length, if◌then◌else◌}
+use Rattle.std.specs.Prelude.{◌≡◌, ℕ, ◌+◌, ◌*◌, ◌≤◌, Bool, List, [], ◌∷◌, ◌++◌, map, length, if◌then◌else◌}
 use Rattle.std.specs.Global.{Box}
 use Rattle.std.specs.List.{count_by, flat_map}
 use Rattle.std.specs.declared.option.Option.{Option}
 use Rattle.std.specs.declared.option.Option.TheVariants.{None, Some}
 use Rattle.gnap_model.specs.Common.{Text}
+use Rattle.gnap_model.specs.Limits.{wait}
 use Rattle.gnap_model.specs.Notes.{note_values}
 use Rattle.gnap_model.specs.Standing.{is_opening}
-use Rattle.gnap_model.specs.Actions.{Action, outcome_of}
+use Rattle.gnap_model.specs.Actions.{Action, outcome_of, drawn_value, tokens_for, token_out}
 use Rattle.gnap_model.specs.declared.rights.Right.{Right}
+use Rattle.gnap_model.specs.declared.objects.Ask.{Ask}
 use Rattle.gnap_model.specs.declared.calls.Reply.{Reply}
+use Rattle.gnap_model.specs.declared.calls.Reply.TheVariants.{Granted}
 use Rattle.gnap_model.specs.declared.notes.TermsNote.{TermsNote}
 use Rattle.gnap_tables.specs.declared.rows.GrantRow.{GrantRow}
 use Rattle.gnap_tables.specs.declared.rows.Round.{Round}
 use Rattle.gnap_tables.specs.declared.rows.TokenRow.{TokenRow}
-use Rattle.gnap_tables.specs.Tables.{Tables, after_notes, change_grant, drop_grant, drop_tokens_of, with_approval, with_door, with_terms}
+use Rattle.gnap_tables.specs.RowSearches.{opening_of}
+use Rattle.gnap_tables.specs.Tables.{Tables, after_notes, change_grant, drop_grant, drop_tokens_of, new_token, with_approval, with_door, with_terms}
 use Rattle.grant_states.specs.Grants.{BeginsWith, changed_by, in_round}
 use Rattle.token_manager.specs.Tokens.{IsTokenRow}
 use Rattle.table_core.specs.CallEffects.{tables_in}
@@ -96,3 +100,31 @@ pub record Plans (entering : Entering) (action : Action) (plan : Plan) : Type 0 
   pub drawn : plan.drawn ≡ length (flat_map note_values (outcome_of (supply entering) action).notes)
   pub few : plan.drawn ≤ 17
   pub can : CanCarry entering.next entering.supply.first plan.drawn plan.change
+
+-- ---- asks that are granted to a grant that goes on
+
+-- the plan that grants the asks to the grant of the row, by these rows of tokens
+abbrev pub granting_plan : Entering → GrantRow → (asks : List Ask) → (single : Bool) → (subject : Option Text) → (retires : Bool) → Option TermsNote
+    → (consent : List Right) → List (Box TokenRow) → Plan
+granting_plan entering row asks single subject retires terms consent tokens = record {
+  reply = Granted (drawn_value (supply entering) (2 * length asks))
+      (map (token_out entering.supply.moment) (tokens_for (supply entering) (opening_of row) asks 0)) single subject None;
+  drawn = 2 * length asks + 1;
+  change = Renew (record {
+    number = row.number;
+    retires = retires;
+    terms = terms;
+    consent = Some consent;
+    door = drawn_value (supply entering) (2 * length asks);
+    serial = entering.supply.first + 2 * length asks;
+    earliest = entering.supply.moment + wait;
+    tokens = tokens;
+  });
+}
+
+-- The plan grants the asks to the grant of the row.
+pub record GrantsOn (entering : Entering) (row : GrantRow) (asks : List Ask) (single : Bool) (subject : Option Text) (retires : Bool) (terms : Option TermsNote)
+    (consent : List Right) (plan : Plan) : Type 0 where
+  pub tokens : List (Box TokenRow)
+  pub rows : rows_in tokens ≡ map new_token (tokens_for (supply entering) (opening_of row) asks 0)
+  pub is : plan ≡ granting_plan entering row asks single subject retires terms consent tokens

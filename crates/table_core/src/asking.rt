@@ -4,7 +4,6 @@ ghost use Rattle.std.specs.List.{list_any};
 ghost use Rattle.std.specs.declared.option.Option.TheVariants.{None};
 ghost use Rattle.gnap_model.specs.Common.{same_text, some_if};
 ghost use Rattle.gnap_model.specs.Asked.{wants_code};
-ghost use Rattle.gnap_model.specs.Actions.{drawn_value};
 ghost use Rattle.gnap_model.specs.Values.{code_count, free_code};
 ghost use Rattle.gnap_tables.specs.Rows.{round_row};
 ghost use Rattle.grant_rules.specs.UserCodes.{code_for};
@@ -17,6 +16,7 @@ use bytes_and_lists::bytes::Bytes;
 use bytes_and_lists::memory::Mem;
 use drawn_texts::{CODE_COUNT, code_text};
 use gnap_model::calls::Reply;
+use gnap_model::notes::RoundNote;
 use gnap_model::objects::Modes;
 use gnap_tables::rows::KeptRound;
 use grant_rules::drawing::pending_reply;
@@ -30,8 +30,6 @@ pub struct Asking {
     pub reply: Reply,
     /// How many values are drawn.
     pub drawn: u64,
-    /// The continuation value, which is the first of them.
-    pub door: [u8; 32],
     /// The round.
     pub round: KeptRound,
 }
@@ -94,27 +92,40 @@ fn value_count(modes: &Modes) -> u64
     if modes.finish.is_some() { 3 } else { 2 }
 }
 
-/// The user is asked about the grant with this number and this end.
+// The round in which the user is asked.
+fn begin_round(entering: &Entering, number: u64, end: u64, modes: &Modes) -> Result<RoundNote, Mem>
+    ensures { IfOk result (λ round. round ≡ begun_round entering.now number end modes.now) }
+{
+    let code = wanted_code(entering, modes)?;
+    entering.supply.round(number, end, modes, code)
+}
+
+/// The user is asked about the grant with this number and this end, which gets this continuation value.
 pub fn ask(
     alloc: Global,
     entering: &Entering,
     number: u64,
     end: u64,
     modes: &Modes,
+    door: [u8; 32],
     instance: Option<Bytes>,
 ) -> Result<Asking, Mem>
-    ensures reply { IfOk result (λ asking. asking.reply ≡ asking_reply entering.now (begun_round entering.now number end modes.now) instance) }
+    ensures reply { IfOk result (λ asking. asking.reply ≡ asking_reply entering.now door (begun_round entering.now number end modes.now) instance) }
     ensures drawn { IfOk result (λ asking. asking.drawn ≡ asking_values modes.now) }
-    ensures door { IfOk result (λ asking. asking.door ≡ drawn_value (supply entering.now) 0) }
     ensures round { IfOk result (λ asking. asking.round ≡ round_row 0 None (begun_round entering.now number end modes.now)) }
 {
-    let code = wanted_code(entering, modes)?;
-    let round = entering.supply.round(number, end, modes, code)?;
-    let door = entering.supply.value(0);
-    Ok(Asking {
-        reply: pending_reply(&round, entering.supply.moment, door, instance)?,
-        drawn: value_count(modes),
-        door,
-        round: stored_round(alloc, round)?,
-    })
+    let round = begin_round(entering, number, end, modes)?;
+    let reply = pending_reply(&round, entering.supply.moment, door, instance)?;
+    match stored_round(alloc, round) {
+        Ok(round) => Ok(Asking {
+            reply,
+            drawn: value_count(modes),
+            round,
+        }),
+        Err(e) => {
+            // By a call, since else the drop of each kind of reply is written out here.
+            drop(reply);
+            Err(e)
+        }
+    }
 }

@@ -1,6 +1,7 @@
 //! The answer to a grant request (RFC 9635, section 2).
 ghost use Rattle.std.specs.Prelude.{◌≡◌, ◌≤◌, ◌<◌, length, IfOk};
 ghost use Rattle.std.specs.List.{All};
+ghost use Rattle.gnap_model.specs.Actions.{terms_for};
 ghost use Rattle.gnap_model.specs.Actions.Action.{OpenAtOnce, OpenAsking};
 ghost use Rattle.gnap_model.specs.Judging.Settled.{AtOnce as SettledAtOnce, ByAsking as SettledByAsking};
 ghost use Rattle.gnap_model.specs.declared.calls.Call.TheVariants.{Begin};
@@ -16,7 +17,7 @@ use crate::entering::{Entering, Plan, TableChange};
 use crate::issuing::grant;
 use crate::kept_terms::KeptTerms;
 use crate::refusing::refused;
-use crate::stored::stored_terms;
+use crate::stored::requested_terms;
 use bytes_and_lists::bytes::Bytes;
 use bytes_and_lists::memory::Mem;
 use bytes_and_lists::seq::Seq;
@@ -24,7 +25,7 @@ use gnap_model::notes::OpeningNote;
 use gnap_model::objects::{ErrorCode, GrantRequest, Modes, Setup};
 use gnap_tables::rows::{GrantRow, KeptRound};
 use grant_rules::limits::{LIVE_LIMIT, WAIT};
-use grant_rules::opening::{instance_of, is_past, opening, terms};
+use grant_rules::opening::{instance_of, is_past, opening};
 use grant_rules::settling::{Course, settle};
 use kept_rights::KeptRights;
 use std::alloc::Global;
@@ -56,6 +57,21 @@ fn opened_row(
     }
 }
 
+// The row of a grant that the request just opened.
+fn requested_row(
+    alloc: Global,
+    opening: OpeningNote,
+    request: &GrantRequest,
+    door: [u8; 32],
+    earliest: u64,
+) -> Result<Box<GrantRow>, Mem>
+    ensures { IfOk result (λ row. row.value ≡ with_door door earliest (with_terms (terms_for opening request.now) (new_grant opening))) }
+{
+    let terms = requested_terms(alloc, opening.grant, request)?;
+    let row = opened_row(alloc, opening, terms, door, earliest);
+    Ok(Box::new(alloc, row)?)
+}
+
 // The row is pending in a round that has just begun.
 fn pend(row: &mut GrantRow, round: KeptRound)
     ensures { row.new ≡ in_round round row.old }
@@ -78,14 +94,12 @@ fn open_at_once(
 {
     let count = request.asks.len();
     let instance = instance_of(&opening)?;
-    let wanted = terms(opening.grant, request)?;
-    let terms = stored_terms(alloc, &wanted)?;
     let door = entering.supply.value(2 * count);
-    let row = opened_row(alloc, opening, terms, door, entering.supply.moment + WAIT);
+    let row = requested_row(alloc, opening, request, door, entering.supply.moment + WAIT)?;
     let granting = grant(
         alloc,
         entering,
-        &row,
+        row.as_ref(),
         request.asks.as_slice(),
         request.single,
         None,
@@ -95,7 +109,7 @@ fn open_at_once(
         reply: granting.reply,
         drawn: 2 * count as u64 + 1,
         change: TableChange::Open {
-            row: Box::new(alloc, row)?,
+            row,
             serial: entering.supply.first + 2 * count as u64,
             tokens: granting.tokens,
         },
@@ -136,23 +150,18 @@ fn open_asking(
     requires numbers { All (λ (row : GrantRow). row.number < entering.now.next) (tables entering.now).grants }
     ensures { IfOk result (Plans entering.now (OpenAsking opening request.now modes.now)) }
 {
-    let wanted = terms(opening.grant, request)?;
-    let terms = stored_terms(alloc, &wanted)?;
+    let number = opening.grant;
+    let end = opening.end;
     let instance = instance_of(&opening)?;
-    let asking = ask(alloc, entering, opening.grant, opening.end, modes, instance)?;
-    let mut row = opened_row(
-        alloc,
-        opening,
-        terms,
-        asking.door,
-        entering.supply.moment + WAIT,
-    );
-    pend(&mut row, asking.round);
+    let door = entering.supply.value(0);
+    let mut row = requested_row(alloc, opening, request, door, entering.supply.moment + WAIT)?;
+    let asking = ask(alloc, entering, number, end, modes, door, instance)?;
+    pend(row.as_mut(), asking.round);
     Ok(Plan {
         reply: asking.reply,
         drawn: asking.drawn,
         change: TableChange::Open {
-            row: Box::new(alloc, row)?,
+            row,
             serial: entering.supply.first,
             tokens: Seq::new(alloc),
         },

@@ -214,10 +214,16 @@ pub fn carry_out(
         drawn,
         change,
     } = plan;
-    let opened = carry(grants, tokens, next, first, drawn, change)?;
-    Ok(Answered {
-        reply,
-        opened,
-        drawn,
-    })
+    match carry(grants, tokens, next, first, drawn, change) {
+        Ok(opened) => Ok(Answered {
+            reply,
+            opened,
+            drawn,
+        }),
+        Err(e) => {
+            // By a call, since else the drop of each kind of reply is written out here.
+            drop(reply);
+            Err(e)
+        }
+    }
 }

@@ -2,10 +2,10 @@
 ghost use Rattle.std.specs.Prelude.{◌≡◌, ◌≤◌, option_map, if◌then◌else◌, length, IfOk, Some, None};
 ghost use Rattle.std.specs.List.{All};
 ghost use Rattle.gnap_tables.specs.declared.rows.GrantRow.{GrantRow};
-ghost use Rattle.gnap_model.specs.Actions.Action.{RenewDoor, RefuseAndFinalize, WrongReference, LastWrongReference};
-ghost use Rattle.gnap_model.specs.Continue.{is_wrong as is_wrong_for};
+ghost use Rattle.gnap_model.specs.Actions.Action.{RenewDoor, CollectDecision, RefuseAndFinalize, WrongReference, LastWrongReference};
+ghost use Rattle.gnap_model.specs.Continue.{is_wrong as is_wrong_for, decided_asks as asks_decided};
 ghost use Rattle.gnap_model.specs.declared.objects.Verdict.TheVariants.{Grant};
-ghost use Rattle.gnap_tables.specs.RowSearches.{opening_of, decision_of_row, row_by_door};
+ghost use Rattle.gnap_tables.specs.RowSearches.{opening_of, terms_of_row, decision_of_row, row_by_door};
 ghost use Rattle.gnap_tables.specs.ActionsByRows.{with_row, collect_rows, collect_or_renew_rows, continue_round_rows, continue_by, continue_rows};
 ghost use Rattle.table_core.specs.CallEffects.{HasFewAsked};
 ghost use Rattle.table_core.specs.Entries.{tables};
@@ -13,13 +13,13 @@ ghost use Rattle.table_core.specs.Plans.{Plans};
 ghost use Rattle.table_core.specs.Continued.{wrong_rows};
 
 use crate::entering::{Entering, Plan, Renewal, TableChange};
-use crate::issuing::grant;
+use crate::issuing::grant_on;
 use crate::refusing::refused;
 use bytes_and_lists::bytes::Bytes;
 use bytes_and_lists::memory::{Duplicate, Mem};
 use bytes_and_lists::seq::Seq;
 use gnap_model::calls::Reply;
-use gnap_model::objects::{ErrorCode, Verdict};
+use gnap_model::objects::{Ask, Asks, ErrorCode, Verdict};
 use gnap_tables::rows::{Decision, GrantRow, Round};
 use grant_rules::decided_asks::decided_asks;
 use grant_rules::limits::{WAIT, WRONG_LIMIT};
@@ -70,6 +70,34 @@ fn subject_told(row: &GrantRow, decision: &Decision) -> Result<Option<Bytes>, Me
     }
 }
 
+// What the user granted of the asks of the row.
+fn granted_asks(alloc: Global, row: &GrantRow, decision: &Decision) -> Result<Asks, Mem>
+    ensures asks { IfOk result (λ asks. asks ≡ asks_decided decision.now.rights (terms_of_row row.now)) }
+    ensures few { IfOk result (λ asks. length asks ≤ length row.now.asks) }
+{
+    let asked = row.asks.asks(alloc)?;
+    decided_asks(alloc, &decision.rights, &asked)
+}
+
+// The tokens for these asks are issued, and the user's consent is kept.
+fn collect_asks(
+    alloc: Global,
+    entering: &Entering,
+    row: &GrantRow,
+    decision: &Decision,
+    asks: &[Ask],
+) -> Result<Plan, Mem>
+    requires { length asks.now ≤ 8 }
+    ensures { IfOk result (Plans entering.now
+        (CollectDecision (opening_of row.now) (terms_of_row row.now) (decision_of_row row.now.number decision.now) asks.now)) }
+{
+    let consent = KeptRights::keep(alloc, &decision.rights)?;
+    let subject = subject_told(row, decision)?;
+    grant_on(
+        alloc, entering, row, asks, row.single, subject, false, None, consent,
+    )
+}
+
 // The tokens for what the user granted are issued, if that doesn't pass the limit (RFC 9635, section 5.1).
 fn collect_grant(
     alloc: Global,
@@ -81,41 +109,14 @@ fn collect_grant(
     ensures { IfOk result (Plans entering.now
         (collect_rows Grant (tables entering.now) entering.now.supply.moment row.now (decision_of_row row.now.number decision.now))) }
 {
-    let asked = row.asks.asks(alloc)?;
-    let asks = decided_asks(alloc, &decision.rights, &asked)?;
-    let count = asks.len();
+    let asks = granted_asks(alloc, row, decision)?;
     if entering
         .tokens
-        .passes_limit_with(entering.grants, entering.supply.moment, count)
+        .passes_limit_with(entering.grants, entering.supply.moment, asks.len())
     {
         return Ok(refused(entering, ErrorCode::RequestDenied));
     }
-    let subject = subject_told(row, decision)?;
-    let granting = grant(
-        alloc,
-        entering,
-        row,
-        asks.as_slice(),
-        row.single,
-        subject,
-        None,
-    )?;
-    let door = entering.supply.value(2 * count);
-    let consent = KeptRights::keep(alloc, &decision.rights)?;
-    Ok(Plan {
-        reply: granting.reply,
-        drawn: 2 * count as u64 + 1,
-        change: TableChange::Renew(Renewal {
-            number: row.number,
-            retires: false,
-            terms: None,
-            consent: Some(consent),
-            door,
-            serial: entering.supply.first + 2 * count as u64,
-            earliest: entering.supply.moment + WAIT,
-            tokens: granting.tokens,
-        }),
-    })
+    collect_asks(alloc, entering, row, decision, asks.as_slice())
 }
 
 // The decision is collected: a refusal by the user ends the grant.

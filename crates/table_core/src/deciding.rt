@@ -46,8 +46,8 @@ fn hand_in(
 ) -> Result<Plan, Mem>
     ensures { IfOk result (Plans entering.now (TakeDecision (round_of row.now.number round.now) rights request.now)) }
 {
-    let finish = entering.supply.ending(&round.modes.finish, round.nonce)?;
     let subject = request.subject.copy()?;
+    let finish = entering.supply.ending(&round.modes.finish, round.nonce)?;
     let drawn = reference_count(&finish);
     let decision = Decision {
         verdict: request.verdict,

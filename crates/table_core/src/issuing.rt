@@ -5,9 +5,10 @@ ghost use Rattle.gnap_model.specs.declared.calls.Reply.TheVariants.{Granted};
 ghost use Rattle.gnap_tables.specs.RowSearches.{opening_of};
 ghost use Rattle.gnap_tables.specs.Tables.{new_token};
 ghost use Rattle.table_core.specs.Entries.{supply};
-ghost use Rattle.table_core.specs.Plans.{rows_in};
+ghost use Rattle.table_core.specs.Plans.{rows_in, GrantsOn};
 
-use crate::entering::{Entering, NewTokens};
+use crate::entering::{Entering, NewTokens, Plan, Renewal, TableChange};
+use crate::kept_terms::KeptTerms;
 use crate::stored::stored_token;
 use bytes_and_lists::bytes::Bytes;
 use bytes_and_lists::memory::{Duplicate, Mem};
@@ -16,7 +17,9 @@ use gnap_model::calls::{Reply, Tokens};
 use gnap_model::notes::TokenNote;
 use gnap_model::objects::Ask;
 use gnap_tables::rows::GrantRow;
+use grant_rules::limits::WAIT;
 use grant_rules::tokens::token_out;
+use kept_rights::KeptRights;
 use std::alloc::Global;
 
 /// New tokens of a grant, as rows and as they are handed out.
@@ -99,5 +102,39 @@ pub fn grant(
             instance,
         },
         tokens: issued.rows,
+    })
+}
+
+/// The asks are granted to a grant that goes on with this consent, and with new terms where there are some.
+pub fn grant_on(
+    alloc: Global,
+    entering: &Entering,
+    row: &GrantRow,
+    asks: &[Ask],
+    single: bool,
+    subject: Option<Bytes>,
+    retires: bool,
+    terms: Option<KeptTerms>,
+    consent: KeptRights,
+) -> Result<Plan, Mem>
+    requires { length asks.now ≤ 8 }
+    ensures { IfOk result (GrantsOn entering.now row.now asks.now single subject retires terms consent) }
+{
+    let count = asks.len();
+    let granting = grant(alloc, entering, row, asks, single, subject, None)?;
+    let door = entering.supply.value(2 * count);
+    Ok(Plan {
+        reply: granting.reply,
+        drawn: 2 * count as u64 + 1,
+        change: TableChange::Renew(Renewal {
+            number: row.number,
+            retires,
+            terms,
+            consent: Some(consent),
+            door,
+            serial: entering.supply.first + 2 * count as u64,
+            earliest: entering.supply.moment + WAIT,
+            tokens: granting.tokens,
+        }),
     })
 }

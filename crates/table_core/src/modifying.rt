@@ -10,16 +10,15 @@ ghost use Rattle.table_core.specs.Entries.{tables};
 ghost use Rattle.table_core.specs.Plans.{Plans};
 
 use crate::asking::ask;
-use crate::entering::{Entering, Plan, Renewal, TableChange};
-use crate::issuing::grant;
+use crate::entering::{Entering, Plan, TableChange};
+use crate::issuing::grant_on;
 use crate::refusing::refused;
-use crate::stored::stored_terms;
+use crate::stored::requested_terms;
 use bytes_and_lists::bytes::Bytes;
 use bytes_and_lists::memory::{Duplicate, Mem};
 use gnap_model::objects::{ErrorCode, GrantRequest, Modes, Setup};
 use gnap_tables::rows::GrantRow;
 use grant_rules::limits::WAIT;
-use grant_rules::opening::terms;
 use grant_rules::settling::{Course, settle};
 use std::alloc::Global;
 
@@ -35,33 +34,19 @@ fn grant_anew(
         (ModifyAtOnce (opening_of row.now) row.now.consent (map token_of (rows_of_grant row.now.number (tables entering.now).tokens)) request.now)) }
 {
     let _rows = entering.tokens.len();
-    let count = request.asks.len();
-    let granting = grant(
+    let consent = row.consent.copy()?;
+    let terms = requested_terms(alloc, row.number, request)?;
+    grant_on(
         alloc,
         entering,
         row,
         request.asks.as_slice(),
         request.single,
         None,
-        None,
-    )?;
-    let door = entering.supply.value(2 * count);
-    let wanted = terms(row.number, request)?;
-    let terms = stored_terms(alloc, &wanted)?;
-    Ok(Plan {
-        reply: granting.reply,
-        drawn: 2 * count as u64 + 1,
-        change: TableChange::Renew(Renewal {
-            number: row.number,
-            retires: true,
-            terms: Some(terms),
-            consent: Some(row.consent.copy()?),
-            door,
-            serial: entering.supply.first + 2 * count as u64,
-            earliest: entering.supply.moment + WAIT,
-            tokens: granting.tokens,
-        }),
-    })
+        true,
+        Some(terms),
+        consent,
+    )
 }
 
 // The tokens are issued at once, if that doesn't pass the limit.
@@ -97,10 +82,9 @@ fn modify_asking(
         (ModifyAsking (opening_of row.now) (map token_of (rows_of_grant row.now.number (tables entering.now).tokens)) request.now modes.now)) }
 {
     let _rows = entering.tokens.len();
-    let asking = ask(alloc, entering, row.number, row.end, modes, None)?;
-    let door = asking.door;
-    let wanted = terms(row.number, request)?;
-    let terms = stored_terms(alloc, &wanted)?;
+    let terms = requested_terms(alloc, row.number, request)?;
+    let door = entering.supply.value(0);
+    let asking = ask(alloc, entering, row.number, row.end, modes, door, None)?;
     Ok(Plan {
         reply: asking.reply,
         drawn: asking.drawn,

@@ -173,8 +173,8 @@ pub fn rotate(
     match rotation {
         Rotation::Denied(code) => Ok(undrawn(Reply::Error { code })),
         Rotation::Succeeded { serial, row, out } => {
-            tokens.reserve(1)?;
             let row = Box::new(alloc, row)?;
+            tokens.reserve(1)?;
             tokens.retire(serial);
             tokens.issue(row);
             Ok(Answered {

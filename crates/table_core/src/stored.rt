@@ -6,7 +6,8 @@ ghost use Rattle.gnap_tables.specs.Tables.{new_token};
 
 use crate::kept_terms::KeptTerms;
 use bytes_and_lists::memory::Mem;
-use gnap_model::notes::{RoundNote, TermsNote, TokenNote};
+use gnap_model::notes::{RoundNote, TokenNote};
+use gnap_model::objects::GrantRequest;
 use gnap_tables::rows::{KeptRound, Round, TokenRow};
 use kept_rights::{KeptAsks, KeptRights};
 use std::alloc::Global;
@@ -50,14 +51,14 @@ pub fn stored_round(alloc: Global, round: RoundNote) -> Result<KeptRound, Mem>
     KeptRound::keep(alloc, begun)
 }
 
-/// The terms of a grant, as its row keeps them.
-pub fn stored_terms(alloc: Global, terms: &TermsNote) -> Result<KeptTerms, Mem>
-    ensures { IfOk result (λ kept. kept ≡ terms.now) }
+/// What the grant with this number is asked for from now on, as its row keeps it.
+pub fn requested_terms(alloc: Global, number: u64, request: &GrantRequest) -> Result<KeptTerms, Mem>
+    ensures { IfOk result (λ kept. kept ≡ record { grant = number; asks = request.now.asks; single = request.now.single; subject = request.now.subject }) }
 {
     Ok(KeptTerms {
-        grant: terms.grant,
-        asks: KeptAsks::keep(alloc, &terms.asks)?,
-        single: terms.single,
-        subject: terms.subject,
+        grant: number,
+        asks: KeptAsks::keep(alloc, &request.asks)?,
+        single: request.single,
+        subject: request.subject,
     })
 }

@@ -4,7 +4,6 @@ use Rattle.histories.proofs.TurnLemmas.{length-next}
 use Rattle.call_replay.specs.CallLines.{line_step}
 use Rattle.command_inputs.specs.Reading.{held_by}
 use Rattle.command_inputs.specs.declared.printed_text.After.TheVariants as after
-use Rattle.command_inputs.specs.declared.line_end.LineEnd.TheVariants as line_ends
 use Rattle.call_replay.specs.Replays.{first_call_line}
 use Rattle.call_replay.specs.Replaying.{AnswersLine, Turns}
 use Rattle.call_replay.proofs.CallLines.{kept_step}

@@ -34,8 +34,8 @@ returns-in-Denied-clause-ok c = λ next.
     (option_map (λ row. row.now) c.by_manage-token.result) c.in_ok-rotation.rotation _ c.requires.room.1.first_small c.as_slice-2.ensures.value
     c.as_slice.ensures.value c.by_manage-token.ensures c.in_ok-rotation.ensures c.in-Denied.is)
 
-pub returns-in_ok-row-in-Succeeded-clause-ok : goal.returns-in_ok-row-in-Succeeded-clause-ok
-returns-in_ok-row-in-Succeeded-clause-ok c = λ next.
+pub returns-in_ok-reserve-in-Succeeded-clause-ok : goal.returns-in_ok-reserve-in-Succeeded-clause-ok
+returns-in_ok-reserve-in-Succeeded-clause-ok c = λ next.
     rw (c.issue.ensures.rows, c.retire.ensures.rows, c.in_ok-reserve-in-Succeeded.ensures.rows, c.in_ok-row-in-Succeeded.ensures.ok)
     (rotation_done c.args.supply.now c.args.rules.now next c.args.key.now c.args.value.now c.as_slice-2.result.now c.as_slice.result.now c.args.new_key.now
     c.args.grants.now.rows c.args.tokens.now.rows

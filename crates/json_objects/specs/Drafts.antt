@@ -2,7 +2,7 @@
 use Rattle.std.specs.Prelude.{◌≡◌, IfOk}
 use Rattle.serde_json.specs.Data.{Members}
 use Rattle.serde_json.specs.View.{members_view}
-use Rattle.gnap_replies.specs.declared.drafts.Draft.{Draft}
+use Rattle.json_objects.specs.declared.drafts.Draft.{Draft}
 
 -- these are the members so far, if memory hasn't run out
 abbrev pub HasMembers : Draft → Members → Type 0

@@ -1,4 +1,4 @@
-use Rattle.gnap_replies.proofs.drafts.Draft.with.Goals as goal
+use Rattle.json_objects.proofs.drafts.Draft.with.Goals as goal
 
 pub returns : goal.returns
 returns c = λ ms d value has. c.with_optional.ensures ms _ (c.present.ensures d value) has

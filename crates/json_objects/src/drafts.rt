@@ -3,14 +3,14 @@ ghost use Rattle.std.specs.Prelude.{◌≡◌, IfOk, Some, Option, option_map};
 ghost use Rattle.serde_json.specs.Data.{Data, Members, no_members, no_items, item, boolean, number, unsigned, string, array, object};
 ghost use Rattle.serde_json.specs.View.{view, members_view};
 ghost use Rattle.json_objects.specs.Objects.{with_member};
-ghost use Rattle.gnap_replies.specs.Drafts.{HasMembers};
+ghost use Rattle.json_objects.specs.Drafts.{HasMembers};
 
+use crate::values::put;
 use bytes_and_lists::memory::Mem;
-use json_objects::put;
 use serde_json::{Map, Value};
 use std::alloc::Global;
 
-/// The members of an object so far, or that memory ran out.
+/// The members of an object so far, or that memory ran out. Members come in any order; the last one of a name counts.
 #[derive(Drop)]
 pub struct Draft {
     alloc: Global,
@@ -44,6 +44,7 @@ fn bool_value(value: bool) -> Value
 }
 
 impl Draft {
+    /// Without members.
     pub fn new(alloc: Global) -> Draft
         ensures { HasMembers result no_members }
     {
@@ -51,6 +52,13 @@ impl Draft {
             alloc,
             members: Ok(Map::new(alloc)),
         }
+    }
+
+    /// With these members to begin with, if there was memory for them.
+    pub fn over(alloc: Global, members: Result<Map<String, Value>, Mem>) -> Draft
+        ensures { (ms : Members) → IfOk members (λ m. members_view m.entries ≡ ms) → HasMembers result ms }
+    {
+        Draft { alloc, members }
     }
 
     /// With one more member, where there is a value for it.
@@ -72,12 +80,14 @@ impl Draft {
         self.with_optional(name, present(value))
     }
 
+    /// With one more member, a whole number.
     pub fn with_number(self, name: &str, value: u64) -> Draft
         ensures { (ms : Members) → HasMembers self ms → HasMembers result (with_member name.now (Some (number (unsigned value))) ms) }
     {
         self.with(name, Ok(Value::from(value)))
     }
 
+    /// With one more member, `true` or `false`.
     pub fn with_bool(self, name: &str, value: bool) -> Draft
         ensures { (ms : Members) → HasMembers self ms → HasMembers result (with_member name.now (Some (boolean value)) ms) }
     {
@@ -92,13 +102,14 @@ impl Draft {
     }
 }
 
+/// A JSON string of the word.
 pub fn word_value(alloc: Global, word: &str) -> Result<Value, Mem>
     ensures { IfOk result (λ v. view v ≡ string word.now) }
 {
     Ok(Value::try_from_str(alloc, word)?)
 }
 
-/// The array of this item alone.
+/// The JSON array of this item alone.
 pub fn lone_value(alloc: Global, value: Value) -> Result<Value, Mem>
     ensures { IfOk result (λ v. view v ≡ array (item (view value) no_items)) }
 {

@@ -1,0 +1,6 @@
+use Rattle.gnap_client.proofs.calls.reference_value.Goals as goal
+
+pub returns : goal.returns
+returns c =
+    c.value.ensures _
+    (c.with.ensures _ _ c.text_value.ensures c.new.ensures)
