@@ -1,5 +1,5 @@
 #!/usr/bin/env python3
-"""Lists the functions of the program whose checks are dear, with no proof, in some five minutes.
+"""Lists the functions of the program whose checks are dear, with no proof, in two to five minutes.
 
 usage: scripts/dear_functions.py [NUMBER]    how many are listed; 40, if left out
 
