@@ -3,8 +3,8 @@ use Rattle.std.proofs.Common.{◌≡◌, ◌∙◌, ◌⊎◌, inl, inr, ⊎_eli
 use Rattle.std.proofs.lemmas.List.{append-nil, length-map, map-append, nil_from_length}
 use mathlib.Core.Option.{some, some-injective, some-ne-none}
 use lib.ListN.{get_elem?}
-use Rattle.gnap_io.specs.Outside.{Served}
-use Rattle.gnap_io.specs.Gears.{Log, GearState}
+use Rattle.outside.specs.Outside.{Served}
+use Rattle.outside.specs.Gears.{Log, GearState}
 use Rattle.histories.specs.declared.entry.Entry.{Entry}
 use Rattle.serving.specs.Logs.{IsAccount}
 use Rattle.histories.specs.Turns.{Turn}

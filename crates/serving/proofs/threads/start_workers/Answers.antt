@@ -2,7 +2,7 @@ use Rattle.std.proofs.Common.{◌≡◌, ◌∙◌, ◌≤◌, [], ◌++◌, len
 use Rattle.std.specs.Vec.Iter.{into_iter_items, into_iter_len}
 use Rattle.std.proofs.lemmas.List.{nil_from_length}
 use Rattle.std.proofs.lemmas.List.Elements.{All-same, All-head, All-rest}
-use Rattle.gnap_io.specs.Gears.{IsUnused}
+use Rattle.outside.specs.Gears.{IsUnused}
 use Rattle.serving.specs.Workers.{ArePlaced}
 use Rattle.serving.proofs.Starting.{next_at, parts-next, size-next, none_missing, made-next, made-all, each-next}
 use Rattle.serving.proofs.threads.start_workers.Goals as goal
