@@ -5,7 +5,7 @@ use bytes_and_lists::bytes::Bytes;
 use thiserror::Error;
 
 /// Why no reply came.
-#[derive(Clone, Copy, Debug, PartialEq, Eq, Error)]
+#[derive(Clone, Copy, Debug, Error)]
 pub enum LinkFault {
     /// The link failed: its count of faults rose.
     #[error("the link failed")]
