@@ -1,6 +1,7 @@
 -- Workers that are made one after another, and taken apart again.
-use Rattle.std.proofs.Common.{◌≡◌, ◌∙◌, ◌⊎◌, inl, inr, ⊎_elim, ℕ, zero, suc, ◌+◌, List, [], ◌∷◌, ◌++◌, map, length, refl, ap, sym, subst, arith, length-append, append_assoc}
-use Rattle.std.proofs.lemmas.List.{append-nil, length-map, map-append, nil_from_length}
+use Rattle.std.proofs.Common.{◌≡◌, ◌∙◌, ◌⊎◌, inl, inr, ⊎_elim, ℕ, zero, suc, ◌+◌, ◌<◌, List, [], ◌∷◌, ◌++◌, map, length, slice_index_or, refl, ap, sym, subst, arith, length-append, append_assoc}
+use Rattle.std.specs.List.{remove}
+use Rattle.std.proofs.lemmas.List.{map-append}
 use mathlib.Core.Option.{some, some-injective, some-ne-none}
 use lib.ListN.{get_elem?}
 use Rattle.gnap_io.specs.Outside.{Served}
@@ -31,6 +32,11 @@ module _ {X : Type 0} where
       (λ (p : (k ≡ length xs) × (x ≡ y)). subst (P k) p.1 (subst (λ j. P j x) (sym p.0) next))
       (at_end xs x y k e)
 
+  -- the first of a list, and what is left of it
+  pub first-taken : (xs ys : List X) (x : X) → 0 < length xs → x ≡ slice_index_or xs 0 x → ys ≡ remove xs 0 → xs ≡ x ∷ ys
+  first-taken [] ys x more is left = absurd (omega (arith, more))
+  first-taken (z ∷ xs) ys x more is left = ap (λ y. y ∷ xs) (sym is) ∙ ap (λ l. x ∷ l) (sym left)
+
   pub one-again : (xs : List X) (x : X) (ys : List X) → (xs ++ x ∷ []) ++ ys ≡ xs ++ x ∷ ys
   one-again xs x ys = append_assoc xs (x ∷ []) ys
 
@@ -44,20 +50,6 @@ module _ {X : Type 0} where
   pub size-next : (done : List X) (x : X) → length (done ++ x ∷ []) ≡ length done + 1
   size-next done x = length-append done (x ∷ [])
 
--- there is a gear for each pass
-pub none_missing : {W P G S : Type 0} (gear : W → S) (state : G → S) (workers : List W) (rest gears : List G) (done more passes : List P) (pass : P)
-    → map gear workers ++ map state rest ≡ map state gears → length workers ≡ length done → done ++ pass ∷ more ≡ passes → length gears ≡ length passes
-    → length rest ≡ 0 → ⊥
-none_missing gear state workers rest gears done more passes pass made same parts many none =
-    let a = ap length made in
-    let b = length-append (map gear workers) (map state rest) in
-    let c = length-map workers gear in
-    let d = length-map rest state in
-    let e = length-map gears state in
-    let f = ap length parts in
-    let h = length-append done (pass ∷ more) in
-    omega (arith, a, b, c, d, e, f, h, same, many, none)
-
 pub made-next : {W G S : Type 0} (gear : W → S) (state : G → S) (workers : List W) (worker : W) (rest rest_now : List G) (g : G) (gears : List S)
     → map gear workers ++ map state rest ≡ gears → rest ≡ g ∷ rest_now → gear worker ≡ state g
     → map gear (workers ++ worker ∷ []) ++ map state rest_now ≡ gears
@@ -66,17 +58,6 @@ made-next gear state workers worker rest rest_now g gears made next is =
     ∙ one-again (map gear workers) (gear worker) (map state rest_now)
     ∙ ap (λ s. map gear workers ++ s ∷ map state rest_now) is
     ∙ ap (λ l. map gear workers ++ map state l) (sym next) ∙ made
-
-pub made-all : {W G S : Type 0} (gear : W → S) (state : G → S) (workers : List W) (rest : List G) (gears : List G) (n : ℕ)
-    → map gear workers ++ map state rest ≡ map state gears → length workers ≡ n → length gears ≡ n → map gear workers ≡ map state gears
-made-all gear state workers rest gears n made long many =
-    let a = ap length made in
-    let b = length-append (map gear workers) (map state rest) in
-    let c = length-map workers gear in
-    let d = length-map rest state in
-    let e = length-map gears state in
-    let none : rest ≡ [] = nil_from_length rest (omega (arith, a, b, c, d, e, long, many)) in
-    sym (append-nil (map gear workers)) ∙ ap (λ l. map gear workers ++ map state l) (sym none) ∙ made
 
 -- one more account
 pub one-more-account : {Message Call Reply Note : Type 0} (account : Served → List (Turn Message (Entry Call Reply Note)) → Type 0) (gears : List GearState)

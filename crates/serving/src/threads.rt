@@ -39,30 +39,30 @@ where
     thread::for_each_mut(rt, workers, count, &|_, worker| worker.drain());
 }
 
-// A worker for each pass and its gear, in order.
+// A worker for each pass and its gear, in order. The rooms of both stay, for what the workers leave.
 fn start_workers<'a, C: Core, F: Front<M = C::M>, G: Gear, R: Wait>(
     rt: &'a R,
     alloc: Global,
     shared: &'a Shared<C>,
     front: &'a F,
-    passes: Vec<Pass<C>>,
-    gears: Vec<G>,
+    passes: &mut Vec<Pass<C>>,
+    gears: &mut Vec<G>,
     mut workers: Vec<Worker<'a, C, F, G, R>>,
 ) -> Vec<Worker<'a, C, F, G, R>>
     requires rules { shared.now.rules ≡ F.rules front.now }
-    requires passes { AreNew shared.now passes.items }
-    requires many { length gears.items ≡ length passes.items }
-    requires unused { All (λ gear. IsUnused (G.state gear)) gears.items }
-    requires within { All (λ gear. (G.state gear).left ≤ 4294967295) gears.items }
-    requires room { (vec_len workers ≡ 0) × (length passes.items ≤ vec_capacity workers) }
+    requires passes { AreNew shared.now passes.old.items }
+    requires many { length gears.old.items ≡ length passes.old.items }
+    requires unused { All (λ gear. IsUnused (G.state gear)) gears.old.items }
+    requires within { All (λ gear. (G.state gear).left ≤ 4294967295) gears.old.items }
+    requires room { (vec_len workers ≡ 0) × (length passes.old.items ≤ vec_capacity workers) }
     ensures workers { AreWorkers shared.now front.now result.items }
-    ensures gears { map (λ worker. worker.gear) result.items ≡ map G.state gears.items }
+    ensures gears { map (λ worker. worker.gear) result.items ≡ map G.state gears.old.items }
+    ensures room { (vec_len passes.new ≡ 0) × (vec_len gears.new ≡ 0)
+        × (length result.items ≤ vec_capacity passes.new) × (length result.items ≤ vec_capacity gears.new) }
 {
-    let mut rest = gears.into_iter();
-    for pass in passes {
-        let Some(gear) = rest.next() else {
-            unreachable!()
-        };
+    while gears.len() > 0 {
+        let pass = passes.remove(0);
+        let gear = gears.remove(0);
         workers.push_reserved(Worker::new(rt, alloc, shared, pass, gear, front));
     }
     workers
@@ -73,15 +73,16 @@ fn end_workers<'a, C: Core, F: Front<M = C::M>, G: Gear, R: Wait>(
     shared: &Shared<C>,
     front: &F,
     workers: Vec<Worker<'a, C, F, G, R>>,
-    mut passes: Vec<Pass<C>>,
-    mut gears: Vec<G>,
-) -> (Vec<Pass<C>>, Vec<G>)
+    passes: &mut Vec<Pass<C>>,
+    gears: &mut Vec<G>,
+)
     requires workers { AreWorkers shared.now front.now workers.items }
-    requires room { (vec_len passes ≡ 0) × (vec_len gears ≡ 0) × (length workers.items ≤ vec_capacity passes) × (length workers.items ≤ vec_capacity gears) }
-    ensures passes { AreAll shared.now result.0.items }
-    ensures gears { map G.state result.1.items ≡ map (λ worker. worker.gear) workers.entry.items }
-    ensures out { All (λ gear. (G.state gear).out ≡ 0) result.1.items }
-    ensures accounts { AllKeep 0 (accounts_of (F.session front.now) (map G.state result.1.items)) (map (λ pass. pass.seen) result.0.items) }
+    requires room { (vec_len passes.old ≡ 0) × (vec_len gears.old ≡ 0)
+        × (length workers.items ≤ vec_capacity passes.old) × (length workers.items ≤ vec_capacity gears.old) }
+    ensures passes { AreAll shared.now passes.new.items }
+    ensures gears { map G.state gears.new.items ≡ map (λ worker. worker.gear) workers.entry.items }
+    ensures out { All (λ gear. (G.state gear).out ≡ 0) gears.new.items }
+    ensures accounts { AllKeep 0 (accounts_of (F.session front.now) (map G.state gears.new.items)) (map (λ pass. pass.seen) passes.new.items) }
 {
     let _shared = shared;
     let _front = front;
@@ -90,7 +91,6 @@ fn end_workers<'a, C: Core, F: Front<M = C::M>, G: Gear, R: Wait>(
         passes.push_reserved(pass);
         gears.push_reserved(gear);
     }
-    (passes, gears)
 }
 
 // Takes all passes back. What was seen with them is joined by one legal history.
@@ -129,19 +129,16 @@ where
     ensures unserved { IsErr result.1 → result.0.items ≡ gears.items }
 {
     let n = gears.len();
-    let Ok((shared, passes)) = Shared::new(alloc, core, n) else {
+    let Ok((shared, mut passes)) = Shared::new(alloc, core, n) else {
         return (gears, Err(Mem));
     };
-    let (Ok(room), Ok(passes_back), Ok(gears_back)) = (
-        Vec::with_capacity(alloc, n),
-        Vec::with_capacity(alloc, n),
-        Vec::with_capacity(alloc, n),
-    ) else {
+    let Ok(room) = Vec::with_capacity(alloc, n) else {
         return (gears, Err(Mem));
     };
-    let mut workers = start_workers(rt, alloc, &shared, front, passes, gears, room);
+    let mut gears = gears;
+    let mut workers = start_workers(rt, alloc, &shared, front, &mut passes, &mut gears, room);
     serve_workers(rt, workers.as_mut_slice());
-    let (passes, gears) = end_workers(&shared, front, workers, passes_back, gears_back);
+    end_workers(&shared, front, workers, &mut passes, &mut gears);
     close_all(shared, passes);
     (gears, Ok(()))
 }

@@ -1,95 +1,145 @@
-use Rattle.std.proofs.Common.{◌≡◌, ◌∙◌, ◌≤◌, [], ◌++◌, length, vec_len, map, ap, sym, subst, arith, length-append}
-use Rattle.std.specs.Vec.Iter.{into_iter_items, into_iter_len}
-use Rattle.std.proofs.lemmas.List.{nil_from_length}
+use Rattle.std.proofs.Common.{◌≡◌, ◌∙◌, ◌≤◌, suc, [], ◌++◌, length, map, ap, sym, subst, arith}
+use lib.ListN.{get_elem?}
+use Rattle.std.proofs.lemmas.List.{nil_from_length, append-nil}
 use Rattle.std.proofs.lemmas.List.Elements.{All-same, All-head, All-rest}
 use Rattle.gnap_io.specs.Gears.{IsUnused}
 use Rattle.serving.specs.Workers.{ArePlaced}
-use Rattle.serving.proofs.Starting.{next_at, parts-next, size-next, none_missing, made-next, made-all, each-next}
+use Rattle.serving.proofs.Starting.{first-taken, size-next, made-next, each-next}
 use Rattle.serving.proofs.threads.start_workers.Goals as goal
 
-pub loop-pass-init : goal.loop-pass-init
-loop-pass-init g c =
+pub loop-alloc-init : goal.loop-alloc-init
+loop-alloc-init g c =
     let none : c.args.workers.items
     ≡ [] = nil_from_length c.args.workers.items (let long = c.args.workers.ok in let zero = c.requires.room.0 in omega (arith, long, zero)) in
-    let sized : length c.args.gears.items ≡ vec_len c.args.gears = (let long = c.args.gears.ok in omega (arith, long)) in
-    let passes_sized : length c.args.passes.items ≡ vec_len c.args.passes = (let long = c.args.passes.ok in omega (arith, long)) in
-    let passes = c.into_iter-pass-iterator.ensures.into_iter_gives.0 in (
-      tt,
-      tt,
-      passes,
-      ap (λ l. map (λ worker. worker.gear) l ++ map g.G.Counted.state (into_iter_items c.into_iter-rest.result)) none
-          ∙ ap (map g.G.Counted.state) c.into_iter-rest.ensures.rest,
-      ap length none,
-      (let a = ap length none in let b = ap length passes in let d = c.requires.room.1 in omega (arith, a, b, d)),
-      subst (ArePlaced c.args.shared.now c.args.front.now) (sym none) (λ k w e. absurd cc),
-      All-same (λ gear. IsUnused (g.G.Counted.state gear)) _ _ c.into_iter-rest.ensures.rest c.requires.unused,
-      All-same (λ gear. (g.G.Counted.state gear).left ≤ 4294967295) _ _ c.into_iter-rest.ensures.rest c.requires.within,
-      c.into_iter-rest.ensures.len ∙ sym (ap length c.into_iter-rest.ensures.rest ∙ sized),
-      c.into_iter-pass-iterator.ensures.into_iter_gives.1 ∙ sym (ap length passes ∙ passes_sized),
-    )
+    let size = ap length none in
+    let count = c.requires.passes.all.count in
+    record {
+      parts = ap (λ l. map (λ worker. worker.gear) l ++ map g.G.Counted.state c.args.gears.now.items) none;
+      many = c.requires.many;
+      count = omega (arith, size, count);
+      room = (let room = c.requires.room.1 in omega (arith, size, room));
+      placed = subst (ArePlaced c.args.shared.now c.args.front.now) (sym none) (λ k w e. absurd cc);
+      waiting = λ k p e.
+          let pass = c.requires.passes.all.each k p e in
+          (pass.0, pass.1 ∙ omega (arith, size), c.requires.passes.unseen k p e);
+      unused = c.requires.unused;
+      within = c.requires.within;
+      passes_room = (let ok = c.args.passes.now.ok in omega (arith, ok, count));
+      gears_room = (let ok = c.args.gears.now.ok in let many = c.requires.many in omega (arith, ok, many, count));
+    }
 
-pub unreachable-requires : goal.unreachable-requires
-unreachable-requires g c =
-    let i = c.loop-pass.invariant in
-    let none : into_iter_len c.loop-pass.rest ≡ 0 = (let some_left = c.in_default.ensures.variant in grind (arith, some_left)) in
-    none_missing (λ worker. worker.gear) g.G.Counted.state c.loop-pass.workers.items (into_iter_items c.loop-pass.rest) c.args.gears.items
-    c.loop-pass.yielded (into_iter_items c.next.new.self) c.args.passes.items c.in-Some.pass i.3 i.4
-    (ap (λ l. c.loop-pass.yielded ++ l) (sym c.in-Some.ensures.steps.0) ∙ i.2) c.requires.many (sym i.9 ∙ none)
+pub remove-pass-requires : goal.remove-pass-requires
+remove-pass-requires g c =
+    let some_left = c.loop-alloc-test.true in
+    let len = c.len.ensures in
+    let many = c.loop-alloc.invariant.many in
+    let gears = c.loop-alloc.gears.ok in
+    let passes = c.loop-alloc.passes.ok in
+    omega (arith, some_left, len, many, gears, passes)
 
 pub new-requires-clause-of : goal.new-requires-clause-of
-new-requires-clause-of g c κs within = (c.requires.passes.all.each (length c.loop-pass.yielded) c.in-Some.pass
-    (next_at c.loop-pass.yielded _ _ _ c.in-Some.pass c.loop-pass.invariant.2 c.in-Some.ensures.steps.0)).0
+new-requires-clause-of g c κs within =
+    let passes = first-taken c.loop-alloc.passes.items c.remove-pass.new.self.items c.remove-pass.result
+    (let len = c.remove-pass.ensures.len in let ok = c.loop-alloc.passes.ok in omega (arith, len, ok))
+    c.remove-pass.ensures.value c.remove-pass.ensures.items in
+    (c.loop-alloc.invariant.waiting 0 c.remove-pass.result (ap (λ l. get_elem? l 0) passes)).0
 
 pub new-requires-clause-unseen : goal.new-requires-clause-unseen
-new-requires-clause-unseen g c κs within = c.requires.passes.unseen (length c.loop-pass.yielded) c.in-Some.pass
-    (next_at c.loop-pass.yielded _ _ _ c.in-Some.pass c.loop-pass.invariant.2 c.in-Some.ensures.steps.0)
+new-requires-clause-unseen g c κs within =
+    let passes = first-taken c.loop-alloc.passes.items c.remove-pass.new.self.items c.remove-pass.result
+    (let len = c.remove-pass.ensures.len in let ok = c.loop-alloc.passes.ok in omega (arith, len, ok))
+    c.remove-pass.ensures.value c.remove-pass.ensures.items in
+    (c.loop-alloc.invariant.waiting 0 c.remove-pass.result (ap (λ l. get_elem? l 0) passes)).2
 
 pub new-requires-clause-unused : goal.new-requires-clause-unused
 new-requires-clause-unused g c κs within =
-    All-head (λ gear. IsUnused (g.G.Counted.state gear)) c.in-Some-next.gear (into_iter_items c.next-in-loop-pass.new.self)
-    (All-same (λ gear. IsUnused (g.G.Counted.state gear)) _ _ (sym c.in-Some-next.ensures.items) c.loop-pass.invariant.7)
+    let gears = first-taken c.loop-alloc.gears.items c.remove-gear.new.self.items c.remove-gear.result
+    (let len = c.remove-gear.ensures.len in let ok = c.loop-alloc.gears.ok in omega (arith, len, ok))
+    c.remove-gear.ensures.value c.remove-gear.ensures.items in
+    All-head (λ gear. IsUnused (g.G.Counted.state gear)) c.remove-gear.result c.remove-gear.new.self.items
+    (All-same (λ gear. IsUnused (g.G.Counted.state gear)) _ _ (sym gears) c.loop-alloc.invariant.unused)
 
 pub new-requires-clause-room : goal.new-requires-clause-room
 new-requires-clause-room g c κs within =
-    let left = All-head (λ gear. (g.G.Counted.state gear).left ≤ 4294967295) c.in-Some-next.gear (into_iter_items c.next-in-loop-pass.new.self)
-    (All-same (λ gear. (g.G.Counted.state gear).left ≤ 4294967295) _ _ (sym c.in-Some-next.ensures.items) c.loop-pass.invariant.8) in
+    let gears = first-taken c.loop-alloc.gears.items c.remove-gear.new.self.items c.remove-gear.result
+    (let len = c.remove-gear.ensures.len in let ok = c.loop-alloc.gears.ok in omega (arith, len, ok))
+    c.remove-gear.ensures.value c.remove-gear.ensures.items in
+    let left = All-head (λ gear. (g.G.Counted.state gear).left ≤ 4294967295) c.remove-gear.result c.remove-gear.new.self.items
+    (All-same (λ gear. (g.G.Counted.state gear).left ≤ 4294967295) _ _ (sym gears) c.loop-alloc.invariant.within) in
     omega (arith, left)
 
-pub loop-pass-preserved : goal.loop-pass-preserved
-loop-pass-preserved g c =
-    let i = c.loop-pass.invariant in
+pub loop-alloc-preserved : goal.loop-alloc-preserved
+loop-alloc-preserved g c =
+    let i = c.loop-alloc.invariant in
+    let passes = first-taken c.loop-alloc.passes.items c.remove-pass.new.self.items c.remove-pass.result
+    (let len = c.remove-pass.ensures.len in let ok = c.loop-alloc.passes.ok in omega (arith, len, ok))
+    c.remove-pass.ensures.value c.remove-pass.ensures.items in
+    let gears = first-taken c.loop-alloc.gears.items c.remove-gear.new.self.items c.remove-gear.result
+    (let len = c.remove-gear.ensures.len in let ok = c.loop-alloc.gears.ok in omega (arith, len, ok))
+    c.remove-gear.ensures.value c.remove-gear.ensures.items in
     let pushed = c.push_reserved.ensures.items in
-    let size = size-next c.loop-pass.workers.items c.new.result in
-    let done = size-next c.loop-pass.yielded c.in-Some.pass in
-    let at = next_at c.loop-pass.yielded _ _ _ c.in-Some.pass i.2 c.in-Some.ensures.steps.0 in (
-      tt,
-      tt,
-      parts-next c.loop-pass.yielded _ _ _ c.in-Some.pass i.2 c.in-Some.ensures.steps.0,
-      ap (λ l. map (λ worker. worker.gear) l ++ map g.G.Counted.state (into_iter_items c.next-in-loop-pass.new.self)) pushed
-          ∙ made-next (λ worker. worker.gear) g.G.Counted.state c.loop-pass.workers.items c.new.result _ _ c.in-Some-next.gear _ i.3
-          c.in-Some-next.ensures.items (ap (λ w. w.gear) c.new.ensures),
-      (let a = ap length pushed in let b = i.4 in omega (arith, a, b, size, done)),
-      (let a = ap length pushed in let b = i.5 in let d = ap length c.in-Some.ensures.steps.0 in let e = c.push_reserved.ensures.capacity in omega
-          (arith, a, b, d, e, size)),
-      subst (ArePlaced c.args.shared.now c.args.front.now) (sym pushed)
-          (each-next (λ k w. (w.station.home ≡ c.args.shared.now) × (w.station.number ≡ k) × (w.front ≡ c.args.front.now)) c.loop-pass.workers.items
-          c.new.result i.6 (
+    let longer = ap length pushed in
+    let size = size-next c.loop-alloc.workers.items c.new.result in
+    let fewer_passes = ap length passes in
+    let fewer_gears = ap length gears in
+    let first = i.waiting 0 c.remove-pass.result (ap (λ l. get_elem? l 0) passes) in
+    record {
+      parts = ap (λ l. map (λ worker. worker.gear) l ++ map g.G.Counted.state c.remove-gear.new.self.items) pushed
+          ∙ made-next (λ worker. worker.gear) g.G.Counted.state c.loop-alloc.workers.items c.new.result _ _ c.remove-gear.result _ i.parts gears
+          (ap (λ w. w.gear) c.new.ensures);
+      many = (let many = i.many in omega (arith, many, fewer_passes, fewer_gears));
+      count = (let count = i.count in omega (arith, count, longer, size, fewer_passes));
+      room = (let room = i.room in let same = c.push_reserved.ensures.capacity in omega (arith, room, same, longer, size, fewer_passes));
+      placed = subst (ArePlaced c.args.shared.now c.args.front.now) (sym pushed)
+          (each-next (λ k w. (w.station.home ≡ c.args.shared.now) × (w.station.number ≡ k) × (w.front ≡ c.args.front.now)) c.loop-alloc.workers.items
+          c.new.result i.placed (
             ap (λ w. w.station.home) c.new.ensures,
-            ap (λ w. w.station.number) c.new.ensures ∙ (c.requires.passes.all.each (length c.loop-pass.yielded) c.in-Some.pass at).1 ∙ sym i.4,
+            ap (λ w. w.station.number) c.new.ensures ∙ first.1 ∙ omega arith,
             ap (λ w. w.front) c.new.ensures,
-          )),
-      All-rest (λ gear. IsUnused (g.G.Counted.state gear)) c.in-Some-next.gear _ _ c.in-Some-next.ensures.items i.7,
-      All-rest (λ gear. (g.G.Counted.state gear).left ≤ 4294967295) c.in-Some-next.gear _ _ c.in-Some-next.ensures.items i.8,
-      (let a = c.in-Some-next.ensures.len in let b = ap length c.in-Some-next.ensures.items in let d = i.9 in omega (arith, a, b, d)),
-      (let a = c.in-Some.ensures.steps.1 in let b = ap length c.in-Some.ensures.steps.0 in let d = i.10 in omega (arith, a, b, d)),
-    )
+          ));
+      waiting = λ k p e.
+          let pass = i.waiting (suc k) p (ap (λ l. get_elem? l (suc k)) passes ∙ e) in
+          (pass.0, pass.1 ∙ omega (arith, longer, size), pass.2);
+      unused = All-rest (λ gear. IsUnused (g.G.Counted.state gear)) c.remove-gear.result _ _ gears i.unused;
+      within = All-rest (λ gear. (g.G.Counted.state gear).left ≤ 4294967295) c.remove-gear.result _ _ gears i.within;
+      passes_room = (let room = i.passes_room in let same = c.remove-pass.ensures.capacity in omega (arith, room, same));
+      gears_room = (let room = i.gears_room in let same = c.remove-gear.ensures.capacity in omega (arith, room, same));
+    }
+
+pub returns-clause-workers : goal.returns-clause-workers
+returns-clause-workers g c =
+    let i = c.loop-alloc.invariant in
+    record {
+      count = (
+          let done = c.loop-alloc-test.false in
+          let len = c.len.ensures in
+          let gears = c.loop-alloc.gears.ok in
+          let many = i.many in
+          let count = i.count in
+          omega (arith, done, len, gears, many, count));
+      each = i.placed;
+    }
 
 pub returns-clause-gears : goal.returns-clause-gears
 returns-clause-gears g c =
-    let i = c.loop-pass.invariant in
-    let none = c.in-None.ensures.steps.0 in
-    let size = length-append c.loop-pass.yielded (into_iter_items c.loop-pass.pass-iterator) in
-    let whole = ap length i.2 in
-    let count = c.requires.passes.all.count in
-    made-all (λ worker. worker.gear) g.G.Counted.state c.loop-pass.workers.items (into_iter_items c.loop-pass.rest) c.args.gears.items c.args.shared.now.count
-    i.3 (let a = i.4 in let b = i.10 in omega (arith, none, size, whole, count, a, b)) (c.requires.many ∙ count)
+    let none : c.loop-alloc.gears.items ≡ [] = nil_from_length c.loop-alloc.gears.items
+    (let done = c.loop-alloc-test.false in let len = c.len.ensures in let ok = c.loop-alloc.gears.ok in omega (arith, done, len, ok)) in
+    sym (append-nil (map (λ worker. worker.gear) c.loop-alloc.workers.items))
+    ∙ ap (λ l. map (λ worker. worker.gear) c.loop-alloc.workers.items ++ map g.G.Counted.state l) (sym none) ∙ c.loop-alloc.invariant.parts
+
+pub returns-clause-room : goal.returns-clause-room
+returns-clause-room g c =
+    let i = c.loop-alloc.invariant in
+    let done = c.loop-alloc-test.false in
+    let len = c.len.ensures in
+    let gears = c.loop-alloc.gears.ok in
+    let passes = c.loop-alloc.passes.ok in
+    let many = i.many in
+    let count = i.count in
+    let passes_room = i.passes_room in
+    let gears_room = i.gears_room in (
+      omega (arith, done, len, gears, passes, many),
+      omega (arith, done, len),
+      omega (arith, count, passes_room),
+      omega (arith, count, gears_room),
+    )

@@ -1,19 +1,25 @@
-use Rattle.std.proofs.Common.{◌≡◌, ◌++◌, ◌+◌, ◌≤◌, All, map, length, vec_capacity}
-use Rattle.std.specs.Vec.Iter.{into_iter_items, into_iter_len}
+use Rattle.std.proofs.Common.{◌≡◌, ◌++◌, ◌+◌, ◌≤◌, ℕ, [], All, map, length, vec_len, vec_capacity}
+use mathlib.Core.Option.{some}
+use lib.ListN.{get_elem?}
 use Rattle.gnap_io.specs.Gears.{IsUnused}
+use Rattle.shared_server.specs.Passes.{IsPassOf}
 use Rattle.serving.specs.Workers.{ArePlaced}
 use Rattle.serving.proofs.threads.start_workers.Given as goal
 
-abbrev pub invariant-loop-pass : goal.invariant-loop-pass
-invariant-loop-pass g l =
-    (goal.iterator-loop-pass g).can_next l.pass-iterator
-    × (goal.iterator-loop-pass g).is_finite l.pass-iterator
-    × (l.yielded ++ into_iter_items l.pass-iterator ≡ l.fn.passes.items)
-    × (map (λ worker. worker.gear) l.workers.items ++ map g.G.Counted.state (into_iter_items l.rest) ≡ map g.G.Counted.state l.fn.gears.items)
-    × (length l.workers.items ≡ length l.yielded)
-    × (length l.workers.items + length (into_iter_items l.pass-iterator) ≤ vec_capacity l.workers)
-    × ArePlaced l.shared l.front l.workers.items
-    × All (λ gear. IsUnused (g.G.Counted.state gear)) (into_iter_items l.rest)
-    × All (λ gear. (g.G.Counted.state gear).left ≤ 4294967295) (into_iter_items l.rest)
-    × (into_iter_len l.rest ≡ length (into_iter_items l.rest))
-    × (into_iter_len l.pass-iterator ≡ length (into_iter_items l.pass-iterator))
+abbrev pub invariant-loop-alloc : goal.invariant-loop-alloc
+invariant-loop-alloc g l = record {
+  parts : map (λ worker. worker.gear) l.workers.items ++ map g.G.Counted.state l.gears.items ≡ map g.G.Counted.state l.fn.gears.items;
+  many : length l.gears.items ≡ length l.passes.items;
+  count : length l.workers.items + length l.passes.items ≡ l.shared.count;
+  room : length l.workers.items + length l.passes.items ≤ vec_capacity l.workers;
+  placed : ArePlaced l.shared l.front l.workers.items;
+  waiting : (k : ℕ) (p : _) → get_elem? l.passes.items k ≡ some p
+      → IsPassOf l.shared p × (p.number ≡ length l.workers.items + k) × (p.seen ≡ []);
+  unused : All (λ gear. IsUnused (g.G.Counted.state gear)) l.gears.items;
+  within : All (λ gear. (g.G.Counted.state gear).left ≤ 4294967295) l.gears.items;
+  passes_room : l.shared.count ≤ vec_capacity l.passes;
+  gears_room : l.shared.count ≤ vec_capacity l.gears;
+}
+
+abbrev pub decreases-loop-alloc : goal.decreases-loop-alloc
+decreases-loop-alloc g l = vec_len l.gears
