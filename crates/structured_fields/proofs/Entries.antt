@@ -1,5 +1,5 @@
 -- Entries under names: what is set, what stands at a name, and that names stay distinct.
-use Rattle.std.proofs.Common.{◌≡◌, ℕ, zero, suc, ◌+◌, Bool, true, false, cond, List, [], ◌∷◌, ◌++◌, take, fold, slice_get, Some, None, refl, sym, ap, subst, ◌∙◌, arith, append_assoc, true≢false}
+use Rattle.std.proofs.Common.{◌≡◌, ℕ, zero, suc, Bool, true, false, cond, List, [], ◌∷◌, ◌++◌, fold, slice_get, Some, None, refl, sym, ap, subst, ◌∙◌, append_assoc, true≢false}
 use Rattle.std.specs.Str.{bytes_eq}
 use Rattle.std.specs.List.{AllByRecursion}
 use Rattle.std.proofs.lemmas.List.{append-nil}
@@ -55,15 +55,6 @@ module _ {V : Type 0} where
       by true t h again i n v e = absurd cc
       by false t h again zero n v e = let same : x ≡ (n, v) = cc in subst (λ (y : List ℕ × V). bytes_eq m y.0 ≡ false) same t
       by false t h again (suc i) n v e = again h i n v e
-
-  -- the next entry goes last
-  pub set_next : (es : List (List ℕ × V)) (i : ℕ) (n : List ℕ) (v : V) → IsDistinct es → slice_get es i ≡ Some (n, v)
-      → with_value (take i es) n v ≡ take (i + 1) es
-  set_next [] i n v d e = absurd cc
-  set_next (x ∷ es) zero n v d e = let same : x ≡ (n, v) = cc in ap (λ (y : List ℕ × V). y ∷ []) (sym same)
-  set_next (x ∷ es) (suc i) n v d e =
-      let k : suc i + 1 ≡ suc (i + 1) = omega arith in
-      rw (k, turned x.0 n (apart_at es x.0 d.0 i n v e)) (ap (λ (r : List (List ℕ × V)). x ∷ r) (set_next es i n v d.1 e))
 
   apart_if : (qs : List (List ℕ × V)) (n : List ℕ) (v : V) (ps : List (List ℕ × V)) (m : List ℕ) → value_at (qs ++ (n, v) ∷ ps) m ≡ None → bytes_eq m n ≡ false
   apart_if [] n v ps m e = by (bytes_eq m n) refl e

@@ -3,7 +3,6 @@ ghost use Rattle.std.specs.Prelude.{◌≡◌};
 ghost use Rattle.structured_fields.specs.Strings.{is_any_string, is_string};
 
 use bytes_and_lists::bytes::Bytes;
-use bytes_and_lists::memory::{Duplicate, Mem};
 
 /// A bare item (RFC 9651, section 3.3).
 #[derive(Drop)]
@@ -23,21 +22,6 @@ pub enum Bare {
     Date(i64),
     /// A display string: UTF-8, without its escapes.
     Display(Bytes),
-}
-
-impl Duplicate for Bare {
-    fn copy(&self) -> Result<Bare, Mem> {
-        match self {
-            Bare::Integer(n) => Ok(Bare::Integer(*n)),
-            Bare::Decimal(n) => Ok(Bare::Decimal(*n)),
-            Bare::Str(text) => Ok(Bare::Str(text.copy()?)),
-            Bare::Token(text) => Ok(Bare::Token(text.copy()?)),
-            Bare::Binary(bytes) => Ok(Bare::Binary(bytes.copy()?)),
-            Bare::Boolean(flag) => Ok(Bare::Boolean(*flag)),
-            Bare::Date(seconds) => Ok(Bare::Date(*seconds)),
-            Bare::Display(text) => Ok(Bare::Display(text.copy()?)),
-        }
-    }
 }
 
 /// Whether a bare item is a String.

@@ -8,8 +8,8 @@ use crate::bare::Bare;
 use crate::display_reading::display_of;
 use crate::fault::FieldFault;
 use crate::letters::{
-    colon_run, digits_in, is_key_start, is_quoted, is_string_byte, is_token_start, key_run,
-    plain_run, token_run,
+    Class, digits_in, is_key_start, is_quoted, is_string_byte, is_token_start, key_run, plain_run,
+    run, token_run,
 };
 use base64::DecodeAllocError;
 use base64::engine::general_purpose::{STANDARD, STANDARD_NO_PAD};
@@ -143,7 +143,7 @@ fn decode(alloc: Global, text: &[u8]) -> Result<Bytes, FieldFault>
 fn binary_of(alloc: Global, bytes: &[u8]) -> Result<(Bare, &[u8]), FieldFault>
     ensures { Gives (λ x. (x.0, x.1.now)) result (binary_rest bytes.now) }
 {
-    let (text, rest) = bytes.split_at(colon_run(bytes));
+    let (text, rest) = bytes.split_at(run(Class::NotColon, bytes));
     match rest {
         [b':', after @ ..] => Ok((Bare::Binary(decode(alloc, text)?), after)),
         _ => Err(FieldFault::NotInGrammar),

@@ -6,7 +6,7 @@ ghost use Rattle.structured_fields.specs.Reading.{Gives, hex_value, byte_of, dis
 
 use crate::bare::Bare;
 use crate::fault::FieldFault;
-use crate::letters::{is_shown, not_quote_run, strip};
+use crate::letters::{Class, is_shown, run, strip};
 use bytes_and_lists::bytes::Bytes;
 use std::alloc::Global;
 
@@ -101,7 +101,7 @@ pub(crate) fn display_of(alloc: Global, bytes: &[u8]) -> Result<(Bare, &[u8]), F
     let Some(body) = strip(b'"', bytes) else {
         return Err(FieldFault::NotInGrammar);
     };
-    let (text, rest) = body.split_at(not_quote_run(body));
+    let (text, rest) = body.split_at(run(Class::NotQuote, body));
     let Some(after) = strip(b'"', rest) else {
         return Err(FieldFault::NotInGrammar);
     };

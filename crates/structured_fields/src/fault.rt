@@ -6,7 +6,7 @@ use bytes_and_lists::memory::Mem;
 use thiserror::Error;
 
 /// Why a text is not read, or a value not written.
-#[derive(Clone, Copy, Debug, PartialEq, Eq, Error)]
+#[derive(Clone, Copy, Debug, Error)]
 pub enum FieldFault {
     #[error("not in the grammar")]
     NotInGrammar,

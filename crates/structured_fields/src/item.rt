@@ -1,7 +1,6 @@
 //! Items, inner lists, members, and the collections of them.
 use crate::bare::Bare;
 use crate::named::Named;
-use bytes_and_lists::memory::{Duplicate, Mem};
 use bytes_and_lists::seq::Seq;
 
 /// Parameters: bare items under distinct keys, in order (RFC 9651, section 3.1.2).
@@ -35,31 +34,4 @@ pub struct InnerList {
 pub enum Member {
     Item(Item),
     Inner(InnerList),
-}
-
-impl Duplicate for Item {
-    fn copy(&self) -> Result<Item, Mem> {
-        Ok(Item {
-            bare: self.bare.copy()?,
-            params: self.params.copy()?,
-        })
-    }
-}
-
-impl Duplicate for InnerList {
-    fn copy(&self) -> Result<InnerList, Mem> {
-        Ok(InnerList {
-            items: self.items.copy()?,
-            params: self.params.copy()?,
-        })
-    }
-}
-
-impl Duplicate for Member {
-    fn copy(&self) -> Result<Member, Mem> {
-        match self {
-            Member::Item(item) => Ok(Member::Item(item.copy()?)),
-            Member::Inner(list) => Ok(Member::Inner(list.copy()?)),
-        }
-    }
 }

@@ -1,8 +1,28 @@
 //! The classes of bytes, and how far they run at the front of a text.
-ghost use Rattle.std.specs.Prelude.{◌≡◌, ◌<◌, ◌≤◌, ℕ, Bool, true, false, length, take, drop, reverse, MatchOption};
+ghost use Rattle.std.specs.Prelude.{◌≡◌, ◌≤◌, true, false, length, drop, reverse, MatchOption};
 ghost use Rattle.std.specs.List.{prefix_len, list_all};
-ghost use Rattle.structured_fields.specs.Letters.{is_space, is_ows, is_digit, is_key_start, is_key_byte, is_token_start, is_token_byte, is_string_byte, is_quoted, is_unquoted, is_plain, is_shown};
-ghost use Rattle.structured_fields.specs.Reading.{front, behind, begins, is_not_colon, is_not_quote, trimmed};
+ghost use Rattle.structured_fields.specs.Classes.{is_of};
+ghost use Rattle.structured_fields.specs.Letters.{is_space, is_ows, is_digit, is_key_start, is_key_byte, is_token_start, is_token_byte, is_string_byte, is_quoted, is_plain, is_shown};
+ghost use Rattle.structured_fields.specs.Reading.{front, behind, begins, trimmed};
+
+/// A class of bytes that stand one after another.
+#[derive(Clone, Copy)]
+pub(crate) enum Class {
+    /// What a key goes on with.
+    Key,
+    /// What a token goes on with.
+    Token,
+    /// What stands for itself between the quotes of a string.
+    Plain,
+    /// What needs no backslash before it there.
+    Unquoted,
+    NotColon,
+    NotQuote,
+    Digit,
+    Space,
+    /// SP and HTAB.
+    Ows,
+}
 
 pub fn is_key_start(c: u8) -> bool
     ensures { result ≡ is_key_start c }
@@ -44,48 +64,11 @@ pub fn is_quoted(c: u8) -> bool
     c == b'"' || c == b'\\'
 }
 
-// It stands for itself between the quotes of a string.
-fn is_plain(c: u8) -> bool
-    ensures { result ≡ is_plain c }
-{
-    is_string_byte(c) && !is_quoted(c)
-}
-
 // It stands for itself in a display string.
 pub(crate) fn is_shown(c: u8) -> bool
     ensures { result ≡ is_shown c }
 {
     is_string_byte(c) && c != b'"' && c != b'%'
-}
-
-fn is_unquoted(c: u8) -> bool
-    ensures { result ≡ is_unquoted c }
-{
-    !is_quoted(c)
-}
-
-fn is_not_colon(c: u8) -> bool
-    ensures { result ≡ is_not_colon c }
-{
-    c != b':'
-}
-
-fn is_not_quote(c: u8) -> bool
-    ensures { result ≡ is_not_quote c }
-{
-    c != b'"'
-}
-
-fn is_digit(c: u8) -> bool
-    ensures { result ≡ is_digit c }
-{
-    c.is_ascii_digit()
-}
-
-fn is_space(c: u8) -> bool
-    ensures { result ≡ is_space c }
-{
-    c == b' '
 }
 
 fn is_ows(c: u8) -> bool
@@ -94,67 +77,54 @@ fn is_ows(c: u8) -> bool
     c == b' ' || c == b'\t'
 }
 
+fn is_of(class: Class, c: u8) -> bool
+    ensures { result ≡ is_of class c }
+{
+    match class {
+        Class::Key => is_key_byte(c),
+        Class::Token => is_token_byte(c),
+        Class::Plain => is_string_byte(c) && !is_quoted(c),
+        Class::Unquoted => !is_quoted(c),
+        Class::NotColon => c != b':',
+        Class::NotQuote => c != b'"',
+        Class::Digit => c.is_ascii_digit(),
+        Class::Space => c == b' ',
+        Class::Ows => is_ows(c),
+    }
+}
+
 // How far the bytes at the front are of a class.
-fn run<F: Fn(u8) -> bool>(is_of_class: F, bytes: &[u8]) -> usize
-    requires { F.IsAlwaysCallable is_of_class }
-    ensures len { (test : ℕ → Bool) → ((c : ℕ) (b : Bool) → c < 256 → F.post is_of_class c b → b ≡ test c) → result ≡ prefix_len test bytes.now }
+pub(crate) fn run(class: Class, bytes: &[u8]) -> usize
+    ensures len { result ≡ prefix_len (is_of class) bytes.now }
     ensures within { result ≤ length bytes.now }
 {
     for (i, c) in bytes.iter().enumerate() {
-        if !is_of_class(*c) {
+        if !is_of(class, *c) {
             return i;
         }
     }
     bytes.len()
 }
 
-pub(crate) fn unquoted_run(bytes: &[u8]) -> usize
-    ensures len { result ≡ prefix_len is_unquoted bytes.now }
-    ensures within { result ≤ length bytes.now }
-{
-    run(is_unquoted, bytes)
-}
-
 pub fn plain_run(bytes: &[u8]) -> usize
     ensures len { result ≡ prefix_len is_plain bytes.now }
     ensures within { result ≤ length bytes.now }
 {
-    run(is_plain, bytes)
+    run(Class::Plain, bytes)
 }
 
 pub fn key_run(bytes: &[u8]) -> usize
     ensures len { result ≡ prefix_len is_key_byte bytes.now }
     ensures within { result ≤ length bytes.now }
 {
-    run(is_key_byte, bytes)
+    run(Class::Key, bytes)
 }
 
 pub fn token_run(bytes: &[u8]) -> usize
     ensures len { result ≡ prefix_len is_token_byte bytes.now }
     ensures within { result ≤ length bytes.now }
 {
-    run(is_token_byte, bytes)
-}
-
-pub(crate) fn colon_run(bytes: &[u8]) -> usize
-    ensures len { result ≡ prefix_len is_not_colon bytes.now }
-    ensures within { result ≤ length bytes.now }
-{
-    run(is_not_colon, bytes)
-}
-
-pub(crate) fn not_quote_run(bytes: &[u8]) -> usize
-    ensures len { result ≡ prefix_len is_not_quote bytes.now }
-    ensures within { result ≤ length bytes.now }
-{
-    run(is_not_quote, bytes)
-}
-
-fn digit_run(bytes: &[u8]) -> usize
-    ensures len { result ≡ prefix_len is_digit bytes.now }
-    ensures within { result ≤ length bytes.now }
-{
-    run(is_digit, bytes)
+    run(Class::Token, bytes)
 }
 
 // The digits at the front, and the rest.
@@ -165,34 +135,20 @@ pub(crate) fn digits_in(bytes: &[u8]) -> (&[u8], &[u8])
     ensures digits { list_all is_digit result.0.now ≡ true }
     ensures len { length result.0.now ≡ prefix_len is_digit bytes.now }
 {
-    bytes.split_at(digit_run(bytes))
-}
-
-fn space_run(bytes: &[u8]) -> usize
-    ensures len { result ≡ prefix_len is_space bytes.now }
-    ensures within { result ≤ length bytes.now }
-{
-    run(is_space, bytes)
+    bytes.split_at(run(Class::Digit, bytes))
 }
 
 pub fn without_spaces(bytes: &[u8]) -> &[u8]
     ensures { result.now ≡ behind is_space bytes.now }
 {
-    let (_, rest) = bytes.split_at(space_run(bytes));
+    let (_, rest) = bytes.split_at(run(Class::Space, bytes));
     rest
-}
-
-fn ows_run(bytes: &[u8]) -> usize
-    ensures len { result ≡ prefix_len is_ows bytes.now }
-    ensures within { result ≤ length bytes.now }
-{
-    run(is_ows, bytes)
 }
 
 pub(crate) fn without_ows(bytes: &[u8]) -> &[u8]
     ensures { result.now ≡ behind is_ows bytes.now }
 {
-    let (_, rest) = bytes.split_at(ows_run(bytes));
+    let (_, rest) = bytes.split_at(run(Class::Ows, bytes));
     rest
 }
 

@@ -6,7 +6,7 @@ ghost use Rattle.structured_fields.specs.NameNotes.{noted, Extends};
 
 use crate::name_notes::{Notes, note, noted};
 use bytes_and_lists::bytes::Bytes;
-use bytes_and_lists::memory::{Duplicate, Mem};
+use bytes_and_lists::memory::Mem;
 use std::alloc::Global;
 use std::marker::Model;
 
@@ -192,16 +192,5 @@ impl<V: Drop> Named<V> {
             }
             None => self.add(name, value),
         }
-    }
-}
-
-impl<V: Duplicate> Duplicate for Named<V> {
-    fn copy(&self) -> Result<Named<V>, Mem> {
-        let mut out = Named::new(*self.entries.allocator());
-        for i in 0..self.len() {
-            let (name, value) = self.at(i);
-            out.set(name.copy()?, value.copy()?)?;
-        }
-        Ok(out)
     }
 }

@@ -8,7 +8,7 @@ ghost use Rattle.structured_fields.specs.Canonical.{part_text, shown, integer_te
 
 use crate::bare::Bare;
 use crate::item::{Dictionary, InnerList, Item, Items, List, Member, Params};
-use crate::letters::{is_shown, unquoted_run};
+use crate::letters::{Class, is_shown, run};
 use base64::engine::general_purpose::STANDARD;
 use bytes_and_lists::bytes::Bytes;
 use bytes_and_lists::memory::Mem;
@@ -73,7 +73,7 @@ fn put_each_escaped(out: &mut Bytes, s: &[u8]) -> Result<(), Mem>
 fn put_escaped(out: &mut Bytes, s: &[u8]) -> Result<(), Mem>
     ensures { OnOk result (out.new ≡ out.old ++ flat_map in_string s.now) }
 {
-    let (plain, rest) = s.split_at(unquoted_run(s));
+    let (plain, rest) = s.split_at(run(Class::Unquoted, s));
     out.extend(plain)?;
     put_each_escaped(out, rest)
 }

@@ -1,17 +1,15 @@
-use Rattle.std.proofs.Common.{sym, ◌∙◌, get_or, arith}
+use Rattle.std.proofs.Common.{sym, ◌∙◌}
+use Rattle.structured_fields.specs.Classes.{is_of}
 use Rattle.structured_fields.proofs.Runs.{run_further, run_stops, run_spent}
 use Rattle.structured_fields.proofs.letters.run.Goals as goal
 
 pub loop-i-preserved : goal.loop-i-preserved
-loop-i-preserved g c test agrees = run_further test c.args.bytes.now c.loop-i.i (c.loop-i.invariant test agrees) c.loop-i-test.true
-    (sym (agrees (get_or c.args.bytes.now c.loop-i.i 0) c.is_of_class.result (omega (arith, c.type_inv.bytes c.loop-i.i)) c.is_of_class.ensures)
-    ∙ c.if-not-is_of_class.false)
+loop-i-preserved c = run_further (is_of c.args.class) c.args.bytes.now c.loop-i.i c.loop-i.invariant c.loop-i-test.true
+    (sym c.is_of.ensures ∙ c.if-not-is_of.false)
 
-pub returns-then-not-is_of_class-clause-len : goal.returns-then-not-is_of_class-clause-len
-returns-then-not-is_of_class-clause-len g c test agrees = run_stops test c.args.bytes.now c.loop-i.i (c.loop-i.invariant test agrees) c.loop-i-test.true
-    (sym (agrees (get_or c.args.bytes.now c.loop-i.i 0) c.is_of_class.result (omega (arith, c.type_inv.bytes c.loop-i.i)) c.is_of_class.ensures)
-    ∙ c.if-not-is_of_class.true)
+pub returns-then-not-is_of-clause-len : goal.returns-then-not-is_of-clause-len
+returns-then-not-is_of-clause-len c = run_stops (is_of c.args.class) c.args.bytes.now c.loop-i.i c.loop-i.invariant c.loop-i-test.true
+    (sym c.is_of.ensures ∙ c.if-not-is_of.true)
 
 pub returns-clause-len : goal.returns-clause-len
-returns-clause-len g c test agrees =
-    run_spent test c.args.bytes.now c.loop-i.i (c.loop-i.invariant test agrees) c.loop-i-test.false c.loop-i.auto.i-end
+returns-clause-len c = run_spent (is_of c.args.class) c.args.bytes.now c.loop-i.i c.loop-i.invariant c.loop-i-test.false c.loop-i.auto.i-end

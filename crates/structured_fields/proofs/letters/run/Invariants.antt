@@ -1,7 +1,7 @@
-use Rattle.std.proofs.Common.{◌≡◌, ℕ, ◌+◌, ◌<◌, Bool, drop}
+use Rattle.std.proofs.Common.{◌≡◌, ◌+◌, drop}
 use Rattle.std.specs.List.{prefix_len}
+use Rattle.structured_fields.specs.Classes.{is_of}
 use Rattle.structured_fields.proofs.letters.run.Given as goal
 
 abbrev pub invariant-loop-i : goal.invariant-loop-i
-invariant-loop-i g l = (test : ℕ → Bool) → ((c : ℕ) (b : Bool) → c < 256 → goal.F-post g l.is_of_class c b → b ≡ test c)
-    → prefix_len test l.bytes ≡ l.i + prefix_len test (drop l.i l.bytes)
+invariant-loop-i l = prefix_len (is_of l.class) l.bytes ≡ l.i + prefix_len (is_of l.class) (drop l.i l.bytes)
