@@ -1,3 +1,4 @@
+mod ComponentParts
 pub mod Fields
 pub mod Lines
 pub mod WithTag

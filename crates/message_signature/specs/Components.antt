@@ -5,7 +5,7 @@ use Rattle.std.specs.List.{prefix_len, list_any}
 use Rattle.std.specs.Str.{bytes_eq}
 use Rattle.bytes_and_lists.specs.declared.message.Field.{Field}
 use Rattle.bytes_and_lists.specs.declared.message.Message.{Message}
-use Rattle.structured_fields.specs.Reading.{trimmed}
+use Rattle.structured_fields.specs.Reading.{trimmed, or_some}
 use Rattle.structured_fields.specs.Canonical.{separated_text}
 use Rattle.message_signature.specs.declared.components.FieldValue.{FieldValue}
 use Rattle.message_signature.specs.declared.components.FieldValue.TheVariants.{Line, Joined}
@@ -71,14 +71,21 @@ begins_with_at (c ∷ name) = c == 64
 abbrev pub is_upper : ℕ → Bool
 is_upper c = nat_le 65 c && nat_le c 90
 
--- The value of a component of a message to the server with this base. None where there is no such component.
-unfoldable pub component : Message → List ℕ → List ℕ → Option (List ℕ)
-component m base name =
+-- the value of a derived component
+abbrev pub derived : Message → List ℕ → List ℕ → Option (List ℕ)
+derived m base name =
     if bytes_eq name (codes "@method") then Some m.method
     else if bytes_eq name (codes "@target-uri") then Some (base ++ m.target)
     else if bytes_eq name (codes "@authority") then Some (authority_of base)
     else if bytes_eq name (codes "@scheme") then Some (scheme_of base)
     else if bytes_eq name (codes "@path") then Some (path_of m.target)
     else if bytes_eq name (codes "@query") then Some (query_of m.target)
-    else if begins_with_at name || list_any is_upper name then None
-    else field_value name m.fields
+    else None
+
+-- that of a field, by its name in lower case
+abbrev pub other_value : List ℕ → List Field → Option (List ℕ)
+other_value name fields = if begins_with_at name || list_any is_upper name then None else field_value name fields
+
+-- The value of a component of a message to the server with this base. None where there is no such component.
+unfoldable pub component : Message → List ℕ → List ℕ → Option (List ℕ)
+component m base name = or_some (derived m base name) (other_value name m.fields)

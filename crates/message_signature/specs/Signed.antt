@@ -62,11 +62,14 @@ under_label label member = (label, member) ∷ []
 abbrev pub label : List ℕ
 label = codes "sig1"
 
--- the two field lines of a signature
+-- the two field lines of a signature under a label
+abbrev pub lines_under : List ℕ → InnerList → List ℕ → List Field
+lines_under name list bytes =
+    field (codes "signature-input") (dictionary_text (under_label name (Inner list)))
+    ∷ field (codes "signature") (dictionary_text (under_label name (Single (record { bare = Binary bytes; params = [] })))) ∷ []
+
 abbrev pub signature_lines : InnerList → List ℕ → List Field
-signature_lines list bytes =
-    field (codes "signature-input") (dictionary_text (under_label label (Inner list)))
-    ∷ field (codes "signature") (dictionary_text (under_label label (Single (record { bare = Binary bytes; params = [] })))) ∷ []
+signature_lines list bytes = lines_under label list bytes
 
 -- The message with the signature that has these parameters. Its base is always there (`laws`).
 unfoldable pub signed_under : Message → List ℕ → List (List ℕ × Bare) → List ℕ → Option Message

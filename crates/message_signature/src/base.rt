@@ -6,7 +6,7 @@ ghost use Rattle.structured_fields.specs.declared.bare.Bare.TheVariants.{Str};
 ghost use Rattle.message_signature.specs.Faults.{GivesBase};
 ghost use Rattle.message_signature.specs.Base.{is_named, name_of, line_of, base_lines, params_line, signature_base};
 
-use crate::components::{append_component, appended};
+use crate::components::{append_bytes, append_component};
 use crate::fault::BaseFault;
 use bytes_and_lists::bytes::Bytes;
 use bytes_and_lists::memory::Mem;
@@ -59,14 +59,14 @@ fn append_line(
         return Err(BaseFault::Unsupported);
     }
     let text = append_name(alloc, text, item)?;
-    let text = appended(text, b": ")?;
+    let text = append_bytes(text, b": ")?;
     let text = append_component(alloc, text, message, base, name.as_slice())?;
-    appended(text, b"\n")
+    append_bytes(text, b"\n")
 }
 
-// The items behind the i-th.
+/// The items behind the i-th.
 #[tactic(auto, using(std::proofs::lemmas::List::take_rest))]
-fn others_behind(items: &Items, i: usize) -> &[Item]
+pub fn others_behind(items: &Items, i: usize) -> &[Item]
     requires { i < length items.now }
     ensures { result.now ≡ drop (i + 1) items.now }
 {
@@ -116,10 +116,11 @@ fn lines_of(
     Ok(text)
 }
 
-fn append_params_line(alloc: Global, text: Bytes, list: &InnerList) -> Result<Bytes, BaseFault>
+/// The text with the last line of a signature base behind it, that of the parameters.
+pub fn append_params_line(alloc: Global, text: Bytes, list: &InnerList) -> Result<Bytes, BaseFault>
     ensures { GivesBase (λ b. b) result (Some (text ++ params_line list.now)) }
 {
-    let text = appended(text, b"\"@signature-params\": ")?;
+    let text = append_bytes(text, b"\"@signature-params\": ")?;
     Ok(append_inner(alloc, text, list)?)
 }
 

@@ -4,7 +4,7 @@ ghost use Rattle.std.specs.List.{list_any};
 ghost use Rattle.std.specs.Option.{option_map};
 ghost use Rattle.std.specs.Str.{bytes_eq};
 ghost use Rattle.message_signature.specs.Faults.{GivesBase};
-ghost use Rattle.message_signature.specs.Components.{field_value, with_next, text_of, until, or_default, scheme_of, authority_of, target_path, path_of, query_of, begins_with_at, is_upper, component};
+ghost use Rattle.message_signature.specs.Components.{field_value, with_next, text_of, until, or_default, scheme_of, authority_of, target_path, path_of, query_of, begins_with_at, is_upper, derived, other_value, component};
 ghost use Rattle.message_signature.specs.Verified.{has_body, has_field};
 
 use crate::fault::BaseFault;
@@ -77,9 +77,24 @@ fn append_field(
     ensures { GivesBase (λ b. b) result (option_map (λ v. text ++ v) (field_value name.now fields.now)) }
 {
     match field_value(alloc, fields, name)? {
-        Some(value) => appended(text, value.as_slice()),
+        Some(value) => append_bytes(text, value.as_slice()),
         None => Err(BaseFault::Unsupported),
     }
+}
+
+// The same of a component that isn't derived.
+fn append_other(
+    alloc: Global,
+    text: Bytes,
+    fields: &Fields,
+    name: &[u8],
+) -> Result<Bytes, BaseFault>
+    ensures { GivesBase (λ b. b) result (option_map (λ v. text ++ v) (other_value name.now fields.now)) }
+{
+    if begins_with_at(name) || has_upper(name) {
+        return Err(BaseFault::Unsupported);
+    }
+    append_field(alloc, text, fields, name)
 }
 
 fn has_line(fields: &Fields, name: &[u8]) -> bool
@@ -92,7 +107,7 @@ fn has_line(fields: &Fields, name: &[u8]) -> bool
 }
 
 /// Whether a line has the name.
-pub(crate) fn has_field(message: &Message, name: &[u8]) -> bool
+pub fn has_field(message: &Message, name: &[u8]) -> bool
     ensures { result ≡ has_field name.now message.now }
 {
     has_line(&message.fields, name)
@@ -169,8 +184,8 @@ fn has_upper(name: &[u8]) -> bool
     name.iter().any(|c| c.is_ascii_uppercase())
 }
 
-// The text with the value behind it.
-pub(crate) fn appended(text: Bytes, value: &[u8]) -> Result<Bytes, BaseFault>
+/// The text with the value behind it.
+pub fn append_bytes(text: Bytes, value: &[u8]) -> Result<Bytes, BaseFault>
     ensures { GivesBase (λ b. b) result (Some (text ++ value.now)) }
 {
     let mut out = text;
@@ -188,8 +203,32 @@ fn append_both(text: Bytes, front: &[u8], back: &[u8]) -> Result<Bytes, BaseFaul
     Ok(out)
 }
 
+// The value of a derived component (section 2.2), in two parts. None where the name is none's.
+#[tactic(auto, using(crate::proofs::ComponentParts::alone))]
+fn derived<'a>(message: &'a Message, base: &'a Bytes, name: &[u8]) -> Option<(&'a [u8], &'a [u8])>
+    ensures { option_map (λ parts. parts.0.now ++ parts.1.now) result ≡ derived message.now base.now name.now }
+{
+    let base = base.as_slice();
+    let target = message.target.as_slice();
+    if name == b"@method".as_slice() {
+        Some((message.method.as_slice(), b""))
+    } else if name == b"@target-uri".as_slice() {
+        Some((base, target))
+    } else if name == b"@authority".as_slice() {
+        Some((authority_of(base), b""))
+    } else if name == b"@scheme".as_slice() {
+        Some((scheme_of(base), b""))
+    } else if name == b"@path".as_slice() {
+        Some((path_of(target), b""))
+    } else if name == b"@query".as_slice() {
+        Some((query_of(target), b""))
+    } else {
+        None
+    }
+}
+
 /// The text with the value of a component behind it (sections 2.1 and 2.2). Unsupported exactly where there is no such component.
-#[tactic(auto, unfolding(crate::specs::Components::component))]
+#[tactic(auto, using(crate::proofs::ComponentParts::component_steps))]
 pub fn append_component(
     alloc: Global,
     text: Bytes,
@@ -199,21 +238,8 @@ pub fn append_component(
 ) -> Result<Bytes, BaseFault>
     ensures { GivesBase (λ b. b) result (option_map (λ v. text ++ v) (component message.now base.now name.now)) }
 {
-    if name == b"@method".as_slice() {
-        appended(text, message.method.as_slice())
-    } else if name == b"@target-uri".as_slice() {
-        append_both(text, base.as_slice(), message.target.as_slice())
-    } else if name == b"@authority".as_slice() {
-        appended(text, authority_of(base.as_slice()))
-    } else if name == b"@scheme".as_slice() {
-        appended(text, scheme_of(base.as_slice()))
-    } else if name == b"@path".as_slice() {
-        appended(text, path_of(message.target.as_slice()))
-    } else if name == b"@query".as_slice() {
-        appended(text, query_of(message.target.as_slice()))
-    } else if begins_with_at(name) || has_upper(name) {
-        Err(BaseFault::Unsupported)
-    } else {
-        append_field(alloc, text, &message.fields, name)
+    match derived(message, base, name) {
+        Some((front, back)) => append_both(text, front, back),
+        None => append_other(alloc, text, &message.fields, name),
     }
 }

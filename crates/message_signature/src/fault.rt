@@ -8,7 +8,7 @@ use bytes_and_lists::memory::Mem;
 use thiserror::Error;
 
 /// Why there is no signature base.
-#[derive(Clone, Copy, Debug, PartialEq, Eq, Error)]
+#[derive(Clone, Copy, Debug, Error)]
 pub enum BaseFault {
     /// A covered component is no String, has parameters, is named again, or isn't there.
     #[error("a covered component is no string, has parameters, is named again or isn't there")]
@@ -18,7 +18,7 @@ pub enum BaseFault {
 }
 
 /// Why a message wasn't signed.
-#[derive(Clone, Copy, Debug, PartialEq, Eq, Error)]
+#[derive(Clone, Copy, Debug, Error)]
 pub enum SignFault {
     /// It has a `signature-input` or a `signature` field already.
     #[error("the message has a `signature-input` or a `signature` field already")]
@@ -28,7 +28,7 @@ pub enum SignFault {
 }
 
 /// Why a message's signature doesn't pass: the first of these that is so, in this order. Want of memory has no place in it.
-#[derive(Clone, Copy, Debug, PartialEq, Eq, Error)]
+#[derive(Clone, Copy, Debug, Error)]
 pub enum SigFault {
     /// There is no `signature-input` or no `signature` field.
     #[error("there is no `signature-input` or no `signature` field")]

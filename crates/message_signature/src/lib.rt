@@ -18,10 +18,12 @@ mod signing;
 mod tags;
 mod verifying;
 
-pub use base::base_of;
-pub use components::{FieldValue, append_component, field_value, target_path};
+pub use base::{append_params_line, base_of, others_behind};
+pub use components::{
+    FieldValue, append_bytes, append_component, field_value, has_field, target_path,
+};
 pub use fault::{BaseFault, SigFault, SignFault};
 pub use marks::{LATEST_CREATED, LONGEST_NONCE, SignatureMark, is_nonce, mark_of};
-pub use signing::{covered_items, labelled, sign, sign_marked, signature_params};
+pub use signing::{covered_items, sign, sign_marked, signature_lines, signature_params};
 pub use tags::{SignatureFields, TaggedSignature, signature_fields, tagged};
-pub use verifying::{check_tagged, verify, verify_marked};
+pub use verifying::{check_tagged, judged_list, verify, verify_marked};

@@ -10,9 +10,9 @@ ghost use Rattle.message_signature.specs.Lone.{bytes_in, formed, lone_seen, read
 ghost use Rattle.message_signature.specs.Verified.{signature_under, tagged};
 
 use crate::fault::SigFault;
-use crate::tags::{is_well_formed, must, signature_fields, tagged, value_of};
+use crate::tags::{is_well_formed, must, value_of};
 use bytes_and_lists::bytes::Bytes;
-use bytes_and_lists::memory::{Duplicate, Mem};
+use bytes_and_lists::memory::Mem;
 use bytes_and_lists::message::Message;
 use dictionary_lookup::{Matched, matching_list, single_under, strings_behind};
 use std::alloc::Global;
@@ -103,8 +103,10 @@ fn lone_in(
     }
 }
 
-// The one signature with the tag, where the members of the two fields settle it without a dictionary; else None.
-fn lone_signature(
+/// The one signature with the tag, where the members of the two fields settle it without a dictionary; else None. Its label doesn't count.
+///
+/// Errors: those of `signature_fields` and `tagged`. OutOfMemory may come in place of any answer.
+pub(crate) fn lone_signature(
     alloc: Global,
     message: &Message,
     tag: &[u8],
@@ -115,33 +117,4 @@ fn lone_signature(
     let input = value_of(alloc, message, b"signature-input")?;
     let signature = value_of(alloc, message, b"signature")?;
     lone_in(alloc, input.as_slice(), signature.as_slice(), tag)
-}
-
-// By all members of the two fields.
-fn signature_among(alloc: Global, message: &Message, tag: &[u8]) -> Result<LoneSignature, SigFault>
-    ensures ok { IfOk result (λ one. (label : List ℕ) × (tagged message.now tag.now ≡ Ok (lone_seen label one))) }
-    ensures err { IfErr result (λ e. Fails e (tagged message.now tag.now)) }
-{
-    let fields = signature_fields(alloc, message)?;
-    let one = tagged(&fields, tag)?;
-    let list = one.list.copy()?;
-    let bytes = one.bytes.copy()?;
-    Ok(LoneSignature { list, bytes })
-}
-
-/// The one signature with the tag. Its label doesn't count.
-///
-/// Errors: those of `signature_fields` and `tagged`. OutOfMemory may come in place of any answer.
-pub(crate) fn signature_of(
-    alloc: Global,
-    message: &Message,
-    tag: &[u8],
-) -> Result<LoneSignature, SigFault>
-    ensures ok { IfOk result (λ one. (label : List ℕ) × (tagged message.now tag.now ≡ Ok (lone_seen label one))) }
-    ensures err { IfErr result (λ e. Fails e (tagged message.now tag.now)) }
-{
-    match lone_signature(alloc, message, tag)? {
-        Some(one) => Ok(one),
-        None => signature_among(alloc, message, tag),
-    }
 }

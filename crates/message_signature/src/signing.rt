@@ -10,7 +10,7 @@ ghost use Rattle.structured_fields.specs.Canonical.{dictionary_text, AreInRange,
 ghost use Rattle.hmac_key.specs.Hmac.{hmac_sha256};
 ghost use Rattle.message_signature.specs.declared.fault.SignFault.TheVariants.{HasSignature};
 ghost use Rattle.message_signature.specs.Base.{signature_base};
-ghost use Rattle.message_signature.specs.Signed.{field, has_signature, with_digest, covered, component_item, params_of, under_label, label, signature_lines, signed_under, signed, signed_marked, cut};
+ghost use Rattle.message_signature.specs.Signed.{field, has_signature, with_digest, covered, component_item, params_of, under_label, lines_under, signed_under, signed, signed_marked, cut};
 ghost use Rattle.message_signature.specs.Marks.{is_nonce};
 
 use crate::base::base_of;
@@ -133,8 +133,8 @@ pub fn signature_params(
     Ok(params)
 }
 
-/// The text of a dictionary of one member, under this label.
-pub fn labelled(alloc: Global, label: &[u8], member: Member) -> Result<Bytes, Mem>
+// The text of a dictionary of one member, under this label.
+fn labelled(alloc: Global, label: &[u8], member: Member) -> Result<Bytes, Mem>
     requires label { is_key label.now ≡ true }
     requires member { IsMemberInRange member }
     ensures { IfOk result (λ text. text ≡ dictionary_text (under_label label.now member)) }
@@ -144,12 +144,19 @@ pub fn labelled(alloc: Global, label: &[u8], member: Member) -> Result<Bytes, Me
     write_dictionary(alloc, &entries)
 }
 
-// Adds the line of a field that is a dictionary of one member, under the label of the signature.
-fn push_labelled(alloc: Global, lines: &mut Fields, name: &[u8], member: Member) -> Result<(), Mem>
-    requires { IsMemberInRange member }
-    ensures { OnOk result (lines.new ≡ lines.old ++ field name.now (dictionary_text (under_label label member)) ∷ []) }
+// Adds the line of a field that is a dictionary of one member, under this label.
+fn push_labelled(
+    alloc: Global,
+    lines: &mut Fields,
+    name: &[u8],
+    label: &[u8],
+    member: Member,
+) -> Result<(), Mem>
+    requires label { is_key label.now ≡ true }
+    requires member { IsMemberInRange member }
+    ensures { OnOk result (lines.new ≡ lines.old ++ field name.now (dictionary_text (under_label label.now member)) ∷ []) }
 {
-    let text = labelled(alloc, LABEL, member)?;
+    let text = labelled(alloc, label, member)?;
     lines.push(field(alloc, name, text)?)
 }
 
@@ -162,16 +169,23 @@ fn binary_member(alloc: Global, bytes: Bytes) -> Member
     })
 }
 
-fn signature_lines(alloc: Global, list: InnerList, bytes: Bytes) -> Result<Fields, Mem>
+/// The lines of the two fields of a signature, under this label.
+pub fn signature_lines(
+    alloc: Global,
+    label: &[u8],
+    list: InnerList,
+    bytes: Bytes,
+) -> Result<Fields, Mem>
+    requires label { is_key label.now ≡ true }
     requires list { IsInnerInRange list }
     requires bytes { IsInRange (Binary bytes) }
-    ensures { IfOk result (λ lines. lines ≡ signature_lines list bytes) }
+    ensures { IfOk result (λ lines. lines ≡ lines_under label.now list bytes) }
 {
     let mut lines = Fields::new(alloc);
     let input = Member::Inner(list);
-    push_labelled(alloc, &mut lines, b"signature-input", input)?;
+    push_labelled(alloc, &mut lines, b"signature-input", label, input)?;
     let signature = binary_member(alloc, bytes);
-    push_labelled(alloc, &mut lines, b"signature", signature)?;
+    push_labelled(alloc, &mut lines, b"signature", label, signature)?;
     Ok(lines)
 }
 
@@ -211,7 +225,7 @@ fn add_signature(
     let items = covered_items(alloc, message)?;
     let list = InnerList { items, params };
     let bytes = signature_of(alloc, message, base, &list, secret)?;
-    let lines = signature_lines(alloc, list, bytes)?;
+    let lines = signature_lines(alloc, LABEL, list, bytes)?;
     message.fields.append(lines)
 }
 

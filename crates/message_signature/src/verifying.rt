@@ -16,8 +16,9 @@ ghost use Rattle.message_signature.specs.Verified.{absent_or, covers_enough, is_
 use crate::base::{base_of, is_named};
 use crate::components::{field_value, has_body, has_field};
 use crate::fault::{BaseFault, SigFault};
-use crate::lone::signature_of;
+use crate::lone::lone_signature;
 use crate::marks::{SignatureMark, mark_in};
+use crate::tags::{signature_fields, tagged};
 use bytes_and_lists::bytes::Bytes;
 use bytes_and_lists::memory::{Duplicate, Mem};
 use bytes_and_lists::message::Message;
@@ -196,9 +197,11 @@ pub fn check_tagged(
     made_under(alloc, message, text, ring, list, bytes)
 }
 
-// The label of a signature doesn't count.
+/// The id of the key that made a signature of the message: these bytes, with the covered components and the parameters of this list. Its label doesn't count.
+///
+/// Errors: the first fault from Unsupported to Digest that is so, in the order of `SigFault`. OutOfMemory may come in place of any answer.
 #[tactic(auto, unfolding(crate::specs::Verified::judged))]
-fn judged_list(
+pub fn judged_list(
     alloc: Global,
     message: &Message,
     base: &Bytes,
@@ -212,6 +215,22 @@ fn judged_list(
 {
     let text = base_under(alloc, message, base, list)?;
     check_tagged(alloc, message, &text, ring, now, list, bytes)
+}
+
+// What `verify` answers, by all members of the two fields.
+fn verified_among(
+    alloc: Global,
+    message: &Message,
+    base: &Bytes,
+    ring: &Keyring,
+    now: u64,
+    tag: &Bytes,
+) -> Result<Bytes, SigFault>
+    ensures { Gives (λ id. id) result (verified message.now base.now ring.now now tag.now) }
+{
+    let fields = signature_fields(alloc, message)?;
+    let one = tagged(&fields, tag.as_slice())?;
+    judged_list(alloc, message, base, ring, now, one.list, one.bytes)
 }
 
 /// The id of the key that signed a message which came to the server with this base (RFC 9421, section 3.2). The signature is the one whose parameter `tag` is
@@ -230,8 +249,11 @@ pub fn verify(
 ) -> Result<Bytes, SigFault>
     ensures { Gives (λ id. id) result (verified message.now base.now ring.now now tag.now) }
 {
-    let one = signature_of(alloc, message, tag.as_slice())?;
-    judged_list(alloc, message, base, ring, now, &one.list, &one.bytes)
+    let lone = lone_signature(alloc, message, tag.as_slice())?;
+    match lone {
+        Some(one) => judged_list(alloc, message, base, ring, now, &one.list, &one.bytes),
+        None => verified_among(alloc, message, base, ring, now, tag),
+    }
 }
 
 fn id_and_mark_of(
@@ -250,6 +272,22 @@ fn id_and_mark_of(
     Ok((id, mark_in(list)?))
 }
 
+// What `id_and_mark` answers, by all members of the two fields.
+fn marked_among(
+    alloc: Global,
+    message: &Message,
+    base: &Bytes,
+    ring: &Keyring,
+    now: u64,
+    tag: &Bytes,
+) -> Result<(Bytes, Option<SignatureMark>), SigFault>
+    ensures { Gives (λ x. x) result (id_and_mark message.now base.now ring.now now tag.now) }
+{
+    let fields = signature_fields(alloc, message)?;
+    let one = tagged(&fields, tag.as_slice())?;
+    id_and_mark_of(alloc, message, base, ring, now, one.list, one.bytes)
+}
+
 fn id_and_mark(
     alloc: Global,
     message: &Message,
@@ -260,8 +298,11 @@ fn id_and_mark(
 ) -> Result<(Bytes, Option<SignatureMark>), SigFault>
     ensures { Gives (λ x. x) result (id_and_mark message.now base.now ring.now now tag.now) }
 {
-    let one = signature_of(alloc, message, tag.as_slice())?;
-    id_and_mark_of(alloc, message, base, ring, now, &one.list, &one.bytes)
+    let lone = lone_signature(alloc, message, tag.as_slice())?;
+    match lone {
+        Some(one) => id_and_mark_of(alloc, message, base, ring, now, &one.list, &one.bytes),
+        None => marked_among(alloc, message, base, ring, now, tag),
+    }
 }
 
 /// What `verify` answers, with the mark of the signature that it verified (`mark_of`): the fields are read once.
