@@ -23,7 +23,7 @@ use std::alloc::Global;
 pub(crate) const BODY_LIMIT: u64 = 65_536;
 
 /// What the fields of a request say of its body.
-#[derive(Clone, Copy, Debug, PartialEq, Eq)]
+#[derive(Clone, Copy)]
 pub enum Framing {
     Refused(EdgeFault),
     /// It has so many bytes.

@@ -6,7 +6,7 @@ ghost use Rattle.http_edge.specs.Steps.{next_place, is_target, next_line_place, 
 use httparse::is_method_token;
 
 /// A place in front of a request target, or in it.
-#[derive(Clone, Copy, Debug, PartialEq, Eq)]
+#[derive(Clone, Copy)]
 pub enum RequestPlace {
     /// Between empty lines before the request line.
     BlankLines,
@@ -18,7 +18,7 @@ pub enum RequestPlace {
 }
 
 /// A place among the lines of a head.
-#[derive(Clone, Copy, Debug, PartialEq, Eq)]
+#[derive(Clone, Copy)]
 pub enum LinePlace {
     /// In empty lines before the request line.
     BlankLines,

@@ -15,7 +15,7 @@ use std::alloc::Global;
 use thiserror::Error;
 
 /// Why bytes are no reply.
-#[derive(Clone, Copy, Debug, PartialEq, Eq, Error)]
+#[derive(Clone, Copy, Debug, Error)]
 pub enum ReplyFault {
     /// They aren't one whole reply, with nothing behind it.
     #[error("the bytes aren't one whole reply")]

@@ -2,19 +2,18 @@
 use Rattle.std.specs.Prelude.{ℕ, ◌==◌, Bool, true, false, not, ◌&&◌, ◌||◌, List, [], ◌∷◌, ◌++◌, length, map, Option, Some, None, is_some, Result, Ok, Err, codes}
 use Rattle.bytes_and_lists.specs.declared.message.Field.{Field}
 use Rattle.bytes_and_lists.specs.declared.message.Message.{Message}
-use Rattle.structured_fields.specs.declared.bare.Bare.TheVariants.{Str, Binary}
+use Rattle.structured_fields.specs.declared.bare.Bare.TheVariants.{Str}
 use Rattle.structured_fields.specs.declared.item.Item.{Item}
 use Rattle.structured_fields.specs.declared.item.InnerList.{InnerList}
 use Rattle.structured_fields.specs.declared.item.Member.{Member}
 use Rattle.structured_fields.specs.declared.item.Member.TheVariants.{Item as Single, Inner}
 use Rattle.structured_fields.specs.Named.{value_at}
 use Rattle.structured_fields.specs.Reading.{◌>>=◌}
-use Rattle.structured_fields.specs.Canonical.{dictionary_text}
 use Rattle.hmac_key.specs.Hmac.{hmac_sha256}
 use Rattle.message_signature.specs.declared.fault.SigFault.{SigFault}
 use Rattle.message_signature.specs.declared.tags.SignatureFields.{SignatureFields}
 use Rattle.message_signature.specs.Verified.{has_body, has_field, signature_fields}
-use Rattle.message_signature.specs.Signed.{field, with_fields, covered, component_item, params_of, under_label, label}
+use Rattle.message_signature.specs.Signed.{with_fields, covered, component_item, params_of, lines_under, label}
 use Rattle.key_rotation.specs.RotationBase.{rotation_base}
 use Rattle.key_rotation.specs.SecondSignature.{second_tag}
 
@@ -56,9 +55,7 @@ rotation_input m id created = record { items = covered_again m; params = params_
 
 -- the two field lines of the second signature
 abbrev pub second_lines : InnerList → List ℕ → List Field
-second_lines list bytes =
-    field (codes "signature-input") (dictionary_text (under_label second_label (Inner list)))
-    ∷ field (codes "signature") (dictionary_text (under_label second_label (Single (record { bare = Binary bytes; params = [] })))) ∷ []
+second_lines list bytes = lines_under second_label list bytes
 
 -- The message with both signatures. Its base is there where the message is signed (`laws`).
 unfoldable pub signed_rotation : Message → List ℕ → List ℕ → List ℕ → ℕ → Option Message

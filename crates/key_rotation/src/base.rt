@@ -1,7 +1,6 @@
 //! The base of a signature that covers another one (RFC 9421, section 2.5).
-ghost use Rattle.std.specs.Prelude.{◌≡◌, ◌+◌, ◌<◌, ◌++◌, length, drop, Some, Ok, IfOk, option_map};
+ghost use Rattle.std.specs.Prelude.{◌≡◌, ◌++◌, Some, Ok, IfOk, option_map};
 ghost use Rattle.structured_fields.specs.Canonical.{item_text};
-ghost use Rattle.message_signature.specs.Base.{params_line};
 ghost use Rattle.message_signature.specs.Faults.{GivesBase};
 ghost use Rattle.message_signature.specs.Verified.{signature_fields};
 ghost use Rattle.key_rotation.specs.RotationBase.{members_of, signature_members, value_of, line_with, rotation_line, rotation_lines, base_with, rotation_base};
@@ -10,10 +9,12 @@ use crate::components::{append_value, is_among, label_in, string_of};
 use bytes_and_lists::bytes::Bytes;
 use bytes_and_lists::memory::Mem;
 use bytes_and_lists::message::Message;
-use message_signature::{BaseFault, SignatureFields, field_value};
+use message_signature::{
+    BaseFault, SignatureFields, append_bytes, append_params_line, field_value, others_behind,
+};
 use std::alloc::Global;
 use structured_fields::{
-    Dictionary, FieldFault, InnerList, Item, Items, append_inner, append_item, read_dictionary,
+    Dictionary, FieldFault, InnerList, Item, Items, append_item, read_dictionary,
 };
 
 // ---- the members of the two fields
@@ -42,15 +43,6 @@ fn signature_members(alloc: Global, message: &Message) -> Result<SignatureFields
 
 // ---- the lines
 
-// The text with the bytes behind it.
-fn appended(text: Bytes, bytes: &[u8]) -> Result<Bytes, BaseFault>
-    ensures { GivesBase (λ b. b) result (Some (text ++ bytes.now)) }
-{
-    let mut out = text;
-    out.extend(bytes)?;
-    Ok(out)
-}
-
 // The text with the canonical text of the item behind it.
 fn append_name(alloc: Global, text: Bytes, item: &Item) -> Result<Bytes, BaseFault>
     ensures { GivesBase (λ b. b) result (Some (text ++ item_text item.now)) }
@@ -72,9 +64,9 @@ fn append_valued(
         (option_map (λ line. text ++ line) (line_with item.now (value_of message.now base.now fields.now name.now item.now.params))) }
 {
     let named = append_name(alloc, text, item)?;
-    let parted = appended(named, b": ")?;
+    let parted = append_bytes(named, b": ")?;
     let valued = append_value(alloc, parted, message, base, fields, name, &item.params)?;
-    appended(valued, b"\n")
+    append_bytes(valued, b"\n")
 }
 
 fn append_line(
@@ -96,15 +88,6 @@ fn append_line(
         return Err(BaseFault::Unsupported);
     }
     append_valued(alloc, text, message, base, fields, name, item)
-}
-
-// The items behind the i-th.
-#[tactic(auto, using(std::proofs::lemmas::List::take_rest))]
-fn others_behind(items: &Items, i: usize) -> &[Item]
-    requires { i < length items.now }
-    ensures { result.now ≡ drop (i + 1) items.now }
-{
-    &items.as_slice()[i + 1..]
 }
 
 fn lines_of(
@@ -129,13 +112,6 @@ fn lines_of(
         )?;
     }
     Ok(text)
-}
-
-fn append_params_line(alloc: Global, text: Bytes, list: &InnerList) -> Result<Bytes, BaseFault>
-    ensures { GivesBase (λ b. b) result (Some (text ++ params_line list.now)) }
-{
-    let text = appended(text, b"\"@signature-params\": ")?;
-    Ok(append_inner(alloc, text, list)?)
 }
 
 // The base where the two fields of signatures have these members.

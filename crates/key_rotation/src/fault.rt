@@ -8,7 +8,7 @@ use message_signature::SigFault;
 use thiserror::Error;
 
 /// Why the two signatures of a message don't pass: the first of these that is so, in this order. Want of memory has no place in it.
-#[derive(Clone, Copy, Debug, PartialEq, Eq, Error)]
+#[derive(Clone, Copy, Debug, Error)]
 pub enum RotationFault {
     /// The signature with the tag `gnap` has this fault, which is not want of memory.
     #[error("of the signature with the tag `gnap`: {0}")]
@@ -24,7 +24,7 @@ pub enum RotationFault {
 }
 
 /// Why a message wasn't signed again.
-#[derive(Clone, Copy, Debug, PartialEq, Eq, Error)]
+#[derive(Clone, Copy, Debug, Error)]
 pub enum RotationSignFault {
     /// Its signature isn't one alone under the label `sig1`, or there is a body and no `content-digest` field.
     #[error("the message isn't signed once, under `sig1`, or its body has no `content-digest`")]

@@ -1,27 +1,23 @@
 //! Making the second signature of a message (RFC 9635, section 6.1.1).
 ghost use Rattle.std.specs.Prelude.{◌≡◌, ◌<◌, ◌^◌, ◌++◌, ◌∷◌, [], ◌||◌, not, codes, true, false, length, Some, None, Ok, Err, IsSome, IfOk, OnOk, OnErr, option_map, is_some};
-ghost use Rattle.std.specs.List.{list_all, list_any};
+ghost use Rattle.std.specs.List.{list_all};
 ghost use Rattle.std.specs.Option.{option_copied};
-ghost use Rattle.std.specs.Str.{bytes_eq};
-ghost use Rattle.structured_fields.specs.declared.bare.Bare.TheVariants.{Binary};
-ghost use Rattle.structured_fields.specs.Canonical.{IsInRange, IsInnerInRange};
 ghost use Rattle.structured_fields.specs.Letters.{is_string_byte};
 ghost use Rattle.hmac_key.specs.Hmac.{hmac_sha256};
-ghost use Rattle.message_signature.specs.Signed.{field};
 ghost use Rattle.message_signature.specs.Verified.{has_body, has_field, signature_fields};
 ghost use Rattle.key_rotation.specs.RotationBase.{rotation_base};
 ghost use Rattle.key_rotation.specs.declared.fault.RotationSignFault.TheVariants.{NotSigned};
-ghost use Rattle.key_rotation.specs.SignedRotation.{is_inner, has_only_first, is_signed, member_item, rotation_input, second_lines, signed_rotation};
+ghost use Rattle.key_rotation.specs.SignedRotation.{is_inner, has_only_first, is_signed, member_item, rotation_input, signed_rotation};
 
 use crate::base::base_over;
 use crate::fault::RotationSignFault;
 use bytes_and_lists::bytes::Bytes;
 use bytes_and_lists::memory::Mem;
-use bytes_and_lists::message::{Field, Fields, Message};
+use bytes_and_lists::message::Message;
 use hmac_key::hmac;
 use message_signature::{
-    BaseFault, SigFault, SignatureFields, covered_items, labelled, signature_fields,
-    signature_params,
+    BaseFault, SigFault, SignatureFields, covered_items, has_field, signature_fields,
+    signature_lines, signature_params,
 };
 use std::alloc::Global;
 use structured_fields::{Bare, InnerList, Item, Items, Member, Params};
@@ -46,21 +42,6 @@ fn has_only_first(fields: &SignatureFields) -> bool
         && is_inner(fields.inputs.get(FIRST))
         && fields.signatures.len() == 1
         && fields.signatures.get(FIRST).is_some()
-}
-
-fn has_line(fields: &Fields, name: &[u8]) -> bool
-    ensures { result ≡ list_any (λ f. bytes_eq f.name name.now) fields.now }
-{
-    fields
-        .as_slice()
-        .iter()
-        .any(|field| field.name.as_slice() == name)
-}
-
-fn has_field(message: &Message, name: &[u8]) -> bool
-    ensures { result ≡ has_field name.now message.now }
-{
-    has_line(&message.fields, name)
 }
 
 fn has_digest(message: &Message) -> bool
@@ -138,32 +119,6 @@ fn rotation_input(
     Ok(InnerList { items, params })
 }
 
-fn field(alloc: Global, name: &[u8], value: Bytes) -> Result<Field, Mem>
-    ensures { IfOk result (λ f. f ≡ field name.now value) }
-{
-    Ok(Field {
-        name: Bytes::from_slice(alloc, name)?,
-        value,
-    })
-}
-
-fn second_lines(alloc: Global, list: InnerList, bytes: Bytes) -> Result<Fields, Mem>
-    requires list { IsInnerInRange list }
-    requires bytes { IsInRange (Binary bytes) }
-    ensures { IfOk result (λ lines. lines ≡ second_lines list bytes) }
-{
-    let signature = Item {
-        bare: Bare::Binary(bytes),
-        params: Params::new(alloc),
-    };
-    let input = labelled(alloc, SECOND, Member::Inner(list))?;
-    let signature = labelled(alloc, SECOND, Member::Item(signature))?;
-    let mut lines = Fields::new(alloc);
-    lines.push(field(alloc, b"signature-input", input)?)?;
-    lines.push(field(alloc, b"signature", signature)?)?;
-    Ok(lines)
-}
-
 // The bytes of the second signature, where there is a base.
 fn signature_of(
     alloc: Global,
@@ -211,7 +166,7 @@ pub fn sign_rotation(
     let fields = fields_of(alloc, message)?;
     let list = rotation_input(alloc, message, id, created)?;
     let bytes = signature_of(alloc, message, base, &fields, &list, secret)?;
-    let lines = second_lines(alloc, list, bytes)?;
+    let lines = signature_lines(alloc, SECOND, list, bytes)?;
     message.fields.append(lines)?;
     Ok(())
 }

@@ -1,7 +1,6 @@
 //! Verifying both signatures of a message (RFC 9635, section 6.1.1).
 ghost use Rattle.std.specs.Prelude.{◌≡◌, IfErr, IfOk, Ok};
 ghost use Rattle.message_signature.specs.declared.fault.SigFault.TheVariants.{Unsupported};
-ghost use Rattle.message_signature.specs.Base.{signature_base};
 ghost use Rattle.message_signature.specs.Faults.{Gives as GivesSignature, need};
 ghost use Rattle.message_signature.specs.Seen.{signature_seen};
 ghost use Rattle.message_signature.specs.Verified.{judged, signature_fields, tagged_in};
@@ -17,8 +16,8 @@ use bytes_and_lists::bytes::Bytes;
 use bytes_and_lists::message::Message;
 use hmac_key::Keyring;
 use message_signature::{
-    BaseFault, SigFault, SignatureFields, TaggedSignature, base_of, check_tagged, signature_fields,
-    tagged,
+    BaseFault, SigFault, SignatureFields, TaggedSignature, check_tagged, judged_list,
+    signature_fields, tagged,
 };
 use std::alloc::Global;
 use structured_fields::InnerList;
@@ -71,36 +70,6 @@ fn first_signature(fields: &SignatureFields) -> Result<TaggedSignature<'_>, Rota
     in_first(tagged(fields, b"gnap"))
 }
 
-fn base_under(
-    alloc: Global,
-    message: &Message,
-    base: &Bytes,
-    list: &InnerList,
-) -> Result<Bytes, SigFault>
-    ensures { GivesSignature (λ b. b) result (need Unsupported (signature_base message.now base.now list.now)) }
-{
-    match base_of(alloc, message, base, list) {
-        Ok(text) => Ok(text),
-        Err(BaseFault::Unsupported) => Err(SigFault::Unsupported),
-        Err(BaseFault::OutOfMemory) => Err(SigFault::OutOfMemory),
-    }
-}
-
-#[tactic(auto, unfolding(message_signature::specs::Verified::judged))]
-fn judged(
-    alloc: Global,
-    message: &Message,
-    base: &Bytes,
-    ring: &Keyring,
-    now: u64,
-    one: &TaggedSignature,
-) -> Result<Bytes, SigFault>
-    ensures { GivesSignature (λ id. id) result (judged message.now base.now ring.now now (signature_seen one.now)) }
-{
-    let text = base_under(alloc, message, base, one.list)?;
-    check_tagged(alloc, message, &text, ring, now, one.list, one.bytes)
-}
-
 fn old_key(
     alloc: Global,
     message: &Message,
@@ -112,7 +81,7 @@ fn old_key(
     ensures gives { Gives (λ id. id) result (in_first (judged message.now base.now ring.now now (signature_seen one.now))) }
     ensures told { IfErr result IsToldOf }
 {
-    in_first(judged(alloc, message, base, ring, now, one))
+    in_first(judged_list(alloc, message, base, ring, now, one.list, one.bytes))
 }
 
 // ---- the second

@@ -8,7 +8,7 @@ use Rattle.key_rotation.proofs.base.append_valued.Goals as goal
 
 pub returns : goal.returns
 returns c =
-    subst (GivesBase (λ b. b) c.appended-2.result)
+    subst (GivesBase (λ b. b) c.append_bytes-2.result)
     (sym (valued_line c.args.text (item_text c.args.item.now) (codes ": ") (codes "\n")
     (value_of c.args.message.now c.args.base.now c.args.fields.now c.args.name.now c.args.item.now.params)
-    c.in_ok-named.named c.in_ok-parted.parted c.in_ok-valued.valued c.in_ok-named.ensures c.in_ok-parted.ensures c.in_ok-valued.ensures)) c.appended-2.ensures
+    c.in_ok-named.named c.in_ok-parted.parted c.in_ok-valued.valued c.in_ok-named.ensures c.in_ok-parted.ensures c.in_ok-valued.ensures)) c.append_bytes-2.ensures

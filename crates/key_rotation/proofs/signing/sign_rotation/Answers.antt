@@ -6,11 +6,11 @@ pub signature_of-requires-clause-based : goal.signature_of-requires-clause-based
 signature_of-requires-clause-based c = rw c.in_ok-list.ensures
     (based c.args.message.now c.args.base.now c.args.id.now c.args.created c.in_ok-fields.ensures.signed)
 
-pub second_lines-requires-clause-list : goal.second_lines-requires-clause-list
-second_lines-requires-clause-list c = rw c.in_ok-list.ensures (input_range c.args.message.now c.args.id.now c.args.created c.requires.created c.requires.id)
+pub signature_lines-requires-clause-list : goal.signature_lines-requires-clause-list
+signature_lines-requires-clause-list c = rw c.in_ok-list.ensures (input_range c.args.message.now c.args.id.now c.args.created c.requires.created c.requires.id)
 
-pub second_lines-requires-clause-bytes : goal.second_lines-requires-clause-bytes
-second_lines-requires-clause-bytes c = signature_range c.args.secret.now _ c.in_ok-bytes.bytes c.in_ok-bytes.ensures
+pub signature_lines-requires-clause-bytes : goal.signature_lines-requires-clause-bytes
+signature_lines-requires-clause-bytes c = signature_range c.args.secret.now _ c.in_ok-bytes.bytes c.in_ok-bytes.ensures
 
 pub returns-clause-ok : goal.returns-clause-ok
 returns-clause-ok c =
