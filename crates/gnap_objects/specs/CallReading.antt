@@ -13,6 +13,7 @@ use Rattle.gnap_model.specs.declared.objects.Setup.{Setup}
 use Rattle.gnap_model.specs.declared.objects.ContinueRequest.{ContinueRequest}
 use Rattle.gnap_model.specs.declared.objects.IntrospectRequest.{IntrospectRequest}
 use Rattle.gnap_model.specs.declared.objects.DecideRequest.{DecideRequest}
+use Rattle.gnap_model.specs.declared.objects.ErrorCode.{ErrorCode}
 use Rattle.gnap_model.specs.declared.objects.ErrorCode.TheVariants.{InvalidRequest, InvalidClient, InvalidFlag, InvalidResourceServer}
 use Rattle.gnap_model.specs.declared.calls.Call.{Call}
 use Rattle.gnap_model.specs.declared.calls.Call.TheVariants as calls
@@ -112,6 +113,10 @@ IsReadable forms.Absent = Unit {0}
 IsReadable forms.NotOfForm = Unit {0}
 
 -- ---- the calls
+
+-- why a grant request that could be read isn't that client's to make
+abbrev pub begin_refusal : Text → GrantBody → Option ErrorCode
+begin_refusal key body = if is_text key body.request.client then (if body.repeats_flag then Some InvalidFlag else None) else Some InvalidClient
 
 -- A grant request is for the client that makes it (RFC 9635, section 2.3). That a flag stands twice in it is said to that client alone.
 abbrev pub begin_by : Text → Result GrantBody ObjectFault → CallOrRefusal

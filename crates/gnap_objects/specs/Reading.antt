@@ -50,6 +50,10 @@ has_string name wanted ds = each (text_of name) ds >>= λ texts. Ok (list_any (�
 abbrev pub sized : ℕ → List ℕ → List ℕ → Result (List ℕ) ObjectFault
 sized most name s = if length s == 0 then Err (faults.Wrong name) else (if nat_lt most (length s) then Err (faults.TooMany name) else Ok s)
 
+-- a text of that size that the value is; a fault names the member name
+abbrev pub sized_text : ℕ → List ℕ → Data → Result (List ℕ) ObjectFault
+sized_text most name d = text_of name d >>= sized most name
+
 -- what has passed the test; a fault names the member name
 abbrev pub checked : {A : Type 0} → (A → Bool) → List ℕ → A → Result A ObjectFault
 checked test name x = if test x then Ok x else Err (faults.Wrong name)
@@ -69,6 +73,10 @@ key_name_in name d None = key_object name d (is_some (as_object d))
 -- the name of a key: its id, or an object with it under `key`
 unfoldable pub key_name_of : List ℕ → Data → Result KeyName ObjectFault
 key_name_of name d = key_name_in name d (as_str d)
+
+-- how the member of that name, which must be there, names a key
+abbrev pub required_key_name : List ℕ → Data → Result KeyName ObjectFault
+required_key_name name d = required name d >>= key_name_of name
 
 abbrev pub none_unknown : {A : Type 0} → Option (List ℕ) → A → Result A ObjectFault
 none_unknown None x = Ok x

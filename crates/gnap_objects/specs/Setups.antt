@@ -119,14 +119,17 @@ abbrev pub object_in : Result Data BodyFault → Result Data SetupFault
 object_in (Ok d) = Ok d
 object_in (Err fault) = Err NotJson
 
--- the setup that the bytes are: one JSON object in which each number is whole, with exactly these members
-unfoldable pub setup_of : List ℕ → Result Setup SetupFault
-setup_of text = do
-  d ← object_in (body_of text)
+-- the setup that the object is, with exactly these members
+abbrev pub setup_in : Data → Result Setup SetupFault
+setup_in d = do
   base ← in_setup (base_of (codes "base") d)
   front ← in_setup (base_of (codes "front") d)
   keys ← keys_of d
   in_setup (without_others (codes "base" ∷ codes "front" ∷ codes "keys" ∷ []) d (record { base = base; front = front; keys = keys }))
+
+-- the setup that the bytes are: one JSON object in which each number is whole
+unfoldable pub setup_of : List ℕ → Result Setup SetupFault
+setup_of text = object_in (body_of text) >>= setup_in
 
 -- a setup that its reader gives
 pub record IsSetup (s : Setup) : Type 0 where

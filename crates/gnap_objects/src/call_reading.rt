@@ -8,7 +8,7 @@ ghost use Rattle.gnap_objects.specs.Continuations.{continuation_of, rotation_of}
 ghost use Rattle.gnap_objects.specs.Introspections.{introspection_of};
 ghost use Rattle.gnap_objects.specs.UserCodes.{user_code_of};
 ghost use Rattle.gnap_objects.specs.Decisions.{handle_of, decide_request_of};
-ghost use Rattle.gnap_objects.specs.CallReading.{is_caller, stranger, IsReadable, body_in, begin_by, modify_by, continue_by, rotate_by, introspect_by, look_by, find_code_by, decide_by, caller_call, call_of, MachineTakes, IsTaken, IsCallOf, no_call};
+ghost use Rattle.gnap_objects.specs.CallReading.{is_caller, stranger, IsReadable, body_in, begin_refusal, begin_by, modify_by, continue_by, rotate_by, introspect_by, look_by, find_code_by, decide_by, caller_call, call_of, MachineTakes, IsTaken, IsCallOf, no_call};
 ghost use Rattle.gnap_model.specs.declared.calls.Call.TheVariants as calls;
 ghost use Rattle.gnap_objects.specs.declared.call_reading.CallOrRefusal.TheVariants.{Accepted};
 ghost use Rattle.gnap_objects.specs.declared.call_reading.NoCall.TheVariants.{OutOfMemory};
@@ -16,7 +16,7 @@ ghost use Rattle.gnap_objects.specs.declared.call_reading.NoCall.TheVariants.{Ou
 use crate::continuations::{read_continue, read_rotate};
 use crate::decisions::{read_decide, read_handle};
 use crate::fault::ObjectFault;
-use crate::grants::grant_body_of;
+use crate::grants::{GrantBody, grant_body_of};
 use crate::introspections::read_introspect;
 use crate::user_codes::read_code;
 use bytes_and_lists::bytes::Bytes;
@@ -135,6 +135,23 @@ pub fn stranger(kind: CallKind) -> CallOrRefusal
     }
 }
 
+// Why a grant request that could be read isn't this key's to make.
+fn begin_refusal(key: &[u8], body: &GrantBody) -> Option<ErrorCode>
+    ensures { result ≡ begin_refusal key.now body.now }
+{
+    let names_key = match &body.request.client {
+        Some(client) => client.as_slice() == key,
+        None => false,
+    };
+    if !names_key {
+        Some(ErrorCode::InvalidClient)
+    } else if body.repeats_flag {
+        Some(ErrorCode::InvalidFlag)
+    } else {
+        None
+    }
+}
+
 fn begin_by(alloc: Global, key: &[u8], body: &Value) -> Result<Call, NoCall>
     requires key { IsUtf8 key.now }
     requires body { IsBody (view body.now) }
@@ -142,17 +159,14 @@ fn begin_by(alloc: Global, key: &[u8], body: &Value) -> Result<Call, NoCall>
     ensures taken { IfOk result MachineTakes }
 {
     let body = grant_body_of(alloc, body, false)?;
-    let names_key = match &body.request.client {
-        Some(client) => client.as_slice() == key,
-        None => false,
+    if let Some(code) = begin_refusal(key, &body) {
+        drop(body);
+        return Err(NoCall::Refused(code));
+    }
+    let Ok(key) = Bytes::from_slice(alloc, key) else {
+        drop(body);
+        return Err(NoCall::OutOfMemory);
     };
-    if !names_key {
-        return Err(NoCall::Refused(ErrorCode::InvalidClient));
-    }
-    if body.repeats_flag {
-        return Err(NoCall::Refused(ErrorCode::InvalidFlag));
-    }
-    let key = Bytes::from_slice(alloc, key)?;
     Ok(Call::Begin {
         key,
         request: body.request,
@@ -177,9 +191,13 @@ fn modify_by(alloc: Global, key: &[u8], value: &[u8], body: &Value) -> Result<Ca
 {
     let wanted = grant_body_of(alloc, body, true)?;
     if wanted.repeats_flag {
+        drop(wanted);
         return Err(NoCall::Refused(ErrorCode::InvalidFlag));
     }
-    let (key, value) = key_and_value(alloc, key, value)?;
+    let Ok((key, value)) = key_and_value(alloc, key, value) else {
+        drop(wanted);
+        return Err(NoCall::OutOfMemory);
+    };
     Ok(Call::Modify {
         key,
         value,
@@ -248,9 +266,8 @@ fn introspect_by(alloc: Global, key: &[u8], body: &Value) -> Result<Call, NoCall
     if request.server.as_slice() != key {
         return Err(NoCall::Refused(ErrorCode::InvalidResourceServer));
     }
-    let server = Bytes::from_slice(alloc, key)?;
     Ok(Call::Introspect {
-        server,
+        server: request.server,
         value: request.value,
         binding: request.binding,
         wanted: request.wanted,

@@ -9,7 +9,7 @@ ghost use Rattle.gnap_objects.specs.CallsFit.{RightsFitOr, DecisionFits};
 ghost use Rattle.gnap_objects.specs.Decisions.{handle_of, verdict_in, verdict_of, decided_rights_of, decided_subject_of, bounded_rights, decide_request_of};
 
 use crate::fault::ObjectFault;
-use crate::members::{is_too_long, required, required_text, rights_in, sized, text_of};
+use crate::members::{is_too_long, required_str, required_text, rights_in, sized_text};
 use bytes_and_lists::bytes::Bytes;
 use gnap_model::objects::{DecideRequest, Verdict};
 use gnap_model::rights::Rights;
@@ -26,15 +26,14 @@ pub fn read_handle(alloc: Global, value: &Value) -> Result<Bytes, ObjectFault>
     required_text(alloc, value, "handle")
 }
 
-#[tactic(auto, unfolding(crate::specs::Decisions::verdict_of, crate::specs::Reading::required_text, crate::specs::Reading::text_of))]
+#[tactic(auto, unfolding(crate::specs::Decisions::verdict_of, crate::specs::Reading::required_text))]
 fn verdict_of(alloc: Global, value: &Value) -> Result<Verdict, ObjectFault>
     ensures { Gives OutOfMemory (λ v. v) result (verdict_of (view value.now)) }
 {
-    let verdict = required(alloc, value, "verdict")?;
-    match verdict.as_str() {
-        Some("grant") => Ok(Verdict::Grant),
-        Some("deny") => Ok(Verdict::Deny),
-        Some("unknown") => Ok(Verdict::Unknown),
+    match required_str(alloc, value, "verdict")? {
+        "grant" => Ok(Verdict::Grant),
+        "deny" => Ok(Verdict::Deny),
+        "unknown" => Ok(Verdict::Unknown),
         _ => Err(ObjectFault::wrong(alloc, "verdict")),
     }
 }
@@ -59,8 +58,7 @@ fn decided_subject_of(alloc: Global, value: &Value) -> Result<Option<Bytes>, Obj
     let Some(subject) = member(value, "subject") else {
         return Ok(None);
     };
-    let subject = text_of(alloc, subject, "subject")?;
-    Ok(Some(sized(alloc, subject, 256, "subject")?))
+    Ok(Some(sized_text(alloc, subject, 256, "subject")?))
 }
 
 fn bounded_rights(alloc: Global, rights: Option<Rights>) -> Result<Option<Rights>, ObjectFault>

@@ -16,7 +16,7 @@ ghost use Rattle.gnap_objects.specs.Grants.{client_of, named_user_of, asks_too_m
 
 use crate::fault::ObjectFault;
 use crate::interactions::interact_of;
-use crate::members::{key_name_of, required};
+use crate::members::required_key_name;
 use crate::token_requests::token_requests_of;
 use crate::users::{subject_request_of, user_of};
 use access_rights::sizes::listed_size;
@@ -52,8 +52,7 @@ fn client_of(alloc: Global, value: &Value, modify: bool) -> Result<ClientName, O
             by_object: false,
         });
     }
-    let client = required(alloc, value, "client")?;
-    let key = key_name_of(alloc, client, "client")?;
+    let key = required_key_name(alloc, value, "client")?;
     Ok(ClientName {
         id: Some(key.id),
         by_object: key.by_object,
@@ -147,6 +146,7 @@ pub fn read_grant(alloc: Global, value: &Value, modify: bool) -> Result<GrantReq
 {
     let body = grant_body_of(alloc, value, modify)?;
     if body.repeats_flag {
+        drop(body);
         return Err(ObjectFault::flag(alloc, "flags"));
     }
     Ok(body.request)

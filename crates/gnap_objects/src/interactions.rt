@@ -7,7 +7,10 @@ ghost use Rattle.gnap_objects.specs.CallsFit.{AddressFits, FinishFits, FinishFit
 ghost use Rattle.gnap_objects.specs.Interactions.{push_of, finish_uri_of, nonce_of, long_of, asked_finish_of, optional_finish_of, offered_modes_of, interact_of};
 
 use crate::fault::ObjectFault;
-use crate::members::{checked_object, has_string, required, required_items, required_text, sized};
+use crate::members::{
+    checked_object, copied, has_string, required, required_items, required_str, sized_str,
+    sized_text,
+};
 use bytes_and_lists::bytes::Bytes;
 use gnap_model::objects::{Finish, Modes};
 use interaction::uri_fits;
@@ -16,38 +19,38 @@ use serde_json::Value;
 use std::alloc::Global;
 
 // Whether `method` is `push`, and not `redirect`.
-#[tactic(auto, unfolding(crate::specs::Interactions::push_of, crate::specs::Reading::required_text, crate::specs::Reading::text_of))]
+#[tactic(auto, unfolding(crate::specs::Interactions::push_of, crate::specs::Reading::required_text))]
 fn push_of(alloc: Global, finish: &Value) -> Result<bool, ObjectFault>
     ensures { Gives OutOfMemory (λ b. b) result (push_of (view finish.now)) }
 {
-    let method = required(alloc, finish, "method")?;
-    match method.as_str() {
-        Some("redirect") => Ok(false),
-        Some("push") => Ok(true),
+    match required_str(alloc, finish, "method")? {
+        "redirect" => Ok(false),
+        "push" => Ok(true),
         _ => Err(ObjectFault::wrong(alloc, "method")),
     }
 }
 
-#[tactic(auto, unfolding(crate::specs::Interactions::finish_uri_of))]
+#[tactic(auto, unfolding(crate::specs::Interactions::finish_uri_of, crate::specs::Reading::required_text))]
 fn finish_uri_of(alloc: Global, finish: &Value) -> Result<Bytes, ObjectFault>
     ensures value { Gives OutOfMemory (λ u. u) result (finish_uri_of (view finish.now)) }
     ensures fits { IfOk result AddressFits }
 {
-    let uri = required_text(alloc, finish, "uri")?;
-    let uri = sized(alloc, uri, 2048, "uri")?;
-    if !uri_fits(alloc, uri.as_slice())? {
-        return Err(ObjectFault::wrong(alloc, "uri"));
+    let member = required(alloc, finish, "uri")?;
+    let uri = sized_str(alloc, member, 2048, "uri")?;
+    if uri_fits(alloc, uri.as_bytes())? {
+        copied(alloc, uri)
+    } else {
+        Err(ObjectFault::wrong(alloc, "uri"))
     }
-    Ok(uri)
 }
 
-#[tactic(auto, unfolding(crate::specs::Interactions::nonce_of))]
+#[tactic(auto, unfolding(crate::specs::Interactions::nonce_of, crate::specs::Reading::required_text))]
 fn nonce_of(alloc: Global, finish: &Value) -> Result<Bytes, ObjectFault>
     ensures value { Gives OutOfMemory (λ n. n) result (nonce_of (view finish.now)) }
     ensures utf8 { IfOk result IsUtf8 }
 {
-    let nonce = required_text(alloc, finish, "nonce")?;
-    sized(alloc, nonce, 256, "nonce")
+    let nonce = required(alloc, finish, "nonce")?;
+    sized_text(alloc, nonce, 256, "nonce")
 }
 
 // Whether `hash_method` is `sha-512`, and not `sha-256`.

@@ -8,7 +8,7 @@ ghost use Rattle.gnap_objects.specs.Fits.{WantedFit, IntrospectionFits};
 ghost use Rattle.gnap_objects.specs.Introspections.{proof_of, wanted_of, introspection_of};
 
 use crate::fault::ObjectFault;
-use crate::members::{counted_rights, key_name_of, required, rights_in, text_of};
+use crate::members::{counted_rights, required_key_name, required_text, rights_in};
 use gnap_model::objects::{Binding, IntrospectRequest};
 use gnap_model::rights::Rights;
 use json_objects::member;
@@ -45,17 +45,15 @@ fn wanted_of(alloc: Global, value: &Value) -> Result<Option<Rights>, ObjectFault
 /// The introspection that a body is. The members are read in the order `access_token` (any string, the token's value), `proof` (`httpsig` or `bearer`,
 /// where it is there), `resource_server` (an id, or an object with `key`, an id), `access` (1 to 16 rights, where it is there), and the first fault is
 /// named. Other members are not looked at.
-#[tactic(auto, unfolding(crate::specs::Introspections::introspection_of))]
+#[tactic(auto, unfolding(crate::specs::Introspections::introspection_of, crate::specs::Reading::required_text))]
 pub fn read_introspect(alloc: Global, value: &Value) -> Result<IntrospectRequest, ObjectFault>
     requires { IsBody (view value.now) }
     ensures value { Gives OutOfMemory (λ r. r) result (introspection_of (view value.now)) }
     ensures fits { IfOk result IntrospectionFits }
 {
-    let token = required(alloc, value, "access_token")?;
-    let presented = text_of(alloc, token, "access_token")?;
+    let presented = required_text(alloc, value, "access_token")?;
     let binding = proof_of(alloc, value)?;
-    let named = required(alloc, value, "resource_server")?;
-    let server = key_name_of(alloc, named, "resource_server")?;
+    let server = required_key_name(alloc, value, "resource_server")?;
     let wanted = wanted_of(alloc, value)?;
     Ok(IntrospectRequest {
         value: presented,

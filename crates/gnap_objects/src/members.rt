@@ -1,5 +1,5 @@
 //! Members of objects, up to the first fault.
-ghost use Rattle.std.specs.Prelude.{◌≡◌, IfOk, IsUtf8, map};
+ghost use Rattle.std.specs.Prelude.{◌≡◌, IfOk, IsUtf8, map, Ok};
 ghost use Rattle.std.specs.List.{AllByRecursion};
 ghost use Rattle.serde_json.specs.View.{view, items_view};
 ghost use Rattle.json_objects.specs.Bodies.{IsBody, AreBodies};
@@ -7,7 +7,7 @@ ghost use Rattle.json_objects.specs.Reading.{Gives};
 ghost use Rattle.access_rights.specs.Fits.{Fits};
 ghost use Rattle.access_rights.specs.Reading.{rights_of};
 ghost use Rattle.gnap_objects.specs.declared.fault.ObjectFault.TheVariants.{OutOfMemory};
-ghost use Rattle.gnap_objects.specs.Reading.{required, text_of, required_text, required_items, checked_object, has_string, id_of, sized, key_name_of, without_others, under, rights_under, counted_rights, is_too_long};
+ghost use Rattle.gnap_objects.specs.Reading.{required, text_of, required_text, required_items, checked_object, has_string, id_of, sized_text, key_name_of, required_key_name, without_others, under, rights_under, counted_rights, is_too_long};
 
 use crate::fault::ObjectFault;
 use crate::forms::is_id;
@@ -31,29 +31,55 @@ pub fn required<'v>(alloc: Global, value: &'v Value, name: &str) -> Result<&'v V
     }
 }
 
-/// The string that the value is; `Wrong`, with that name, where it is none.
+pub(crate) fn copied(alloc: Global, text: &str) -> Result<Bytes, ObjectFault>
+    ensures value { Gives OutOfMemory (λ b. b) result (Ok text.now) }
+    ensures utf8 { IfOk result IsUtf8 }
+{
+    Ok(Bytes::from_slice(alloc, text.as_bytes())?)
+}
+
+// The text where it stands in the value; `Wrong`, with that name, where the value is no string.
 #[tactic(auto, unfolding(crate::specs::Reading::text_of))]
+fn str_of<'v>(alloc: Global, value: &'v Value, name: &str) -> Result<&'v str, ObjectFault>
+    ensures { Gives OutOfMemory (λ s. s.now) result (text_of name.now (view value.now)) }
+{
+    match value.as_str() {
+        Some(text) => Ok(text),
+        None => Err(ObjectFault::wrong(alloc, name)),
+    }
+}
+
+/// The string that the value is; `Wrong`, with that name, where it is none.
 pub fn text_of(alloc: Global, value: &Value, name: &str) -> Result<Bytes, ObjectFault>
     ensures value { Gives OutOfMemory (λ b. b) result (text_of name.now (view value.now)) }
     ensures utf8 { IfOk result IsUtf8 }
 {
-    let Some(text) = value.as_str() else {
-        return Err(ObjectFault::wrong(alloc, name));
-    };
-    Ok(Bytes::from_slice(alloc, text.as_bytes())?)
+    let text = str_of(alloc, value, name)?;
+    copied(alloc, text)
+}
+
+// The id where it stands in the value.
+#[tactic(auto, unfolding(crate::specs::Reading::id_of, crate::specs::Reading::text_of))]
+pub(crate) fn id_str<'v>(
+    alloc: Global,
+    value: &'v Value,
+    name: &str,
+) -> Result<&'v str, ObjectFault>
+    ensures { Gives OutOfMemory (λ s. s.now) result (id_of name.now (view value.now)) }
+{
+    match value.as_str() {
+        Some(text) if is_id(text.as_bytes()) => Ok(text),
+        _ => Err(ObjectFault::wrong(alloc, name)),
+    }
 }
 
 /// The id that the value is (`forms::is_id`); `Wrong`, with that name, where it is none.
-#[tactic(auto, unfolding(crate::specs::Reading::id_of))]
 pub fn id_of(alloc: Global, value: &Value, name: &str) -> Result<Bytes, ObjectFault>
     ensures value { Gives OutOfMemory (λ b. b) result (id_of name.now (view value.now)) }
     ensures utf8 { IfOk result IsUtf8 }
 {
-    let text = text_of(alloc, value, name)?;
-    if !is_id(text.as_slice()) {
-        return Err(ObjectFault::wrong(alloc, name));
-    }
-    Ok(text)
+    let id = id_str(alloc, value, name)?;
+    copied(alloc, id)
 }
 
 /// The string under the member of that name; `Missing` or `Wrong` where there is none.
@@ -64,6 +90,19 @@ pub fn required_text(alloc: Global, value: &Value, name: &str) -> Result<Bytes, 
 {
     let member = required(alloc, value, name)?;
     text_of(alloc, member, name)
+}
+
+// The text where it stands under the member of that name.
+#[tactic(auto, unfolding(crate::specs::Reading::required_text))]
+pub(crate) fn required_str<'v>(
+    alloc: Global,
+    value: &'v Value,
+    name: &str,
+) -> Result<&'v str, ObjectFault>
+    ensures { Gives OutOfMemory (λ s. s.now) result (required_text name.now (view value.now)) }
+{
+    let member = required(alloc, value, name)?;
+    str_of(alloc, member, name)
 }
 
 /// The array under the member of that name; `Missing` or `Wrong` where there is none.
@@ -116,23 +155,38 @@ pub(crate) fn has_string(
     Ok(found)
 }
 
-// A text of at least one byte, and at most so many.
-pub(crate) fn sized(
+// A text of at least one byte, and at most so many, where it stands in the value.
+#[tactic(auto, unfolding(crate::specs::Reading::text_of))]
+pub(crate) fn sized_str<'v>(
     alloc: Global,
-    text: Bytes,
+    value: &'v Value,
+    most: usize,
+    name: &str,
+) -> Result<&'v str, ObjectFault>
+    ensures { Gives OutOfMemory (λ s. s.now) result (sized_text most name.now (view value.now)) }
+{
+    match value.as_str() {
+        Some(text) if 0 < text.len() => if most < text.len() {
+            Err(ObjectFault::too_many(alloc, name))
+        } else {
+            Ok(text)
+        },
+        _ => Err(ObjectFault::wrong(alloc, name)),
+    }
+}
+
+// A text of at least one byte, and at most so many.
+pub(crate) fn sized_text(
+    alloc: Global,
+    value: &Value,
     most: usize,
     name: &str,
 ) -> Result<Bytes, ObjectFault>
-    ensures value { Gives OutOfMemory (λ s. s) result (sized most name.now text) }
-    ensures same { IfOk result (λ s. s ≡ text) }
+    ensures value { Gives OutOfMemory (λ s. s) result (sized_text most name.now (view value.now)) }
+    ensures utf8 { IfOk result IsUtf8 }
 {
-    if text.len() == 0 {
-        return Err(ObjectFault::wrong(alloc, name));
-    }
-    if most < text.len() {
-        return Err(ObjectFault::too_many(alloc, name));
-    }
-    Ok(text)
+    let text = sized_str(alloc, value, most, name)?;
+    copied(alloc, text)
 }
 
 /// How a request names the key that makes it.
@@ -144,7 +198,7 @@ pub(crate) struct KeyName {
 }
 
 #[tactic(auto, unfolding(crate::specs::Reading::key_name_of))]
-pub(crate) fn key_name_of(alloc: Global, value: &Value, name: &str) -> Result<KeyName, ObjectFault>
+fn key_name_of(alloc: Global, value: &Value, name: &str) -> Result<KeyName, ObjectFault>
     ensures value { Gives OutOfMemory (λ k. k) result (key_name_of name.now (view value.now)) }
     ensures utf8 { IfOk result (λ k. IsUtf8 k.id) }
 {
@@ -162,6 +216,19 @@ pub(crate) fn key_name_of(alloc: Global, value: &Value, name: &str) -> Result<Ke
         id: id_of(alloc, key, "key")?,
         by_object: true,
     })
+}
+
+// How the member of that name names a key.
+pub(crate) fn required_key_name(
+    alloc: Global,
+    value: &Value,
+    name: &str,
+) -> Result<KeyName, ObjectFault>
+    ensures value { Gives OutOfMemory (λ k. k) result (required_key_name name.now (view value.now)) }
+    ensures utf8 { IfOk result (λ k. IsUtf8 k.id) }
+{
+    let key = required(alloc, value, name)?;
+    key_name_of(alloc, key, name)
 }
 
 /// What was read, where the object has no members but those of these names; else `Unknown`, with the name of the first other one.

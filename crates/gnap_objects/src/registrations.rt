@@ -9,9 +9,7 @@ ghost use Rattle.gnap_objects.specs.declared.fault.ObjectFault.TheVariants.{OutO
 ghost use Rattle.gnap_objects.specs.Registrations.{registered_rights_of, registration_of, resolution_of};
 
 use crate::fault::ObjectFault;
-use crate::members::{
-    counted_rights, is_too_long, key_name_of, required, required_text, rights_under,
-};
+use crate::members::{counted_rights, is_too_long, required_key_name, required_text, rights_under};
 use bytes_and_lists::bytes::Bytes;
 use gnap_model::rights::Rights;
 use serde_json::Value;
@@ -49,8 +47,7 @@ pub fn read_registration(alloc: Global, value: &Value) -> Result<Registration, O
     ensures fits { IfOk result (λ r. AllByRecursion Fits r.rights) }
 {
     let rights = registered_rights_of(alloc, value)?;
-    let named = required(alloc, value, "resource_server")?;
-    let server = key_name_of(alloc, named, "resource_server")?;
+    let server = required_key_name(alloc, value, "resource_server")?;
     Ok(Registration {
         server: server.id,
         rights,

@@ -9,7 +9,7 @@ ghost use Rattle.gnap_objects.specs.Setups.{base_of, secret_of, object_in};
 
 use crate::fault::ObjectFault;
 use crate::forms::is_base;
-use crate::members::{required, text_of};
+use crate::members::{copied, required_str};
 use crate::setups::SetupFault;
 use base64::DecodeAllocError;
 use base64::engine::general_purpose::STANDARD;
@@ -32,36 +32,28 @@ pub fn object_of(alloc: Global, text: &[u8]) -> Result<Value, SetupFault>
 
 /// The address of a server that is the member of that name: a scheme, a host, and a port where it isn't the scheme's own (`forms::is_base`).
 /// The first fault: the member is `Missing`, or `Wrong`.
-#[tactic(auto, unfolding(crate::specs::Setups::base_of))]
+#[tactic(auto, unfolding(crate::specs::Setups::base_of, crate::specs::Reading::required_text))]
 pub fn base_of(alloc: Global, value: &Value, name: &str) -> Result<Bytes, ObjectFault>
     ensures value { Gives faults.OutOfMemory (λ s. s) result (base_of name.now (view value.now)) }
     ensures utf8 { IfOk result IsUtf8 }
 {
-    let member = required(alloc, value, name)?;
-    let text = text_of(alloc, member, name)?;
-    if !is_base(text.as_slice()) {
-        return Err(ObjectFault::wrong(alloc, name));
+    let text = required_str(alloc, value, name)?;
+    if is_base(text.as_bytes()) {
+        copied(alloc, text)
+    } else {
+        Err(ObjectFault::wrong(alloc, name))
     }
-    Ok(text)
 }
 
 /// The member `secret`: 16 to 64 bytes, written in base64 with padding and zero last bits (RFC 4648, section 4). The first fault: it is `Missing`, or `Wrong`.
-#[tactic(auto, unfolding(crate::specs::Setups::secret_of, crate::specs::Reading::text_of))]
+#[tactic(auto, unfolding(crate::specs::Setups::secret_of, crate::specs::Reading::required_text))]
 pub fn secret_of(alloc: Global, value: &Value) -> Result<Bytes, ObjectFault>
     ensures { Gives faults.OutOfMemory (λ s. s) result (secret_of (view value.now)) }
 {
-    let member = required(alloc, value, "secret")?;
-    let Some(text) = member.as_str() else {
-        return Err(ObjectFault::wrong(alloc, "secret"));
-    };
-    let secret = match STANDARD.decode(alloc, text.as_bytes()) {
-        Ok(secret) => Bytes::from_vec(secret),
-        Err(DecodeAllocError::OutOfMemory) => return Err(ObjectFault::OutOfMemory),
-        Err(DecodeAllocError::DecodeError(_)) => return Err(ObjectFault::wrong(alloc, "secret")),
-    };
-    if 16 <= secret.len() && secret.len() <= 64 {
-        Ok(secret)
-    } else {
-        Err(ObjectFault::wrong(alloc, "secret"))
+    let text = required_str(alloc, value, "secret")?;
+    match STANDARD.decode(alloc, text.as_bytes()) {
+        Ok(secret) if 16 <= secret.len() && secret.len() <= 64 => Ok(Bytes::from_vec(secret)),
+        Err(DecodeAllocError::OutOfMemory) => Err(ObjectFault::OutOfMemory),
+        _ => Err(ObjectFault::wrong(alloc, "secret")),
     }
 }

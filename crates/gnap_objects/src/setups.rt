@@ -11,10 +11,12 @@ ghost use Rattle.gnap_objects.specs.declared.fault.ObjectFault.TheVariants as fa
 ghost use Rattle.gnap_objects.specs.declared.setups.SetupFault.TheVariants.{OutOfMemory};
 ghost use Rattle.gnap_objects.specs.Fits.{KeyFits, SetupFits};
 ghost use Rattle.gnap_objects.specs.Reading.{text_of, without_others};
-ghost use Rattle.gnap_objects.specs.Setups.{has_id, key_id_of, role_of, client_rights, names_of, server_names, key_members, key_row_of, setup_fault, keys_from, keys_of, setup_of, IsSetup};
+ghost use Rattle.gnap_objects.specs.Setups.{has_id, key_id_of, role_of, client_rights, names_of, server_names, key_members, key_row_of, setup_fault, keys_from, keys_of, setup_in, setup_of, IsSetup};
 
 use crate::fault::ObjectFault;
-use crate::members::{id_of, required, required_items, rights_under, text_of, without_others};
+use crate::members::{
+    copied, id_str, required, required_items, required_str, rights_under, text_of, without_others,
+};
 use crate::setup_members::{base_of, object_of, secret_of};
 use bytes_and_lists::bytes::Bytes;
 use bytes_and_lists::memory::Mem;
@@ -88,23 +90,22 @@ fn key_id_of(
     ensures utf8 { IfOk result IsUtf8 }
 {
     let member = required(alloc, value, "id")?;
-    let id = id_of(alloc, member, "id")?;
-    let text = unsafe { str::from_utf8_unchecked(id.as_slice()) };
-    if !ids.insert(alloc, text)? {
-        return Err(ObjectFault::wrong(alloc, "id"));
+    let id = id_str(alloc, member, "id")?;
+    if ids.insert(alloc, id)? {
+        copied(alloc, id)
+    } else {
+        Err(ObjectFault::wrong(alloc, "id"))
     }
-    Ok(id)
 }
 
-#[tactic(auto, unfolding(crate::specs::Setups::role_of, crate::specs::Reading::text_of))]
+#[tactic(auto, unfolding(crate::specs::Setups::role_of, crate::specs::Reading::required_text))]
 fn role_of(alloc: Global, value: &Value) -> Result<Role, ObjectFault>
     ensures { Gives faults.OutOfMemory (λ r. r) result (role_of (view value.now)) }
 {
-    let member = required(alloc, value, "role")?;
-    match member.as_str() {
-        Some("client") => Ok(Role::Client),
-        Some("server") => Ok(Role::Server),
-        Some("front") => Ok(Role::Front),
+    match required_str(alloc, value, "role")? {
+        "client" => Ok(Role::Client),
+        "server" => Ok(Role::Server),
+        "front" => Ok(Role::Front),
         _ => Err(ObjectFault::wrong(alloc, "role")),
     }
 }
@@ -238,17 +239,25 @@ fn keys_of(alloc: Global, value: &Value) -> Result<KeyRows, SetupFault>
     Ok(KeyRows::new(alloc, keys)?)
 }
 
+fn setup_in(alloc: Global, value: &Value) -> Result<Setup, SetupFault>
+    requires { IsBody (view value.now) }
+    ensures value { Gives OutOfMemory (λ s. s) result (setup_in (view value.now)) }
+    ensures fits { IfOk result SetupFits }
+{
+    let base = base_of(alloc, value, "base")?;
+    let front = base_of(alloc, value, "front")?;
+    let keys = keys_of(alloc, value)?;
+    let setup = Setup { base, front, keys };
+    Ok(without_others(alloc, value, &["base", "front", "keys"], setup)?)
+}
+
 #[tactic(auto, unfolding(crate::specs::Setups::setup_of))]
 fn setup_of(alloc: Global, text: &[u8]) -> Result<Setup, SetupFault>
     ensures value { Gives OutOfMemory (λ s. s) result (setup_of text.now) }
     ensures fits { IfOk result SetupFits }
 {
     let value = object_of(alloc, text)?;
-    let base = base_of(alloc, &value, "base")?;
-    let front = base_of(alloc, &value, "front")?;
-    let keys = keys_of(alloc, &value)?;
-    let setup = Setup { base, front, keys };
-    Ok(without_others(alloc, &value, &["base", "front", "keys"], setup)?)
+    setup_in(alloc, &value)
 }
 
 /// The setup of the authorization server that the bytes are.

@@ -13,7 +13,7 @@ ghost use Rattle.gnap_objects.specs.Fits.{AskFits};
 ghost use Rattle.gnap_objects.specs.TokenRequests.{access_of, has_label, label_of, flags_from, flags_of, token_request_of, token_requests_from, single_request, token_requests_of};
 
 use crate::fault::ObjectFault;
-use crate::members::{counted_rights, rights_under, sized, text_of};
+use crate::members::{copied, counted_rights, rights_under, sized_str};
 use bytes_and_lists::bytes::Bytes;
 use bytes_and_lists::seq::Seq;
 use gnap_model::objects::{Ask, Asks};
@@ -75,12 +75,11 @@ fn label_of(
         }
         return Ok(None);
     };
-    let label = sized(alloc, text_of(alloc, member, "label")?, 64, "label")?;
-    let text = unsafe { str::from_utf8_unchecked(label.as_slice()) };
-    if !labels.insert(alloc, text)? {
+    let label = sized_str(alloc, member, 64, "label")?;
+    if !labels.insert(alloc, label)? {
         return Err(ObjectFault::wrong(alloc, "label"));
     }
-    Ok(Some(label))
+    Ok(Some(copied(alloc, label)?))
 }
 
 #[tactic(auto, unfolding(crate::specs::Reading::text_of))]

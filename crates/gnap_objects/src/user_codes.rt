@@ -8,7 +8,7 @@ ghost use Rattle.gnap_objects.specs.declared.fault.ObjectFault.TheVariants.{OutO
 ghost use Rattle.gnap_objects.specs.UserCodes.{is_code_letter, is_gap, letters_of, user_code_of};
 
 use crate::fault::ObjectFault;
-use crate::members::required;
+use crate::members::required_str;
 use arrayvec::ArrayVec;
 use serde_json::Value;
 use std::alloc::Global;
@@ -49,14 +49,11 @@ fn eight_letters(typed: &[u8]) -> Option<[u8; 8]>
 
 /// The user code under `code`, a string: 8 of the letters `BCDFGHJKLMNPQRSTVWXZ`, in upper or lower case, with any number of hyphens and spaces among
 /// them (RFC 9635, section 3.3.3). It is given in upper case and without those. Other members are not looked at.
-#[tactic(auto, unfolding(crate::specs::UserCodes::user_code_of, crate::specs::Reading::required_text, crate::specs::Reading::text_of))]
+#[tactic(auto, unfolding(crate::specs::UserCodes::user_code_of))]
 pub fn read_code(alloc: Global, value: &Value) -> Result<[u8; 8], ObjectFault>
     ensures { Gives OutOfMemory (λ c. c) result (user_code_of (view value.now)) }
 {
-    let member = required(alloc, value, "code")?;
-    let Some(typed) = member.as_str() else {
-        return Err(ObjectFault::wrong(alloc, "code"));
-    };
+    let typed = required_str(alloc, value, "code")?;
     match eight_letters(typed.as_bytes()) {
         Some(code) if all_code_letters(code.as_slice()) => Ok(code),
         _ => Err(ObjectFault::wrong(alloc, "code")),

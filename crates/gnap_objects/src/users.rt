@@ -7,7 +7,7 @@ ghost use Rattle.gnap_objects.specs.declared.fault.ObjectFault.TheVariants.{OutO
 ghost use Rattle.gnap_objects.specs.Users.{subject_request_of, is_opaque, first_opaque, identified_user, user_in, user_of};
 
 use crate::fault::ObjectFault;
-use crate::members::{checked_object, has_string, required_items, required_text, sized};
+use crate::members::{checked_object, has_string, required, required_items, sized_text};
 use bytes_and_lists::bytes::Bytes;
 use json_objects::member;
 use serde_json::Value;
@@ -49,7 +49,7 @@ fn first_opaque(identifiers: &Vec<Value>) -> Option<&Value>
     None
 }
 
-#[tactic(auto, unfolding(crate::specs::Users::identified_user))]
+#[tactic(auto, unfolding(crate::specs::Users::identified_user, crate::specs::Reading::required_text))]
 fn identified_user(alloc: Global, user: &Value) -> Result<Bytes, ObjectFault>
     ensures value { Gives OutOfMemory (λ b. b) result (identified_user (view user.now)) }
     ensures utf8 { IfOk result IsUtf8 }
@@ -59,12 +59,12 @@ fn identified_user(alloc: Global, user: &Value) -> Result<Bytes, ObjectFault>
     let Some(identifier) = first_opaque(identifiers) else {
         return Err(ObjectFault::wrong(alloc, "sub_ids"));
     };
-    let id = required_text(alloc, identifier, "id")?;
-    sized(alloc, id, 256, "id")
+    let id = required(alloc, identifier, "id")?;
+    sized_text(alloc, id, 256, "id")
 }
 
 /// The opaque identifier of the user that the client believes to be there, under `user`.
-#[tactic(auto, unfolding(crate::specs::Users::user_of))]
+#[tactic(auto, unfolding(crate::specs::Users::user_of, crate::specs::Reading::text_of))]
 pub(crate) fn user_of(alloc: Global, value: &Value) -> Result<Option<Bytes>, ObjectFault>
     ensures value { Gives OutOfMemory (λ u. u) result (user_of (view value.now)) }
     ensures utf8 { IfOk result IsUtf8Or }
@@ -72,9 +72,10 @@ pub(crate) fn user_of(alloc: Global, value: &Value) -> Result<Option<Bytes>, Obj
     let Some(user) = member(value, "user") else {
         return Ok(None);
     };
-    let Some(text) = user.as_str() else {
-        return Ok(Some(identified_user(alloc, user)?));
+    let id = if user.is_string() {
+        sized_text(alloc, user, 256, "user")
+    } else {
+        identified_user(alloc, user)
     };
-    let text = Bytes::from_slice(alloc, text.as_bytes())?;
-    Ok(Some(sized(alloc, text, 256, "user")?))
+    Ok(Some(id?))
 }
