@@ -24,6 +24,10 @@ written_option written (Some x) = 1 ∷ written x
 abbrev pub written_list : {X : Type 0} → (X → List ℕ) → List X → List ℕ
 written_list written xs = written_length (length xs) ++ flat_map written xs
 
+-- two, one after the other
+abbrev pub written_two : {X Y : Type 0} → (X → List ℕ) → (Y → List ℕ) → X × Y → List ℕ
+written_two one other xy = one xy.0 ++ other xy.1
+
 abbrev pub written_bool : Bool → List ℕ
 written_bool false = 0 ∷ []
 written_bool true = 1 ∷ []

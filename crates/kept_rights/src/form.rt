@@ -1,6 +1,6 @@
 //! What has a written form: texts, options and lists of what has one.
 ghost use Rattle.std.specs.Prelude.{◌≡◌, ℕ, List, ◌++◌, IfOk, OnOk};
-ghost use Rattle.kept_rights.specs.Reading.{two_at, items_at};
+ghost use Rattle.kept_rights.specs.Reading.{items_at};
 
 use crate::lengths::{byte_of, length_of, put_length};
 use bytes_and_lists::bytes::Bytes;
@@ -99,12 +99,24 @@ impl<T: Form> Form for Seq<T> {
 }
 
 // Two, one after the other.
-pub(crate) fn two_of<A: Form, B: Form>(alloc: Global, bytes: &[u8]) -> Result<((A, B), &[u8]), Mem>
-    ensures { IfOk result (λ x. (x.0, x.1.now) ≡ two_at A.read_at B.read_at bytes.now) }
-{
-    let (one, rest) = A::read(alloc, bytes)?;
-    let (other, rest) = B::read(alloc, rest)?;
-    Ok(((one, other), rest))
+impl<A: Form, B: Form> Form for (A, B) {
+    ghost use Rattle.kept_rights.specs.Written.{written_two};
+    ghost use Rattle.kept_rights.specs.Reading.{two_at};
+
+    ghost written = { written_two A.written B.written };
+
+    ghost read_at = { two_at A.read_at B.read_at };
+
+    fn put(&self, bytes: &mut Bytes) -> Result<(), Mem> {
+        self.0.put(bytes)?;
+        self.1.put(bytes)
+    }
+
+    fn read(alloc: Global, bytes: &[u8]) -> Result<((A, B), &[u8]), Mem> {
+        let (one, rest) = A::read(alloc, bytes)?;
+        let (other, rest) = B::read(alloc, rest)?;
+        Ok(((one, other), rest))
+    }
 }
 
 // This many items.

@@ -1,5 +1,5 @@
 //! The written forms of rights and asks, member by member.
-use crate::form::{Form, two_of};
+use crate::form::Form;
 use crate::lengths::byte_of;
 use bytes_and_lists::bytes::Bytes;
 use bytes_and_lists::memory::Mem;
@@ -29,6 +29,12 @@ impl Form for bool {
     }
 }
 
+// The members of a right in full, in order.
+type ObjectMembers = (
+    (Bytes, (Option<Texts>, Option<Texts>)),
+    ((Option<Texts>, Option<Texts>), (Option<Bytes>, Bytes)),
+);
+
 impl Form for RightObject {
     ghost use Rattle.kept_rights.specs.Written.{written_object};
     ghost use Rattle.kept_rights.specs.Reading.{object_at};
@@ -50,10 +56,9 @@ impl Form for RightObject {
 
     #[tactic(auto, unfolding(crate::specs::Reading::object_at))]
     fn read(alloc: Global, bytes: &[u8]) -> Result<(RightObject, &[u8]), Mem> {
-        let (kind, bytes) = Bytes::read(alloc, bytes)?;
-        let ((actions, locations), bytes) = two_of(alloc, bytes)?;
-        let ((datatypes, privileges), bytes) = two_of(alloc, bytes)?;
-        let ((identifier, further), bytes) = two_of(alloc, bytes)?;
+        let (members, bytes) = ObjectMembers::read(alloc, bytes)?;
+        let ((kind, (actions, locations)), ((datatypes, privileges), (identifier, further))) =
+            members;
         let object = RightObject {
             kind,
             actions,
@@ -117,8 +122,9 @@ impl Form for Ask {
 
     #[tactic(auto, unfolding(crate::specs::Reading::ask_at))]
     fn read(alloc: Global, bytes: &[u8]) -> Result<(Ask, &[u8]), Mem> {
-        let (label, bytes) = Option::<Bytes>::read(alloc, bytes)?;
-        let ((rights, bearer), bytes) = two_of(alloc, bytes)?;
+        let ((label, (rights, bearer)), bytes) = <(Option<Bytes>, (Rights, bool))>::read(
+            alloc, bytes,
+        )?;
         let ask = Ask {
             label,
             rights,
