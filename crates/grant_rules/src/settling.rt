@@ -2,7 +2,7 @@
 ghost use Rattle.std.specs.Prelude.{◌≡◌, ◌++◌, IfOk};
 ghost use Rattle.gnap_model.specs.Rights.{covers as rights_cover};
 ghost use Rattle.gnap_model.specs.Asked.{asked_rights, has_start as can_start};
-ghost use Rattle.gnap_model.specs.Judging.{settle as settled_by};
+ghost use Rattle.gnap_model.specs.Judging.{settle as settled_by, settle_by};
 ghost use Rattle.grant_rules.specs.Courses.{settled};
 
 use crate::keys::rights_of_client;
@@ -14,7 +14,7 @@ use gnap_model::rights::Rights;
 use std::alloc::Global;
 
 /// What is done with a request.
-#[derive(Clone, Copy, Debug, PartialEq, Eq)]
+#[derive(Clone, Copy)]
 pub enum Course {
     /// The tokens are issued at once.
     AtOnce,
@@ -65,6 +65,30 @@ fn has_start(modes: &Option<Modes>) -> bool
     }
 }
 
+// Settles a request by the rights that come at once, those for which the user is asked, and those to which the user agreed.
+fn settle_by(
+    auto: &Rights,
+    ask: &Rights,
+    consent: &Rights,
+    request: &GrantRequest,
+) -> Result<Course, Mem>
+    ensures { IfOk result (λ s. settled s ≡ settle_by auto.now ask.now consent.now request.now) }
+{
+    let asks = request.asks.as_slice();
+    if !request.subject && cover_asks(auto, consent, asks)? {
+        return Ok(Course::AtOnce);
+    }
+    if !has_start(&request.modes) {
+        return Ok(Course::Never);
+    }
+    let more = joined(consent, ask)?;
+    if cover_asks(auto, &more, asks)? {
+        Ok(Course::ByAsking)
+    } else {
+        Ok(Course::Never)
+    }
+}
+
 /// Settles a request of the client with this key, to whose grant the user agreed so far with these rights.
 pub fn settle(
     alloc: Global,
@@ -77,17 +101,5 @@ pub fn settle(
 {
     let none = Seq::new(alloc);
     let rights = rights_of_client(setup, key, &none);
-    let asks = request.asks.as_slice();
-    if !request.subject && cover_asks(rights.auto, consent, asks)? {
-        return Ok(Course::AtOnce);
-    }
-    if !has_start(&request.modes) {
-        return Ok(Course::Never);
-    }
-    let more = joined(consent, rights.ask)?;
-    if cover_asks(rights.auto, &more, asks)? {
-        Ok(Course::ByAsking)
-    } else {
-        Ok(Course::Never)
-    }
+    settle_by(rights.auto, rights.ask, consent, request)
 }
