@@ -12,8 +12,10 @@ use crate::link::Link;
 use crate::real_gear::RealGear;
 use crate::real_link::RealLink;
 use crate::shared_listener::SharedListener;
-use crate::standard_error::{tell_address, tell_no_entropy, tell_no_text, tell_unopened};
-use crate::world::{Opening, World, WorldFault};
+use crate::standard_error::{
+    tell_address, tell_listening, tell_no_entropy, tell_no_text, tell_unopened,
+};
+use crate::world::{Opening, World, WorldFault, failed, name_to_keep};
 use bytes_and_lists::bytes::Bytes;
 use bytes_and_lists::memory::Duplicate;
 use http_server::Log;
@@ -104,16 +106,16 @@ impl<
     ghost gives_quota = { true };
 
     fn open_file(&mut self, name: &Bytes) -> Result<Stream<R::File>, WorldFault> {
-        let Ok(file) = opened_file(self.rt, name) else {
-            self.faults = self.faults.saturating_add(1);
-            return Err(WorldFault::Failed);
-        };
-        let Ok(name) = name.copy() else {
-            return Err(WorldFault::OutOfMemory);
-        };
-        if self.lent == usize::MAX || self.opened.push(Opening::File(name)).is_err() {
+        if self.lent == usize::MAX {
             return Err(WorldFault::OutOfMemory);
         }
+        let Some(kept) = name_to_keep(&mut self.opened, name) else {
+            return Err(WorldFault::OutOfMemory);
+        };
+        let Ok(file) = opened_file(self.rt, name) else {
+            return Err(failed(&mut self.faults));
+        };
+        self.opened.push_reserved(Opening::File(kept));
         self.lent += 1;
         Ok(file)
     }
@@ -129,21 +131,16 @@ impl<
         n: usize,
         quota: u32,
     ) -> Result<Vec<RealGear<'a, R>>, WorldFault> {
+        let Some(name) = name_to_keep(&mut self.opened, address) else {
+            return Err(WorldFault::OutOfMemory);
+        };
         match started(self.rt, self.alloc, address, n, quota) {
-            Err(WorldFault::Failed) => {
-                self.faults = self.faults.saturating_add(1);
-                Err(WorldFault::Failed)
-            }
-            Err(WorldFault::OutOfMemory) => Err(WorldFault::OutOfMemory),
             Ok(gears) => {
-                let Ok(name) = address.copy() else {
-                    return Err(WorldFault::OutOfMemory);
-                };
-                if self.opened.push(Opening::Gears(name, n, quota)).is_err() {
-                    return Err(WorldFault::OutOfMemory);
-                }
+                self.opened.push_reserved(Opening::Gears(name, n, quota));
                 Ok(gears)
             }
+            Err(WorldFault::Failed) => Err(failed(&mut self.faults)),
+            Err(WorldFault::OutOfMemory) => Err(WorldFault::OutOfMemory),
         }
     }
 
@@ -165,12 +162,13 @@ impl<
     }
 
     fn open_link(&mut self, address: &Bytes) -> Result<RealLink<'a, R>, WorldFault> {
-        let (Ok(name), Ok(kept)) = (address.copy(), address.copy()) else {
+        let Some(name) = name_to_keep(&mut self.opened, address) else {
             return Err(WorldFault::OutOfMemory);
         };
-        if self.opened.push(Opening::Link(name)).is_err() {
+        let Ok(kept) = address.copy() else {
             return Err(WorldFault::OutOfMemory);
-        }
+        };
+        self.opened.push_reserved(Opening::Link(name));
         Ok(RealLink::new(self.rt, self.alloc, kept))
     }
 
@@ -197,20 +195,24 @@ fn opened_file<R: Files + Eprint>(rt: &R, name: &Bytes) -> Result<Stream<R::File
     }
 }
 
-// A listener at this address. A fault is told.
+// A listener at this address, for workers to share. A fault is told.
 fn listening<R: Net<Listener = TcpListener, Stream = TcpStream> + Eprint>(
     rt: &R,
+    alloc: Global,
     address: &Bytes,
-) -> Result<SharedListener, Failed> {
+) -> Result<Arc<SharedListener, Global>, WorldFault> {
     let Ok(address) = str::from_utf8(address.as_slice()) else {
         tell_no_text(rt);
-        return Err(Failed);
+        return Err(WorldFault::Failed);
     };
     match TcpListener::bind(rt, address) {
-        Ok(listener) => Ok(SharedListener::new(listener)),
+        Ok(listener) => match Arc::new(alloc, SharedListener::new(listener)) {
+            Ok(shared) => Ok(shared),
+            Err(_) => Err(WorldFault::OutOfMemory),
+        },
         Err(error) => {
             tell_address(rt, address, &error);
-            Err(Failed)
+            Err(WorldFault::Failed)
         }
     }
 }
@@ -235,18 +237,9 @@ fn started<'a, R: Net<Listener = TcpListener, Stream = TcpStream> + Clock + Rand
     let Ok(room) = Vec::with_capacity(alloc, n) else {
         return Err(WorldFault::OutOfMemory);
     };
-    let Ok(listener) = listening(rt, address) else {
-        return Err(WorldFault::Failed);
-    };
-    let Ok(shared) = Arc::new(alloc, listener) else {
-        return Err(WorldFault::OutOfMemory);
-    };
+    let shared = listening(rt, alloc, address)?;
     let gears = fill_gears(rt, &shared, seed, n, quota, room)?;
-    if let Ok(bound) = shared.address() {
-        let _ = eprintln!(rt;
-            "gnap: listens at {bound} with {n} workers, each for {quota} connections"
-        );
-    }
+    tell_listening(rt, &shared, n, quota);
     Ok(gears)
 }
 

@@ -1,40 +1,59 @@
 //! What the system's adapters tell a person, each in a line on standard error. Whether it is written changes nothing else, and no clause speaks
 //! of it. Nothing that came from a peer stands in it.
+use crate::shared_listener::SharedListener;
 use std::io;
 use std::io::ErrorKind;
 
+// A line on what has a name, and the cause at its end where the words before don't tell it.
+fn tell(err: &impl Eprint, before: &str, name: &str, after: &str, cause: Option<&io::Error>) {
+    let _ = match cause {
+        Some(error) => eprintln!(err; "gnap: {before}`{name}`{after}: {error}"),
+        None => eprintln!(err; "gnap: {before}`{name}`{after}"),
+    };
+}
+
 /// Why a file can't be opened.
 pub(crate) fn tell_unopened(err: &impl Eprint, path: &str, error: &io::Error) {
-    let _ = match error.kind() {
-        ErrorKind::NotFound => eprintln!(err; "gnap: there is no file `{path}`"),
-        ErrorKind::PermissionDenied => {
-            eprintln!(err; "gnap: the file `{path}` may not be read by this user")
-        }
-        _ => eprintln!(err; "gnap: the file `{path}` can't be opened: {error}"),
+    let (before, after, cause) = match error.kind() {
+        ErrorKind::NotFound => ("there is no file ", "", None),
+        ErrorKind::PermissionDenied => ("the file ", " may not be read by this user", None),
+        _ => ("the file ", " can't be opened", Some(error)),
     };
+    tell(err, before, path, after, cause);
 }
 
 /// Why nothing listens at an address, or why it can't be reached.
 pub(crate) fn tell_address(err: &impl Eprint, address: &str, error: &io::Error) {
     // What std finds itself, in the text or in a look-up, has no number of the system's.
     let is_of_system = error.raw_os_error().is_some();
-    let _ = match error.kind() {
-        ErrorKind::InvalidInput if !is_of_system => {
-            eprintln!(err; "gnap: `{address}` isn't of the form HOST:PORT")
-        }
+    let (before, after, cause) = match error.kind() {
+        ErrorKind::InvalidInput if !is_of_system => ("", " isn't of the form HOST:PORT", None),
         ErrorKind::Uncategorized if !is_of_system => {
-            eprintln!(err; "gnap: the host of `{address}` isn't found: {error}")
+            ("the host of ", " isn't found", Some(error))
         }
-        ErrorKind::AddrInUse => eprintln!(err; "gnap: the port of `{address}` is in use"),
-        ErrorKind::AddrNotAvailable => {
-            eprintln!(err; "gnap: `{address}` is no address of this machine")
-        }
+        ErrorKind::AddrInUse => ("the port of ", " is in use", None),
+        ErrorKind::AddrNotAvailable => ("", " is no address of this machine", None),
         ErrorKind::PermissionDenied => {
-            eprintln!(err; "gnap: this user isn't permitted to use the port of `{address}`")
+            ("this user isn't permitted to use the port of ", "", None)
         }
-        ErrorKind::ConnectionRefused => eprintln!(err; "gnap: nothing listens at `{address}`"),
-        _ => eprintln!(err; "gnap: the address `{address}` can't be used: {error}"),
+        ErrorKind::ConnectionRefused => ("nothing listens at ", "", None),
+        _ => ("the address ", " can't be used", Some(error)),
     };
+    tell(err, before, address, after, cause);
+}
+
+/// Where workers listen, and how many.
+pub(crate) fn tell_listening(
+    err: &impl Eprint,
+    listener: &SharedListener,
+    workers: usize,
+    quota: u32,
+) {
+    if let Ok(bound) = listener.address() {
+        let _ = eprintln!(err;
+            "gnap: listens at {bound} with {workers} workers, each for {quota} connections"
+        );
+    }
 }
 
 /// That a word is no text.

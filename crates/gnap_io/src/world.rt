@@ -1,6 +1,6 @@
 //! The world, which hands files, gears and links out and takes them back.
-ghost use Rattle.std.specs.Prelude.{◌≡◌, ℕ, ◌<◌, List, Option, Bool, true, MatchResult, IfOk, map};
-ghost use Rattle.gnap_io.specs.Outside.{untouched, served_of};
+ghost use Rattle.std.specs.Prelude.{◌≡◌, ℕ, ◌<◌, List, Option, Bool, true, MatchResult, IfOk, IfSome, map, vec_len, vec_capacity};
+ghost use Rattle.gnap_io.specs.Outside.{untouched, served_of, one_more};
 ghost use Rattle.gnap_io.specs.Gears.{AreStarted, AreFull};
 ghost use Rattle.gnap_io.specs.Links.{new_link};
 ghost use Rattle.gnap_io.specs.Worlds.{WorldState, HasWorldCause, with_opened, with_returned, with_opening, with_gears, with_link};
@@ -9,6 +9,7 @@ use crate::device::Source;
 use crate::gear::Gear;
 use crate::link::Link;
 use bytes_and_lists::bytes::Bytes;
+use bytes_and_lists::memory::Duplicate;
 use thiserror::Error;
 
 /// Why the world handed nothing out.
@@ -101,4 +102,24 @@ pub trait World {
     fn close_link(&mut self, link: Self::Link)
         ensures text { text self.new ≡ text self.old }
         ensures state { state self.new ≡ with_link (Self.Link.link link) (state self.old) };
+}
+
+// A copy of the name, where there is memory for it and for one more opening.
+pub(crate) fn name_to_keep(opened: &mut Vec<Opening>, name: &Bytes) -> Option<Bytes>
+    ensures items { opened.new.items ≡ opened.old.items }
+    ensures room { IfSome result (λ copy. (copy ≡ name.now) × (vec_len opened.new < vec_capacity opened.new)) }
+{
+    if opened.reserve(1).is_err() {
+        return None;
+    }
+    name.copy().ok()
+}
+
+// Counts a fault.
+pub(crate) fn failed(faults: &mut u64) -> WorldFault
+    ensures fault { result ≡ WorldFault.Failed }
+    ensures counted { faults.new ≡ one_more faults.old }
+{
+    *faults = faults.saturating_add(1);
+    WorldFault::Failed
 }
