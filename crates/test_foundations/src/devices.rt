@@ -5,7 +5,6 @@ ghost use Rattle.gnap_io.specs.MemoryForms.{IsUnusedConn, gear_state};
 
 use bytes_and_lists::bytes::Bytes;
 use bytes_and_lists::memory::{Duplicate, Mem};
-use bytes_and_lists::message::{Field, Message};
 use bytes_and_lists::seq::Seq;
 use gnap_io::adapters::Stream;
 use gnap_io::device::{Failed, Sink, Source, write_all};
@@ -130,15 +129,6 @@ fn written(alloc: Global) -> Result<bool, Mem> {
     Ok(first && second && third == Ok(2) && fourth && out.written() == b"abcde".as_slice())
 }
 
-fn host_field(alloc: Global) -> Result<Seq<Field>, Mem> {
-    let mut fields = Seq::new(alloc);
-    fields.push(Field {
-        name: Bytes::from_slice(alloc, b"host")?,
-        value: Bytes::from_slice(alloc, b"as.example")?,
-    })?;
-    Ok(fields)
-}
-
 fn braces(alloc: Global) -> Result<Bytes, Mem> {
     let mut body = Bytes::new(alloc);
     body.push(b'{')?;
@@ -147,20 +137,13 @@ fn braces(alloc: Global) -> Result<Bytes, Mem> {
 }
 
 fn copied(alloc: Global) -> Result<bool, Mem> {
-    let message = Message {
-        method: Bytes::from_slice(alloc, b"POST")?,
-        target: Bytes::from_slice(alloc, b"/gnap")?,
-        fields: host_field(alloc)?,
-        body: braces(alloc)?,
-        last: true,
-    };
-    let again = message.copy()?;
+    let mut list = Seq::new(alloc);
+    list.push(braces(alloc)?)?;
+    let again = list.copy()?;
     Ok(
-        again.fields.len() == 1
-            && again.fields.at(0).value.as_slice() == b"as.example".as_slice()
-            && again.body.as_slice() == b"{}".as_slice()
-            && *again.body.at(1) == b'}'
-            && again.last,
+        again.len() == 1
+            && again.at(0).as_slice() == b"{}".as_slice()
+            && *again.at(0).at(1) == b'}',
     )
 }
 
