@@ -27,7 +27,7 @@ use serde_json::Value;
 use std::alloc::Global;
 
 /// The calls that keys make.
-#[derive(Clone, Copy, Debug, PartialEq, Eq)]
+#[derive(Clone, Copy)]
 pub enum CallKind {
     /// A grant request of a client (RFC 9635, section 2).
     Begin,
