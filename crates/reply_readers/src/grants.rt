@@ -24,11 +24,16 @@ use std::alloc::Global;
 fn continue_of(value: &Value) -> Option<&str>
     ensures { Tells (λ v. v.now) result (continue_of (view value.now)) }
 {
-    let continuation = member(value, "continue")?;
-    let token = member(continuation, "access_token")?;
-    let _uri = needed_str(continuation, "uri")?;
-    let _wait = needed_number(continuation, "wait")?;
-    checked_value(needed_str(token, "value")?)
+    if let Some(continuation) = member(value, "continue")
+        && let Some(token) = member(continuation, "access_token")
+        && let Some(_) = needed_str(continuation, "uri")
+        && let Some(_) = needed_number(continuation, "wait")
+        && let Some(text) = needed_str(token, "value")
+    {
+        checked_value(text)
+    } else {
+        None
+    }
 }
 
 #[tactic(auto, using(crate::proofs::Arrays::not_alone))]
@@ -87,21 +92,30 @@ fn code_uri_of(value: &Value) -> Option<Option<(&str, &str)>>
 }
 
 // The code, alone or with the URI, and the URI.
-fn code_parts(
-    alloc: Global,
-    alone: Option<&str>,
-    both: Option<(&str, &str)>,
-) -> Result<(Option<Bytes>, Option<Bytes>), Mem>
-    ensures code { IfOk result (λ r. r.0 ≡ code_of (option_map (λ s. s.now) alone.entry) (option_map (λ v. (v.0.now, v.1.now)) both.entry)) }
-    ensures uri { IfOk result (λ r. r.1 ≡ uri_of (option_map (λ v. (v.0.now, v.1.now)) both.entry)) }
+fn code_parts<'v>(
+    alone: Option<&'v str>,
+    both: Option<(&'v str, &'v str)>,
+) -> (Option<&'v str>, Option<&'v str>)
+    ensures code { option_map (λ s. s.now) result.0 ≡ code_of (option_map (λ s. s.now) alone.entry) (option_map (λ v. (v.0.now, v.1.now)) both.entry) }
+    ensures uri { option_map (λ s. s.now) result.1 ≡ uri_of (option_map (λ v. (v.0.now, v.1.now)) both.entry) }
 {
     match both {
-        None => Ok((optional_copied(alloc, alone)?, None)),
-        Some((code, uri)) => {
-            let code = copied(alloc, code)?;
-            Ok((Some(code), Some(copied(alloc, uri)?)))
-        }
+        None => (alone, None),
+        Some((code, uri)) => (Some(code), Some(uri)),
     }
+}
+
+fn both_copied(
+    alloc: Global,
+    first: Option<&str>,
+    second: Option<&str>,
+) -> Result<(Option<Bytes>, Option<Bytes>), Mem>
+    ensures first { IfOk result (λ r. r.0 ≡ option_map (λ s. s.now) first.entry) }
+    ensures second { IfOk result (λ r. r.1 ≡ option_map (λ s. s.now) second.entry) }
+{
+    let first = optional_copied(alloc, first)?;
+    let second = optional_copied(alloc, second)?;
+    Ok((first, second))
 }
 
 #[tactic(auto, unfolding(crate::specs::Grants::interaction_of))]
@@ -123,9 +137,9 @@ fn interaction_of(alloc: Global, value: &Value) -> Result<Interaction, FormFault
     let Some(both) = code_uri_of(value) else {
         return Err(FormFault::NotOfForm);
     };
-    let nonce = optional_copied(alloc, nonce)?;
-    let redirect = optional_copied(alloc, redirect)?;
-    let (user_code, user_code_uri) = code_parts(alloc, alone, both)?;
+    let (code, uri) = code_parts(alone, both);
+    let (user_code, user_code_uri) = both_copied(alloc, code, uri)?;
+    let (redirect, nonce) = both_copied(alloc, redirect, nonce)?;
     Ok(Interaction {
         redirect,
         user_code,
