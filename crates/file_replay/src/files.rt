@@ -44,7 +44,9 @@ fn replay_after<S: Source, O: Sink>(
         return Ended::Memory;
     };
     let mut desk = table_desk(alloc, rules);
-    replay_lines(alloc, &setup, &mut desk, reader, source, out)
+    let ended = replay_lines(alloc, &setup, &mut desk, reader, source, out);
+    drop(desk);
+    ended
 }
 
 // A setup without further lines.
