@@ -1,10 +1,10 @@
 -- What serving at an address leaves behind where tokens are derived.
 use Rattle.std.proofs.Common.{◌≡◌, ℕ, suc, ◌*◌, ◌^◌, ◌≤◌, List, [], ◌∷◌, length, length-append, sym, subst, arith}
 use Rattle.std.specs.Prelude.{Bool, Result}
-use Rattle.gnap_io.specs.Outside.{Served}
-use Rattle.gnap_io.specs.Gears.{GearState}
-use Rattle.gnap_io.specs.Worlds.{WorldState}
-use Rattle.gnap_io.specs.declared.world.WorldFault.{WorldFault}
+use Rattle.outside.specs.Outside.{Served}
+use Rattle.outside.specs.Gears.{GearState}
+use Rattle.outside.specs.Worlds.{WorldState}
+use Rattle.outside.specs.declared.world.WorldFault.{WorldFault}
 use Rattle.bytes_and_lists.specs.declared.message.Message.{Message}
 use Rattle.histories.specs.History.{Legal}
 use Rattle.histories.specs.Turns.{Turn, IsTurn, entries_in}

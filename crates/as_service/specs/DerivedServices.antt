@@ -1,9 +1,9 @@
 -- What serving a setup with pairs at an address leaves behind.
 use Rattle.std.specs.Prelude.{◌≡◌, ℕ, List, All, length, Result, Err}
-use Rattle.gnap_io.specs.Gears.{GearState}
-use Rattle.gnap_io.specs.Worlds.{WorldState, HasWorldCause, with_opening, with_gears}
-use Rattle.gnap_io.specs.declared.world.Opening.TheVariants as opening
-use Rattle.gnap_io.specs.declared.world.WorldFault.{WorldFault}
+use Rattle.outside.specs.Gears.{GearState}
+use Rattle.outside.specs.Worlds.{WorldState, HasWorldCause, with_opening, with_gears}
+use Rattle.outside.specs.declared.world.Opening.TheVariants as opening
+use Rattle.outside.specs.declared.world.WorldFault.{WorldFault}
 use Rattle.histories.specs.Whole.{OneHistory, own_of}
 use Rattle.serving.specs.Workers.{accounts_of}
 use Rattle.serving.specs.ServiceEnds.{IsEndOfService}

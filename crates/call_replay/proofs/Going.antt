@@ -1,6 +1,6 @@
 -- A replay that goes on.
 use Rattle.std.proofs.Common.{◌≡◌, ◌∙◌, ℕ, ◌+◌, ◌<◌, ◌≤◌, ◌^◌, List, [], ◌∷◌, ◌++◌, length, false, refl, ap, sym, arith, length-append}
-use Rattle.gnap_io.specs.Outside.{Told}
+use Rattle.outside.specs.Outside.{Told}
 use Rattle.histories.specs.History.{places}
 use Rattle.histories.specs.Turns.{entries_in}
 use Rattle.serving.proofs.LogLemmas.{entries_few}

@@ -2,7 +2,7 @@
 use Rattle.std.proofs.Common.{◌≡◌, ◌≢◌, ℕ, List, [], ◌∷◌, ◌++◌, refl, sym}
 use Rattle.std.specs.Prelude.{Bool, true}
 use Rattle.std.proofs.lemmas.List.{append-nil}
-use Rattle.gnap_io.specs.Outside.{Told}
+use Rattle.outside.specs.Outside.{Told}
 use Rattle.histories.specs.History.{entry_of}
 use Rattle.histories.specs.Steps.{Enters, EntersLapse, NoneOf}
 use Rattle.histories.specs.Whole.{own_of}

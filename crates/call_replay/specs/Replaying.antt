@@ -1,6 +1,6 @@
 -- A replay while it goes on.
 use Rattle.std.specs.Prelude.{◌≡◌, ℕ, List, ◌++◌, Option, Some, None}
-use Rattle.gnap_io.specs.Outside.{Told}
+use Rattle.outside.specs.Outside.{Told}
 use Rattle.histories.specs.History.{Legal}
 use Rattle.histories.specs.Steps.{EachOf}
 use Rattle.histories.specs.Turns.{entries_in}

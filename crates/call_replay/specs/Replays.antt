@@ -1,6 +1,6 @@
 -- What a replay does with the lines of its file, and what it prints.
 use Rattle.std.specs.Prelude.{◌≡◌, ◌≤◌, ℕ, false, List, [], ◌∷◌, ◌++◌, length, Some, None}
-use Rattle.gnap_io.specs.Outside.{Told, Writes}
+use Rattle.outside.specs.Outside.{Told, Writes}
 use Rattle.histories.specs.Turns.{Turn, Face, IsTurn, messages_in, entries_in}
 use Rattle.histories.specs.Whole.{OneHistory}
 use Rattle.gnap_model.specs.declared.objects.Setup.{Setup}

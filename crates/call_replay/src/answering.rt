@@ -10,10 +10,10 @@ use crate::reply_lines::reply_line;
 use bytes_and_lists::bytes::Bytes;
 use bytes_and_lists::memory::Mem;
 use command_inputs::{After, say};
-use gnap_io::device::Sink;
 use gnap_model::objects::Setup;
 use grant_machine::Gnap;
 use histories::machine::Desk;
+use outside::device::Sink;
 use std::alloc::Global;
 
 /// Answers the line of this number, of which at most one byte more than a call line may have is looked at.

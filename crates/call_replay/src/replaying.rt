@@ -8,10 +8,10 @@ use crate::answering::answer_line;
 use crate::call_lines::LINE_LIMIT;
 use bytes_and_lists::bytes::Bytes;
 use command_inputs::{After, Ended, LineReader, emptied};
-use gnap_io::device::{Sink, Source};
 use gnap_model::objects::Setup;
 use grant_machine::Gnap;
 use histories::machine::Desk;
+use outside::device::{Sink, Source};
 use std::alloc::Global;
 
 // The line of the setup is the first of a file.

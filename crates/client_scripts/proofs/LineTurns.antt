@@ -2,9 +2,9 @@
 use Rattle.std.proofs.Common.{◌≡◌, ◌⊎◌, inl, inr, ◌∙◌, ℕ, List, [], ◌++◌, Bool, true, false, refl, sym, ap, subst, append-nil}
 use Rattle.std.specs.Prelude.{Option, Some, None, IfSome, Result, Ok, Err, ◌≢◌}
 use Rattle.json_objects.specs.Reading.{Fails}
-use Rattle.gnap_io.specs.Links.{Exchange, LinkState, Exchanges}
-use Rattle.gnap_io.specs.declared.link.LinkFault.{LinkFault}
-use Rattle.gnap_io.specs.declared.link.LinkFault.TheVariants as link_faults
+use Rattle.outside.specs.Links.{Exchange, LinkState, Exchanges}
+use Rattle.outside.specs.declared.link.LinkFault.{LinkFault}
+use Rattle.outside.specs.declared.link.LinkFault.TheVariants as link_faults
 use Rattle.gnap_client.specs.declared.client.Took.{Took}
 use Rattle.gnap_client.specs.declared.client.Client.{Client}
 use Rattle.gnap_client.specs.declared.client.ClientFault.{ClientFault}

@@ -1,6 +1,6 @@
 -- What a client carries out over a link.
 use Rattle.std.specs.Prelude.{◌≡◌, ℕ, List, Result, Ok, Err}
-use Rattle.gnap_io.specs.Links.{LinkState}
+use Rattle.outside.specs.Links.{LinkState}
 use Rattle.gnap_client.specs.declared.client.Took.{Took}
 use Rattle.gnap_client.specs.declared.client.Client.{Client}
 use Rattle.gnap_client.specs.declared.client.ClientFault.{ClientFault}

@@ -1,8 +1,8 @@
 -- A script, line by line: what the client carried out over a link, and what was printed.
 use Rattle.std.specs.Prelude.{◌≡◌, ◌≢◌, ℕ, Bool, true, false, List, [], ◌∷◌, ◌++◌, flat_map, Option, Some, None, Result, Ok, Err}
-use Rattle.gnap_io.specs.Links.{Exchange}
-use Rattle.gnap_io.specs.declared.link.LinkFault.{LinkFault}
-use Rattle.gnap_io.specs.declared.link.LinkFault.TheVariants as link_faults
+use Rattle.outside.specs.Links.{Exchange}
+use Rattle.outside.specs.declared.link.LinkFault.{LinkFault}
+use Rattle.outside.specs.declared.link.LinkFault.TheVariants as link_faults
 use Rattle.histories.specs.Turns.{Turn}
 use Rattle.gnap_client.specs.declared.client.Took.{Took}
 use Rattle.gnap_client.specs.declared.client.Client.{Client}

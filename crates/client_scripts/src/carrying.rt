@@ -8,8 +8,8 @@ use crate::deeds::{Deed, ScriptStep};
 use bytes_and_lists::bytes::Bytes;
 use bytes_and_lists::memory::Mem;
 use gnap_client::{Client, ClientFault, State, Took};
-use gnap_io::link::Link;
 use itoa::Buffer;
+use outside::link::Link;
 use std::alloc::Global;
 
 fn call(client: &mut Client, step: &ScriptStep) -> Result<Bytes, ClientFault>

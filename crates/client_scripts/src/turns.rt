@@ -15,7 +15,7 @@ use crate::lines::read_line;
 use bytes_and_lists::bytes::Bytes;
 use bytes_and_lists::memory::Mem;
 use gnap_client::{Client, ClientFault, State, Took};
-use gnap_io::link::Link;
+use outside::link::Link;
 use std::alloc::Global;
 
 /// What is printed for a line, and whether the line was ok.

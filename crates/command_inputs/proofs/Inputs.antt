@@ -2,8 +2,8 @@
 use Rattle.std.proofs.Common.{◌≡◌, ◌∙◌, ℕ, List, [], ◌++◌, ap, sym, subst}
 use Rattle.std.specs.Prelude.{Result, Ok}
 use Rattle.std.proofs.lemmas.List.{append-nil}
-use Rattle.gnap_io.specs.Outside.{Told, Takes, Leaves, IsRest}
-use Rattle.gnap_io.proofs.Devices.{leaves_then}
+use Rattle.outside.specs.Outside.{Told, Takes, Leaves, IsRest}
+use Rattle.outside.proofs.Devices.{leaves_then}
 use Rattle.command_inputs.specs.declared.whole_input.InputFault.{InputFault}
 use Rattle.command_inputs.specs.Inputs.{ReadsInput}
 use Rattle.command_inputs.proofs.LineRuns.{none_left}

@@ -3,8 +3,8 @@ use Rattle.std.proofs.Common.{◌≡◌, ◌∙◌, ℕ, ◌+◌, ◌≤◌, Lis
 use Rattle.std.specs.Prelude.{true, Option, IfSome}
 use Rattle.std.proofs.lemmas.List.{append-nil}
 use Rattle.bytes_and_lists.specs.Prefixes.{IsPrefix}
-use Rattle.gnap_io.specs.Outside.{Told, IsAtEnd, IsRest, Writes}
-use Rattle.gnap_io.proofs.Devices.{writes_none, writes_then}
+use Rattle.outside.specs.Outside.{Told, IsAtEnd, IsRest, Writes}
+use Rattle.outside.proofs.Devices.{writes_none, writes_then}
 use Rattle.histories.specs.Turns.{Turn, AllOn, messages_in, bytes_in}
 use Rattle.histories.proofs.TurnLemmas.{messages_in-append, bytes_in-next, length-next}
 use Rattle.command_inputs.specs.declared.ended.Ended.{Ended}

@@ -5,8 +5,8 @@ use Rattle.std.specs.List.{list_any}
 use Rattle.std.proofs.lemmas.List.{append-nil, take_all, take-append-le, length-take}
 use Rattle.std.proofs.lemmas.List.Folds.{list_any-append}
 use Rattle.std.proofs.Math.Seq.{take-append-add}
-use Rattle.gnap_io.specs.Outside.{Told, Takes, IsAtEnd}
-use Rattle.gnap_io.proofs.Devices.{takes_none, takes_then}
+use Rattle.outside.specs.Outside.{Told, Takes, IsAtEnd}
+use Rattle.outside.proofs.Devices.{takes_none, takes_then}
 use Rattle.command_inputs.specs.declared.line_end.LineEnd.TheVariants.{Whole, Last, Long, Full, Failed, Memory}
 use Rattle.command_inputs.specs.Lines.{IsLine}
 use Rattle.command_inputs.specs.Reading.{MovesPart, IsKept, Came, Gathers, ReadsLine}

@@ -1,6 +1,6 @@
 -- How commands end, and what that says of what they read and printed to.
 use Rattle.std.specs.Prelude.{◌≡◌, ◌<◌, ℕ, length}
-use Rattle.gnap_io.specs.Outside.{Told, IsAtEnd, Rose}
+use Rattle.outside.specs.Outside.{Told, IsAtEnd, Rose}
 use Rattle.command_inputs.specs.declared.ended.Ended.{Ended}
 use Rattle.command_inputs.specs.declared.ended.Ended.TheVariants.{Done, NoSetup, Failed, WriteFault, Memory, Refused, TooLong}
 

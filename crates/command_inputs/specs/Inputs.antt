@@ -1,6 +1,6 @@
 -- How a whole input is read.
 use Rattle.std.specs.Prelude.{◌≡◌, ◌<◌, ◌≤◌, ℕ, List, length, Result, Ok, Err}
-use Rattle.gnap_io.specs.Outside.{Told, Takes, IsAtEnd, Rose}
+use Rattle.outside.specs.Outside.{Told, Takes, IsAtEnd, Rose}
 use Rattle.command_inputs.specs.declared.whole_input.InputFault.{InputFault}
 use Rattle.command_inputs.specs.declared.whole_input.InputFault.TheVariants.{TooLong, Failed, OutOfMemory}
 

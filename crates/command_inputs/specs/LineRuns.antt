@@ -1,7 +1,7 @@
 -- The lines of a source, each of which has its turn, as far as that came.
 use Rattle.std.specs.Prelude.{◌≡◌, ◌⊎◌, ℕ, ◌+◌, ◌≤◌, Bool, true, false, List, [], ◌∷◌, ◌++◌, length, Option, Some, None}
 use Rattle.bytes_and_lists.specs.Prefixes.{IsPrefix}
-use Rattle.gnap_io.specs.Outside.{Told, IsRest, Writes, Rose}
+use Rattle.outside.specs.Outside.{Told, IsRest, Writes, Rose}
 use Rattle.histories.specs.Turns.{Turn, AllOn, OneMore, Cut, messages_in, bytes_in}
 use Rattle.command_inputs.specs.declared.printed_text.After.{After}
 use Rattle.command_inputs.specs.declared.printed_text.After.TheVariants as after

@@ -1,6 +1,6 @@
 -- How the lines of a source are read.
 use Rattle.std.specs.Prelude.{◌≡◌, ◌≢◌, ℕ, ◌+◌, ◌<◌, Bool, true, false, List, [], ◌∷◌, ◌++◌, length, take, drop}
-use Rattle.gnap_io.specs.Outside.{Told, Takes, IsAtEnd, Rose}
+use Rattle.outside.specs.Outside.{Told, Takes, IsAtEnd, Rose}
 use Rattle.command_inputs.specs.declared.line_reader.LineReader.{LineReader}
 use Rattle.command_inputs.specs.declared.line_end.LineEnd.{LineEnd}
 use Rattle.command_inputs.specs.declared.line_end.LineEnd.TheVariants.{Whole, Last, Long, Full, Failed, Memory}

@@ -1,6 +1,6 @@
 -- What asking a source for more does.
 use Rattle.std.specs.Prelude.{◌≡◌, ℕ, ◌+◌, ◌<◌, [], length}
-use Rattle.gnap_io.specs.Outside.{Told, Takes, IsAtEnd, Rose}
+use Rattle.outside.specs.Outside.{Told, Takes, IsAtEnd, Rose}
 use Rattle.command_inputs.specs.declared.line_reader.LineReader.{LineReader}
 use Rattle.command_inputs.specs.declared.line_reader.Refill.{Refill}
 use Rattle.command_inputs.specs.declared.line_reader.Refill.TheVariants.{More, End, Full, Failed, Memory}

@@ -5,7 +5,7 @@ ghost use Rattle.command_inputs.specs.Lines.{IsLine};
 use crate::line_end::LineEnd;
 use bytes_and_lists::bytes::Bytes;
 use bytes_and_lists::memory::Mem;
-use gnap_io::device::Source;
+use outside::device::Source;
 use std::alloc::Global;
 
 /// The most bytes that are read of one input.

@@ -6,7 +6,7 @@ ghost use Rattle.command_inputs.specs.Printing.{PrintsAnswer};
 
 use crate::ended::Ended;
 use bytes_and_lists::bytes::Bytes;
-use gnap_io::device::{Sink, write_all};
+use outside::device::{Sink, write_all};
 
 /// Whether more lines may follow.
 #[derive(Clone, Copy, Debug, PartialEq, Eq)]

@@ -5,7 +5,7 @@ ghost use Rattle.command_inputs.specs.Inputs.{ReadsInput, CountsInput};
 use crate::line_reader::{LineReader, Refill};
 use bytes_and_lists::bytes::Bytes;
 use bytes_and_lists::memory::Mem;
-use gnap_io::device::Source;
+use outside::device::Source;
 use std::alloc::Global;
 use thiserror::Error;
 

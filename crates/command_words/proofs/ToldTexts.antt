@@ -6,8 +6,8 @@ use Rattle.std.proofs.Math.Seq.{drop-cons}
 use Rattle.std.proofs.lemmas.List.{take-append-drop, take_all, length-take, length-map, get_or-take, get_or-map}
 use Rattle.std.proofs.lemmas.Grind.{flat_map-append, same_number_lists}
 use Rattle.bytes_and_lists.specs.Prefixes.{IsPrefix}
-use Rattle.gnap_io.specs.Outside.{Told, Writes, HasSent, HasCause, Rose}
-use Rattle.gnap_io.proofs.Devices.{writes_then}
+use Rattle.outside.specs.Outside.{Told, Writes, HasSent, HasCause, Rose}
+use Rattle.outside.proofs.Devices.{writes_then}
 use Rattle.command_words.specs.Telling.{HasTold, shown_byte, shown_text}
 
 -- what was written of a text was told

@@ -2,7 +2,7 @@
 use Rattle.std.specs.Prelude.{◌≡◌, ◌≤◌, ◌⊎◌, ℕ, nat_le, List, ◌++◌, length, map, take, codes, if◌then◌else◌}
 use Rattle.std.specs.Char.{is_ascii_control}
 use Rattle.bytes_and_lists.specs.Prefixes.{IsPrefix}
-use Rattle.gnap_io.specs.Outside.{Told, Writes, Rose}
+use Rattle.outside.specs.Outside.{Told, Writes, Rose}
 
 -- This text was told: nothing was read, what went out is appended, and it is the whole text, or a beginning of it, and then the count of faults rose.
 pub record HasTold (text : List ℕ) (before after : Told) (faults later : ℕ) : Type 0 where

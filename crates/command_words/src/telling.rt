@@ -1,10 +1,10 @@
 //! How a person is told something, on standard error: piece by piece, as far as the pieces can be written.
 ghost use Rattle.std.specs.Prelude.{◌≡◌, ◌<◌, flat_map, get_or, length, map, take};
 ghost use Rattle.std.specs.Fmt.{decimal};
-ghost use Rattle.gnap_io.specs.Outside.{HasSent, HasCause};
+ghost use Rattle.outside.specs.Outside.{HasSent, HasCause};
 ghost use Rattle.command_words.specs.Telling.{HasTold, shown_byte, shown_text};
 
-use gnap_io::device::{Failed, Sink, write_all};
+use outside::device::{Failed, Sink, write_all};
 
 // Writes the pieces, one behind another.
 fn write_pieces<E: Sink>(err: &mut E, pieces: &[&[u8]]) -> Result<(), Failed>

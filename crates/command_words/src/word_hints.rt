@@ -3,7 +3,7 @@ use crate::command::counts_of;
 use crate::telling::{tell, tell_number, tell_shown};
 use crate::usage::USAGE;
 use crate::wrong_words::WordForm;
-use gnap_io::device::Sink;
+use outside::device::Sink;
 
 // Tells which commands there are.
 fn tell_usage<E: Sink>(err: &mut E) {

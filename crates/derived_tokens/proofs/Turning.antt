@@ -1,8 +1,8 @@
 -- The turn of a message where tokens are derived, by what its calls did.
 use Rattle.std.proofs.Common.{◌≡◌, ◌≢◌, ◌∙◌, ℕ, ◌+◌, ◌<◌, Bool, true, false, List, [], ◌∷◌, ◌++◌, length, length-append, ap, sym, subst, refl, arith, Option, Some, None}
 use Rattle.std.specs.Prelude.{if◌then◌else◌, reverse, IsUtf8}
-use Rattle.gnap_io.specs.Outside.{Told}
-use Rattle.gnap_io.specs.Gears.{GearState, with_moment, with_draw}
+use Rattle.outside.specs.Outside.{Told}
+use Rattle.outside.specs.Gears.{GearState, with_moment, with_draw}
 use Rattle.bytes_and_lists.specs.declared.message.Message.{Message}
 use Rattle.histories.specs.History.{entry_of, notes_of, now}
 use Rattle.histories.specs.Steps.{NoneOf, Enters, EntersLapse}

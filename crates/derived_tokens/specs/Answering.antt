@@ -1,7 +1,7 @@
 -- What is said to a message.
 use Rattle.std.specs.Prelude.{◌≡◌, ◌≢◌, ℕ, Bool, List}
-use Rattle.gnap_io.specs.Outside.{Told}
-use Rattle.gnap_io.specs.Gears.{GearState, with_draw}
+use Rattle.outside.specs.Outside.{Told}
+use Rattle.outside.specs.Gears.{GearState, with_draw}
 use Rattle.histories.specs.Steps.{Enters, EntersLapse}
 use Rattle.http_edge.specs.Replies.{reply_bytes, busy_reply}
 use Rattle.gnap_model.specs.declared.objects.Setup.{Setup}

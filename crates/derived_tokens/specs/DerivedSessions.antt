@@ -1,6 +1,6 @@
 -- What is done with a connection where tokens are derived, and which entries a worker makes then.
 use Rattle.std.specs.Prelude.{◌≡◌, ℕ, List, [], ◌∷◌, Option, Some, None}
-use Rattle.gnap_io.specs.Outside.{Served}
+use Rattle.outside.specs.Outside.{Served}
 use Rattle.bytes_and_lists.specs.declared.message.Message.{Message}
 use Rattle.histories.specs.Turns.{Turn}
 use Rattle.http_edge.specs.declared.fault.EdgeFault.{EdgeFault}

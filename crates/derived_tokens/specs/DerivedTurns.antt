@@ -1,6 +1,6 @@
 -- What a message's turn may be where tokens are derived (RFC 9767, section 4).
 use Rattle.std.specs.Prelude.{◌≡◌, ℕ, Bool, true, false, List, [], ◌∷◌, Option, Some, None, Result, Ok, Err}
-use Rattle.gnap_io.specs.Gears.{GearState, with_draw}
+use Rattle.outside.specs.Gears.{GearState, with_draw}
 use Rattle.bytes_and_lists.specs.declared.message.Message.{Message}
 use Rattle.histories.specs.Steps.{Enters, EntersLapse}
 use Rattle.histories.specs.Turns.{Face, Turn, IsTurn}

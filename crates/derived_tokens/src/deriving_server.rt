@@ -1,6 +1,6 @@
 //! The authorization server that derives tokens, as `serving` serves it.
 ghost use Rattle.std.specs.Prelude.{◌≡◌, ◌≢◌, ◌<◌, ◌≤◌, IfOk, IsUtf8, length};
-ghost use Rattle.gnap_io.specs.Gears.{with_moment};
+ghost use Rattle.outside.specs.Gears.{with_moment};
 ghost use Rattle.histories.specs.History.{last_moment};
 ghost use Rattle.histories.specs.Whole.{own_of};
 ghost use Rattle.http_edge.specs.Replies.{reply_bytes, busy_reply};
@@ -24,13 +24,13 @@ use bytes_and_lists::bytes::Bytes;
 use bytes_and_lists::memory::Mem;
 use bytes_and_lists::message::Message;
 use derivation_requests::{DeriveStep, Pairs, derive_call};
-use gnap_io::device::{Sink, Source};
-use gnap_io::gear::{Clock, Draws};
 use gnap_model::calls::{Call, Reply};
 use gnap_model::objects::ErrorCode;
 use grant_machine::Gnap;
 use histories::machine::Desk;
 use http_serving::HttpReader;
+use outside::device::{Sink, Source};
+use outside::gear::{Clock, Draws};
 use serving::connection::serve_connection;
 use serving::ends::AfterTurn;
 use serving::front::Front;

@@ -3,8 +3,8 @@ use Rattle.std.proofs.Common.{◌≡◌, ◌∙◌, ℕ, ◌+◌, ◌<◌, ◌�
 use Rattle.std.specs.Prelude.{Option, Some, None, Err, ◌==◌}
 use Rattle.std.proofs.lemmas.Bool.{or_parts}
 use Rattle.std.proofs.lemmas.List.{append-nil, length-take, length-take-le}
-use Rattle.gnap_io.specs.Outside.{Told, Takes, IsAtEnd, IsRest}
-use Rattle.gnap_io.proofs.Devices.{writes_none}
+use Rattle.outside.specs.Outside.{Told, Takes, IsAtEnd, IsRest}
+use Rattle.outside.proofs.Devices.{writes_none}
 use Rattle.histories.specs.History.{Legal}
 use Rattle.histories.specs.Histories.{legal-nil}
 use Rattle.histories.specs.Turns.{messages_in, entries_in}

@@ -1,6 +1,6 @@
 //! A file whose first line is a setup, and each further line a call.
 ghost use Rattle.std.specs.Prelude.{◌≡◌, ◌≤◌, [], Some, None, length};
-ghost use Rattle.gnap_io.specs.Outside.{Leaves, IsRest};
+ghost use Rattle.outside.specs.Outside.{Leaves, IsRest};
 ghost use Rattle.command_inputs.specs.Configs.{setup_in};
 ghost use Rattle.command_inputs.specs.Ends.{CountsReads, CountsWrites, EndsAt, Took};
 ghost use Rattle.command_inputs.specs.Reading.{held_by, Came};
@@ -13,8 +13,8 @@ use call_replay::replay_lines;
 use command_inputs::{
     ConfigKind, Ended, LineEnd, LineReader, SETUP_LIMIT, SetupReader, WrongSetup, config_in,
 };
-use gnap_io::device::{Sink, Source};
 use grant_machine::laws::what_holds;
+use outside::device::{Sink, Source};
 use std::alloc::Global;
 use table_core::table_desk;
 

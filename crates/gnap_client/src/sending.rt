@@ -2,7 +2,7 @@
 ghost use Rattle.gnap_client.specs.Sending.{Sends};
 
 use crate::client::{Client, ClientFault, Took};
-use gnap_io::link::{Link, LinkFault};
+use outside::link::{Link, LinkFault};
 
 impl Client {
     /// Exchanges the request over the link, once, and takes the reply. `LinkFault` comes exactly where that exchange failed.

@@ -4,7 +4,7 @@ use Rattle.std.specs.Prelude.{Some}
 use Rattle.std.proofs.lemmas.List.{take-append-drop, take_all, drop-drop, drop-append-le, drop-replicate}
 use Rattle.std.proofs.Math.Seq.{take-add, drop-append-add, drop-length}
 use Rattle.std.proofs.Math.ListN.{drop_of_length-le}
-use Rattle.gnap_io.specs.Outside.{Reads}
+use Rattle.outside.specs.Outside.{Reads}
 use Rattle.gnap_io.specs.FaultPlans.{Plan}
 use Rattle.gnap_io.specs.MemoryForms.{SourceForm}
 

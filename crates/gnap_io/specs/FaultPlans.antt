@@ -1,7 +1,7 @@
 -- Which calls of one kind fail, by their numbers.
 use Rattle.std.specs.Prelude.{ℕ, Bool, ◌==◌, List}
 use Rattle.std.specs.List.{list_any}
-use Rattle.gnap_io.specs.Outside.{one_more}
+use Rattle.outside.specs.Outside.{one_more}
 
 -- How many calls were made, and the numbers, counted from 1, of those that fail.
 pub record Plan : Type 0 where

@@ -1,8 +1,3 @@
-pub mod Outside
-pub mod Worlds
-pub mod Gears
-pub mod Links
-pub mod Openings
 pub mod FaultPlans
 pub mod MemoryForms
 pub mod Named

@@ -1,11 +1,11 @@
 -- What sources, sinks, connections, gears and links in memory are, and how exactly they answer.
 use Rattle.std.specs.Prelude.{◌≡◌, ◌⊎◌, ℕ, ◌+◌, ◌-◌, ◌<◌, min, true, false, List, [], ◌∷◌, ◌++◌, take, drop, length, map, replicate, Result, Ok, Err, Option, Some, None}
-use Rattle.gnap_io.specs.declared.device.Failed.{Failed}
-use Rattle.gnap_io.specs.declared.link.LinkFault.{LinkFault}
-use Rattle.gnap_io.specs.declared.link.LinkFault.TheVariants.{Failed as LinkFailed, OutOfMemory as LinkOutOfMemory}
-use Rattle.gnap_io.specs.Outside.{Told, IsUntouched, one_more, served_of}
-use Rattle.gnap_io.specs.Gears.{GearState}
-use Rattle.gnap_io.specs.Links.{LinkState, Exchange}
+use Rattle.outside.specs.declared.device.Failed.{Failed}
+use Rattle.outside.specs.declared.link.LinkFault.{LinkFault}
+use Rattle.outside.specs.declared.link.LinkFault.TheVariants.{Failed as LinkFailed, OutOfMemory as LinkOutOfMemory}
+use Rattle.outside.specs.Outside.{Told, IsUntouched, one_more, served_of}
+use Rattle.outside.specs.Gears.{GearState}
+use Rattle.outside.specs.Links.{LinkState, Exchange}
 use Rattle.gnap_io.specs.FaultPlans.{Plan, new_plan, is_bad, called}
 
 -- ---- sources

@@ -1,12 +1,12 @@
 -- What a world in memory is, and how exactly its openings are answered.
 use Rattle.std.specs.Prelude.{◌≡◌, ◌⊎◌, ℕ, ◌≤◌, true, false, List, All, length, Result, Ok, Err, Option, Some, None, option_map}
 use Rattle.std.specs.Global.{Vec}
-use Rattle.gnap_io.specs.declared.world.WorldFault.{WorldFault}
-use Rattle.gnap_io.specs.declared.world.WorldFault.TheVariants.{Failed, OutOfMemory}
+use Rattle.outside.specs.declared.world.WorldFault.{WorldFault}
+use Rattle.outside.specs.declared.world.WorldFault.TheVariants.{Failed, OutOfMemory}
 use Rattle.gnap_io.specs.FaultPlans.{Plan, new_plan, is_bad, called}
 use Rattle.gnap_io.specs.MemoryForms.{SourceForm, GearForm, LinkForm, new_source, bytes_of}
 use Rattle.gnap_io.specs.Named.{found_under, without}
-use Rattle.gnap_io.specs.Worlds.{WorldState, new_world}
+use Rattle.outside.specs.Worlds.{WorldState, new_world}
 
 -- what every world counts and keeps; the named files, and the gears and links at addresses, that are to come; and which openings fail
 pub record WorldForm : Type 0 where

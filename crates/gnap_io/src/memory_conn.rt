@@ -1,12 +1,12 @@
 //! Connections in memory, whose calls of given numbers fail.
 ghost use Rattle.std.specs.Prelude.{◌≡◌, ◌<◌, ◌≤◌, length, IfOk};
-ghost use Rattle.gnap_io.specs.Outside.{HasRead, HasWritten, HasCause};
+ghost use Rattle.outside.specs.Outside.{HasRead, HasWritten, HasCause};
 ghost use Rattle.gnap_io.specs.MemoryForms.{ReadsByPlan, WritesByPlan, new_conn};
 
-use crate::device::{Device, Failed, Sink, Source};
 use crate::memory_devices::{MemSink, MemSource};
 use bytes_and_lists::bytes::Bytes;
 use bytes_and_lists::memory::Mem;
+use outside::device::{Device, Failed, Sink, Source};
 use std::alloc::Global;
 use std::marker::Model;
 

@@ -1,16 +1,16 @@
 //! Gears in memory, whose accepts of given numbers fail.
 ghost use Rattle.std.specs.Prelude.{◌≡◌, ℕ, ◌<◌, ◌≤◌, All, IfOk, IfSome};
-ghost use Rattle.gnap_io.specs.Outside.{IsUntouched, served_of};
+ghost use Rattle.outside.specs.Outside.{IsUntouched, served_of};
 ghost use Rattle.bytes_and_lists.specs.Moments.{last_moment};
-ghost use Rattle.gnap_io.specs.Gears.{Accepts, with_served, with_moment, with_draw};
+ghost use Rattle.outside.specs.Gears.{Accepts, with_served, with_moment, with_draw};
 ghost use Rattle.gnap_io.specs.MemoryForms.{IsUnusedConn, AcceptsByPlan, unused_gear, next_moment, next_draw, gear_serving, gear_timed, gear_drawn};
 
-use crate::device::{Device, Failed};
 use crate::fault_plan::FaultPlan;
-use crate::gear::{Clock, Counted, Door, Draws, Gear};
 use crate::memory_conn::MemConn;
 use bytes_and_lists::memory::Mem;
 use http_server::Log;
+use outside::device::{Device, Failed};
+use outside::gear::{Clock, Counted, Door, Draws, Gear};
 use std::marker::Model;
 
 /// Connections that wait to be accepted, moments and draws. Where a list is at its end, the last moment and a draw of zeros go on. The room

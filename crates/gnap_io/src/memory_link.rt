@@ -1,12 +1,12 @@
 //! A link in memory, whose exchanges of given numbers fail.
 ghost use Rattle.std.specs.Prelude.{◌≡◌};
-ghost use Rattle.gnap_io.specs.Links.{Exchanges};
+ghost use Rattle.outside.specs.Links.{Exchanges};
 ghost use Rattle.gnap_io.specs.MemoryForms.{unasked_link, ExchangesByPlan};
 
 use crate::fault_plan::FaultPlan;
-use crate::link::{Link, LinkFault};
 use bytes_and_lists::bytes::Bytes;
 use bytes_and_lists::memory::Duplicate;
+use outside::link::{Link, LinkFault};
 use std::marker::Model;
 
 /// Replies that are given one after another, whatever is asked. A request that finds none left is a fault.

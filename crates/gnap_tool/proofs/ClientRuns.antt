@@ -1,9 +1,9 @@
 -- A script that was carried out by a new client of a configuration.
 use Rattle.std.proofs.Common.{◌≡◌, ℕ, List, [], inl, inr}
 use Rattle.std.specs.Prelude.{Option}
-use Rattle.gnap_io.specs.Outside.{Told}
-use Rattle.gnap_io.specs.Links.{LinkState}
-use Rattle.gnap_io.specs.Worlds.{WorldState}
+use Rattle.outside.specs.Outside.{Told}
+use Rattle.outside.specs.Links.{LinkState}
+use Rattle.outside.specs.Worlds.{WorldState}
 use Rattle.gnap_client.specs.declared.client.Client.{Client}
 use Rattle.gnap_client.specs.Configs.{Parts}
 use Rattle.command_inputs.specs.declared.ended.Ended.{Ended}

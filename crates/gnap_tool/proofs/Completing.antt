@@ -2,13 +2,13 @@
 use Rattle.std.proofs.Common.{◌≡◌, ◌∙◌, ℕ, ◌<◌, List, [], ◌∷◌, ◌++◌, length, refl, ap, sym, subst, arith, append_assoc, ◌⊎◌, inl, inr}
 use Rattle.std.specs.Prelude.{Option, Some, None, IsSome, drop, slice_get, Result, Ok, Err}
 use Rattle.std.proofs.Math.Seq.{drop-append_seam}
-use Rattle.gnap_io.specs.Outside.{Told, Served, IsRest}
-use Rattle.gnap_io.specs.declared.world.WorldFault.{WorldFault}
-use Rattle.gnap_io.specs.declared.world.WorldFault.TheVariants as faults
-use Rattle.gnap_io.specs.Links.{LinkState}
-use Rattle.gnap_io.specs.Worlds.{WorldState}
-use Rattle.gnap_io.specs.declared.world.Opening.{Opening}
-use Rattle.gnap_io.specs.Openings.{new_files}
+use Rattle.outside.specs.Outside.{Told, Served, IsRest}
+use Rattle.outside.specs.declared.world.WorldFault.{WorldFault}
+use Rattle.outside.specs.declared.world.WorldFault.TheVariants as faults
+use Rattle.outside.specs.Links.{LinkState}
+use Rattle.outside.specs.Worlds.{WorldState}
+use Rattle.outside.specs.declared.world.Opening.{Opening}
+use Rattle.outside.specs.Openings.{new_files}
 use Rattle.gnap_model.specs.declared.objects.Setup.{Setup}
 use Rattle.resource_server.specs.declared.setup.RsSetup.{RsSetup}
 use Rattle.rs_edge.specs.GuardedSteps.{GuardsKeeping}

@@ -1,11 +1,11 @@
 -- What holds of each command.
 use Rattle.std.proofs.Common.{◌≡◌, ◌⊎◌, ℕ, List, [], refl, sym, subst, inl, inr}
 use Rattle.std.specs.Prelude.{Option}
-use Rattle.gnap_io.specs.Outside.{Told}
-use Rattle.gnap_io.specs.Worlds.{WorldState}
-use Rattle.gnap_io.specs.declared.world.Opening.{Opening}
-use Rattle.gnap_io.specs.Openings.{Gives}
-use Rattle.gnap_io.proofs.Devices.{writes_none}
+use Rattle.outside.specs.Outside.{Told}
+use Rattle.outside.specs.Worlds.{WorldState}
+use Rattle.outside.specs.declared.world.Opening.{Opening}
+use Rattle.outside.specs.Openings.{Gives}
+use Rattle.outside.proofs.Devices.{writes_none}
 use Rattle.command_inputs.specs.declared.ended.Ended.{Ended}
 use Rattle.command_inputs.specs.declared.ended.Ended.TheVariants.{Done, NoSetup, Failed, WriteFault, Memory, Refused, TooLong}
 use Rattle.command_inputs.specs.Ends.{status_of}

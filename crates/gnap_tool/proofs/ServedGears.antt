@@ -4,15 +4,15 @@ use Rattle.std.specs.Prelude.{true, None, IsSome, IfOk, All, Any, drop, Result, 
 use Rattle.std.proofs.Math.Seq.{drop-length, drop-append_seam}
 use Rattle.std.proofs.lemmas.List.Elements.{All-nil}
 use Rattle.std.proofs.lemmas.List.Folds.{Any-from_list_any}
-use Rattle.gnap_io.specs.declared.world.Opening.{Opening}
-use Rattle.gnap_io.specs.declared.world.Opening.TheVariants.{Gears}
-use Rattle.gnap_io.specs.declared.world.WorldFault.{WorldFault}
-use Rattle.gnap_io.specs.declared.world.WorldFault.TheVariants as faults
-use Rattle.gnap_io.specs.Outside.{Served, IsAtEnd}
-use Rattle.gnap_io.specs.Gears.{GearState, IsUnused}
-use Rattle.gnap_io.specs.Worlds.{WorldState, with_opening, with_gears}
-use Rattle.gnap_io.specs.Openings.{Gives, gears_in, new_files}
-use Rattle.gnap_io.proofs.OpeningLemmas.{gives-gears, back-all}
+use Rattle.outside.specs.declared.world.Opening.{Opening}
+use Rattle.outside.specs.declared.world.Opening.TheVariants.{Gears}
+use Rattle.outside.specs.declared.world.WorldFault.{WorldFault}
+use Rattle.outside.specs.declared.world.WorldFault.TheVariants as faults
+use Rattle.outside.specs.Outside.{Served, IsAtEnd}
+use Rattle.outside.specs.Gears.{GearState, IsUnused}
+use Rattle.outside.specs.Worlds.{WorldState, with_opening, with_gears}
+use Rattle.outside.specs.Openings.{Gives, gears_in, new_files}
+use Rattle.outside.proofs.OpeningLemmas.{gives-gears, back-all}
 use Rattle.serving.specs.ServiceEnds.{has_failed, IsUsedUp, IsEndOfService}
 use Rattle.command_inputs.specs.declared.ended.Ended.{Ended}
 use Rattle.command_inputs.specs.declared.ended.Ended.TheVariants.{Done, Failed, Memory}

@@ -1,11 +1,11 @@
 -- What serving resources at an address does to the world.
 use Rattle.std.proofs.Common.{◌≡◌, ◌⊎◌, ℕ, List, [], ◌∷◌, refl, sym, subst, inl, inr}
 use Rattle.std.specs.Prelude.{Option, Some, None, Result, Err}
-use Rattle.gnap_io.specs.declared.world.Opening.TheVariants.{Gears, Link}
-use Rattle.gnap_io.specs.declared.world.WorldFault.{WorldFault}
-use Rattle.gnap_io.specs.declared.world.WorldFault.TheVariants as faults
-use Rattle.gnap_io.specs.Links.{new_link}
-use Rattle.gnap_io.specs.Worlds.{WorldState, with_opening, with_gears}
+use Rattle.outside.specs.declared.world.Opening.TheVariants.{Gears, Link}
+use Rattle.outside.specs.declared.world.WorldFault.{WorldFault}
+use Rattle.outside.specs.declared.world.WorldFault.TheVariants as faults
+use Rattle.outside.specs.Links.{new_link}
+use Rattle.outside.specs.Worlds.{WorldState, with_opening, with_gears}
 use Rattle.resource_server.specs.declared.setup.RsSetup.{RsSetup}
 use Rattle.introspection_cache.specs.Caching.{Cache, Caches, new_cache}
 use Rattle.rs_edge.specs.GuardedSteps.{GuardsKeeping}

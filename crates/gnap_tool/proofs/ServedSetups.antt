@@ -1,10 +1,10 @@
 -- What serving a setup at an address does to the world.
 use Rattle.std.proofs.Common.{◌≡◌, ℕ, List, [], ◌∷◌, ◌⊎◌, refl, sym, subst, inl, inr}
 use Rattle.std.specs.Prelude.{Option, None, Result, Err}
-use Rattle.gnap_io.specs.declared.world.Opening.TheVariants.{Gears}
-use Rattle.gnap_io.specs.declared.world.WorldFault.{WorldFault}
-use Rattle.gnap_io.specs.Outside.{Told}
-use Rattle.gnap_io.specs.Worlds.{WorldState}
+use Rattle.outside.specs.declared.world.Opening.TheVariants.{Gears}
+use Rattle.outside.specs.declared.world.WorldFault.{WorldFault}
+use Rattle.outside.specs.Outside.{Told}
+use Rattle.outside.specs.Worlds.{WorldState}
 use Rattle.gnap_model.specs.declared.objects.Setup.{Setup}
 use Rattle.as_service.specs.Services.{IsService}
 use Rattle.as_service.specs.Services as grants

@@ -1,8 +1,8 @@
 -- Where nothing went wrong, a command was carried out.
 use Rattle.std.specs.Prelude.{◌≡◌, ◌<◌, ◌⊎◌, ℕ, List, ◌++◌, length, slice_get, Option, Some}
-use Rattle.gnap_io.specs.Outside.{Served, IsRest, Rose}
-use Rattle.gnap_io.specs.Worlds.{WorldState}
-use Rattle.gnap_io.specs.Openings.{new_files}
+use Rattle.outside.specs.Outside.{Served, IsRest, Rose}
+use Rattle.outside.specs.Worlds.{WorldState}
+use Rattle.outside.specs.Openings.{new_files}
 use Rattle.gnap_model.specs.declared.objects.Setup.{Setup}
 use Rattle.command_inputs.specs.Configs.{setup_in}
 use Rattle.command_inputs.specs.Lines.{lines_of}

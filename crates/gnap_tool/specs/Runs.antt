@@ -3,9 +3,9 @@ use Rattle.std.specs.Prelude.{◌≡◌, ◌<◌, ◌^◌, ◌⊎◌, ℕ, List,
 use Rattle.std.specs.Io.BufRead.{strip_last}
 use Rattle.std.specs.Option.{option_copied}
 use Rattle.message_signature.specs.Marks.{is_nonce}
-use Rattle.gnap_io.specs.Outside.{Told}
-use Rattle.gnap_io.specs.Worlds.{WorldState}
-use Rattle.gnap_io.specs.declared.world.WorldFault.{WorldFault}
+use Rattle.outside.specs.Outside.{Told}
+use Rattle.outside.specs.Worlds.{WorldState}
+use Rattle.outside.specs.declared.world.WorldFault.{WorldFault}
 use Rattle.as_service.specs.Services.{IsService}
 use Rattle.rs_facing.specs.SetServices.{IsSetService}
 use Rattle.derivation_requests.specs.Pairs.{Pair}

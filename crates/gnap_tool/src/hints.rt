@@ -4,8 +4,8 @@ use command_inputs::{ConfigKind, Ended, WrongSetup};
 use command_words::telling::{tell, tell_number, tell_shown};
 use command_words::{Command, Service};
 use fault_places::FaultPlace;
-use gnap_io::device::{Sink, write_all};
 use gnap_objects::{ObjectFault, SetupFault};
+use outside::device::{Sink, write_all};
 use std::fmt;
 use std::fmt::Write;
 

@@ -1,6 +1,6 @@
 //! The servers of a setup: what is served of it, at an address.
 ghost use Rattle.std.specs.Prelude.{◌≡◌, ℕ, ◌∷◌, None, true};
-ghost use Rattle.gnap_io.specs.Outside.{Told};
+ghost use Rattle.outside.specs.Outside.{Told};
 ghost use Rattle.serving.specs.ServiceEnds.{HaveServedJust};
 ghost use Rattle.gnap_objects.specs.Setups.{IsSetup};
 ghost use Rattle.command_inputs.specs.Ends.{CountsWrites};
@@ -15,8 +15,8 @@ use as_service::{serve_at, serve_deriving_at};
 use bytes_and_lists::bytes::Bytes;
 use command_inputs::{Ended, SetupReader};
 use command_words::{Command, ServedSetup, Service};
-use gnap_io::world::{Opening, World, WorldFault};
 use gnap_model::objects::Setup;
+use outside::world::{Opening, World, WorldFault};
 use rs_facing::serve_sets_at;
 use std::alloc::Global;
 use std::sync::Wait;

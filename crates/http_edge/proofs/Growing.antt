@@ -2,8 +2,8 @@
 use Rattle.std.proofs.Common.{◌≡◌, ℕ, ◌+◌, ◌-◌, ◌<◌, ◌≤◌, ◌⊎◌, List, [], ◌++◌, length, take, drop, sym, ap, ◌∙◌, subst, arith, append_assoc, append-nil, length-append, inl, inr, Bool, true}
 use Rattle.std.specs.Prelude.{Some, None, Ok, Err}
 use Rattle.bytes_and_lists.specs.declared.message.Message.{Message}
-use Rattle.gnap_io.specs.Outside.{Told, Takes, Reads, IsAtEnd}
-use Rattle.gnap_io.proofs.Devices.{takes_none, takes_then}
+use Rattle.outside.specs.Outside.{Told, Takes, Reads, IsAtEnd}
+use Rattle.outside.proofs.Devices.{takes_none, takes_then}
 use Rattle.http_edge.specs.declared.fault.EdgeFault.{EdgeFault}
 use Rattle.http_edge.specs.declared.fault.EdgeFault.TheVariants as faults
 use Rattle.http_edge.specs.declared.places.LinePlace.{LinePlace}

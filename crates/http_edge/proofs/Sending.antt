@@ -6,8 +6,8 @@ use Rattle.std.proofs.Math.Seq.{drop-cons}
 use Rattle.std.proofs.lemmas.List.{take-append-drop}
 use Rattle.std.proofs.lemmas.Grind.{flat_map-append}
 use Rattle.bytes_and_lists.specs.Prefixes.{IsPrefix}
-use Rattle.gnap_io.specs.Outside.{Told, Writes, HasSent}
-use Rattle.gnap_io.proofs.Devices.{writes_none, writes_then}
+use Rattle.outside.specs.Outside.{Told, Writes, HasSent}
+use Rattle.outside.proofs.Devices.{writes_none, writes_then}
 use Rattle.http_edge.specs.Writes.{bytes_of_pieces, IsUnderWay}
 
 -- a beginning of a text was written

@@ -1,6 +1,6 @@
 -- What the next message of a stream is read from.
 use Rattle.std.specs.Prelude.{◌≡◌, ℕ, ◌<◌, ◌≤◌, List, [], ◌++◌, length, Option, Some, None, Result, Ok, Err}
-use Rattle.gnap_io.specs.Outside.{Told, Takes, IsAtEnd, Rose}
+use Rattle.outside.specs.Outside.{Told, Takes, IsAtEnd, Rose}
 use Rattle.bytes_and_lists.specs.declared.message.Message.{Message}
 use Rattle.http_edge.specs.declared.fault.EdgeFault.{EdgeFault}
 use Rattle.http_edge.specs.declared.fault.EdgeFault.TheVariants as faults

@@ -3,7 +3,7 @@ use Rattle.std.specs.Prelude.{◌≡◌, ℕ, ◌+◌, ◌<◌, ◌≤◌, Bool,
 use Rattle.httparse.specs.Grammar.{print_request, is_token_byte, RequestHead, ReadsRequest}
 use Rattle.httparse.specs.Spans.{span_bytes, IsWithin, IsRequestWithin, IsRequestOf}
 use Rattle.httparse.specs.declared.spans.HeaderSpan.{HeaderSpan}
-use Rattle.gnap_io.specs.Outside.{Told, Takes, IsAtEnd, Rose}
+use Rattle.outside.specs.Outside.{Told, Takes, IsAtEnd, Rose}
 use Rattle.http_edge.specs.declared.fault.EdgeFault.{EdgeFault}
 use Rattle.http_edge.specs.declared.fault.EdgeFault.TheVariants as faults
 use Rattle.http_edge.specs.declared.framing.Framing.{Framing}

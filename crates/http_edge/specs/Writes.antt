@@ -2,7 +2,7 @@
 use Rattle.std.specs.Prelude.{◌≡◌, ℕ, List, ◌++◌, flat_map, Result, MatchResult}
 use Rattle.std.specs.Borrow.{Bor}
 use Rattle.bytes_and_lists.specs.Prefixes.{IsPrefix}
-use Rattle.gnap_io.specs.Outside.{Told, Writes}
+use Rattle.outside.specs.Outside.{Told, Writes}
 
 -- so many bytes of a reply are written at once
 abbrev pub room : ℕ

@@ -1,12 +1,12 @@
 //! Bytes that were read of a source and not used yet.
 ghost use Rattle.std.specs.Prelude.{◌≡◌, ◌↔◌, ℕ, IsTrue, ◌+◌, ◌-◌, ◌<◌, ◌≤◌, [], length, take, drop, slice_range, IfOk, OnOk, OnErr};
-ghost use Rattle.gnap_io.specs.Outside.{HasRead, HasCause};
+ghost use Rattle.outside.specs.Outside.{HasRead, HasCause};
 ghost use Rattle.http_edge.specs.Limits.{message_limit};
 ghost use Rattle.http_edge.specs.Streams.{HasNoMessage};
 ghost use Rattle.http_edge.specs.Steps.{HasArrived};
 
 use bytes_and_lists::memory::Mem;
-use gnap_io::device::{Failed, Source};
+use outside::device::{Failed, Source};
 use std::alloc::Global;
 use std::marker::Model;
 

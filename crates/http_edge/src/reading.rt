@@ -12,7 +12,7 @@ use crate::messages::{Beginning, Want, take_message};
 use crate::places::{LinePlace, is_behind_head, line_place};
 use crate::request_heads::HEAD_LIMIT;
 use bytes_and_lists::message::Message;
-use gnap_io::device::Source;
+use outside::device::Source;
 use std::alloc::Global;
 
 // So many bytes of a head are asked of the source at once.

@@ -1,15 +1,15 @@
 //! Replies into bytes.
 ghost use Rattle.std.specs.Prelude.{◌≡◌, ◌+◌, ◌≤◌, ◌++◌, [], length, true, codes, OnOk};
 ghost use Rattle.http.specs.StatusCode.{code_digits};
-ghost use Rattle.gnap_io.specs.Outside.{HasSent, HasCause};
+ghost use Rattle.outside.specs.Outside.{HasSent, HasCause};
 ghost use Rattle.http_edge.specs.Replies.{is_used, phrase_of, type_line, extra_line, close_line, length_line, body_bytes, reply_bytes, MayWrite};
 ghost use Rattle.http_edge.specs.Writes.{room, bytes_of_pieces, HasPut};
 
 use crate::reply::{Extra, HttpReply};
 use bytes_and_lists::bytes::Bytes;
-use gnap_io::device::{Failed, Sink, write_all};
 use http::StatusCode;
 use itoa::Buffer;
+use outside::device::{Failed, Sink, write_all};
 use std::marker::Model;
 use thiserror::Error;
 

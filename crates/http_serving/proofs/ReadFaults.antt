@@ -1,7 +1,7 @@
 -- Why there is no request, in the words of a server.
 use Rattle.std.proofs.Common.{◌≡◌, ℕ, List, ◌++◌, sym, subst}
 use Rattle.std.specs.Prelude.{Err}
-use Rattle.gnap_io.specs.Outside.{Told}
+use Rattle.outside.specs.Outside.{Told}
 use Rattle.http_edge.specs.declared.fault.EdgeFault.{EdgeFault}
 use Rattle.http_edge.specs.declared.fault.EdgeFault.TheVariants as faults
 use Rattle.http_edge.specs.Reads.{HasFault, IsNextMessage}

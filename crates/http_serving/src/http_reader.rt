@@ -1,8 +1,8 @@
 //! Requests as the messages of a connection.
 use crate::requests::{read_request, write_busy, write_fault};
 use bytes_and_lists::message::Message;
-use gnap_io::device::{Failed, Sink, Source};
 use http_edge::{EdgeFault, Held};
+use outside::device::{Failed, Sink, Source};
 use serving::ends::{ConnectionEnd, NoMessage};
 use serving::message_reader::MessageReader;
 use serving::server_front::ServerFront;

@@ -1,14 +1,14 @@
 //! Replies that may be written.
 ghost use Rattle.std.specs.Prelude.{◌≡◌, true, None};
 ghost use Rattle.std.specs.List.{list_all};
-ghost use Rattle.gnap_io.specs.Outside.{HasSent, HasCause};
+ghost use Rattle.outside.specs.Outside.{HasSent, HasCause};
 ghost use Rattle.http_edge.specs.declared.reply.Extra.TheVariants.{Allow};
 ghost use Rattle.http_edge.specs.Replies.{is_method_byte, is_used, plain_reply, reply_bytes};
 
 use crate::requests::write_whole;
 use bytes_and_lists::bytes::Bytes;
-use gnap_io::device::{Failed, Sink};
 use http_edge::HttpReply;
+use outside::device::{Failed, Sink};
 use std::marker::Model;
 
 /// A reply that may be written. Contracts see the reply.

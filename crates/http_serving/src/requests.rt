@@ -1,13 +1,13 @@
 //! Requests of a connection, and what is written where there is none.
 ghost use Rattle.std.specs.Prelude.{◌≡◌};
-ghost use Rattle.gnap_io.specs.Outside.{HasSent, HasCause};
+ghost use Rattle.outside.specs.Outside.{HasSent, HasCause};
 ghost use Rattle.http_edge.specs.Replies.{busy_reply, reply_bytes, MayWrite};
 ghost use Rattle.serving.specs.Reading.{ReadsMessage, HasReadCause};
 ghost use Rattle.http_serving.specs.EdgeWire.{edge_wire, no_message};
 
 use bytes_and_lists::message::Message;
-use gnap_io::device::{Failed, Sink, Source};
 use http_edge::{EdgeFault, Held, HttpReply, WriteFault, fault_reply, next_message, write_reply};
+use outside::device::{Failed, Sink, Source};
 use serving::ends::NoMessage;
 use std::alloc::Global;
 

@@ -10,7 +10,7 @@ use Rattle.std.proofs.lemmas.Slice.Eq.{bytes_eq-Decides}
 use Rattle.lru.proofs.CallerLemmas.{Contains-take, Contains-lookup, Contains-remove_entry, Contains-promoted}
 use Rattle.lru.proofs.Splits.{Contains-head, Contains-tail, Contains-cons, Contains-nil}
 use Rattle.bytes_and_lists.specs.declared.message.Message.{Message}
-use Rattle.gnap_io.specs.Links.{Exchange}
+use Rattle.outside.specs.Links.{Exchange}
 use Rattle.reply_readers.specs.declared.judgement.Judgement.TheVariants.{Active}
 use Rattle.signed_requests.specs.declared.unsigned.Scheme.{Scheme}
 use Rattle.resource_server.specs.declared.setup.Route.{Route}

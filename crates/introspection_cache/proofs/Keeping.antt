@@ -2,8 +2,8 @@
 use Rattle.std.proofs.Common.{◌≡◌, ◌≢◌, ◌∙◌, ℕ, List, refl, sym, subst}
 use Rattle.std.specs.Prelude.{Option, Some, None, Ok, Err}
 use Rattle.bytes_and_lists.specs.declared.message.Message.{Message}
-use Rattle.gnap_io.specs.Links.{LinkState}
-use Rattle.gnap_io.specs.declared.link.LinkFault.TheVariants as link_faults
+use Rattle.outside.specs.Links.{LinkState}
+use Rattle.outside.specs.declared.link.LinkFault.TheVariants as link_faults
 use Rattle.gnap_model.specs.declared.rights.Right.{Right}
 use Rattle.reply_readers.specs.declared.judgement.Judgement.{Judgement}
 use Rattle.reply_readers.specs.declared.judgement.Judgement.TheVariants.{Active, Inactive}

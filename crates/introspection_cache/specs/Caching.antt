@@ -4,7 +4,7 @@ use Rattle.std.specs.Prelude.{if◌then◌else◌}
 use Rattle.std.specs.Map.{lookup, remove_entry}
 use Rattle.std.specs.Str.{bytes_eq}
 use Rattle.lru.specs.LruCache.{promoted}
-use Rattle.gnap_io.specs.Links.{Exchange}
+use Rattle.outside.specs.Links.{Exchange}
 use Rattle.bytes_and_lists.specs.declared.message.Message.{Message}
 use Rattle.gnap_model.specs.declared.rights.Right.{Right}
 use Rattle.reply_readers.specs.declared.judgement.Judgement.TheVariants.{Active}

@@ -1,6 +1,6 @@
 -- What holds of requests that are guarded with a cache, one after another.
 use Rattle.std.specs.Prelude.{◌≡◌, ◌⊎◌, ℕ, ◌+◌, ◌<◌, ◌≤◌, List, [], ◌∷◌, length, Option, Some, Contains}
-use Rattle.gnap_io.specs.Links.{Exchange}
+use Rattle.outside.specs.Links.{Exchange}
 use Rattle.bytes_and_lists.specs.declared.message.Message.{Message}
 use Rattle.gnap_model.specs.declared.rights.Right.{Right}
 use Rattle.reply_readers.specs.declared.judgement.Judgement.TheVariants.{Active}

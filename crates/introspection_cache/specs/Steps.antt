@@ -1,8 +1,8 @@
 -- The steps on the way to an answer.
 use Rattle.std.specs.Prelude.{◌≡◌, ◌≢◌, ℕ, List, Option, Some, None, Result, Ok, Err}
-use Rattle.gnap_io.specs.Links.{LinkState}
+use Rattle.outside.specs.Links.{LinkState}
 use Rattle.bytes_and_lists.specs.declared.message.Message.{Message}
-use Rattle.gnap_io.specs.declared.link.LinkFault.{LinkFault}
+use Rattle.outside.specs.declared.link.LinkFault.{LinkFault}
 use Rattle.gnap_model.specs.declared.rights.Right.{Right}
 use Rattle.reply_readers.specs.declared.judgement.Judgement.{Judgement}
 use Rattle.reply_readers.specs.declared.judgement.Judgement.TheVariants.{Active, Inactive}

@@ -5,7 +5,7 @@ ghost use Rattle.std.specs.Map.{lookup};
 ghost use Rattle.std.specs.Str.{bytes_eq};
 ghost use Rattle.lru.specs.LruCache.{promoted};
 ghost use Rattle.access_rights.specs.Fits.{Fits};
-ghost use Rattle.gnap_io.specs.Outside.{Rose};
+ghost use Rattle.outside.specs.Outside.{Rose};
 ghost use Rattle.resource_server.specs.Fits.{RsSetupFits};
 ghost use Rattle.resource_server.specs.Guarding.{GuardsOver, IsAnswer, Judged};
 ghost use Rattle.resource_server.specs.Introspecting.{introspection_text, IsAsked};
@@ -21,9 +21,9 @@ use crate::replies::{Replies, forget, fresh_to, keep, promote};
 use bytes_and_lists::bytes::Bytes;
 use bytes_and_lists::memory::{Duplicate, Mem};
 use bytes_and_lists::message::Message;
-use gnap_io::link::{Link, LinkFault};
 use gnap_model::rights::Rights;
 use lru::LruCache;
+use outside::link::{Link, LinkFault};
 use reply_readers::Judgement;
 use resource_server::{
     Guarded, RequestGuard, RsSetup, Why, answer_of, ask, introspection_text, judged, question,

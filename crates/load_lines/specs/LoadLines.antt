@@ -1,7 +1,7 @@
 -- What is printed of a load.
 use Rattle.std.specs.Prelude.{◌≡◌, ◌⊎◌, ℕ, List, [], ◌∷◌, ◌++◌, codes}
 use Rattle.std.specs.Fmt.{decimal}
-use Rattle.gnap_io.specs.Outside.{Told}
+use Rattle.outside.specs.Outside.{Told}
 use Rattle.desk_load.specs.declared.tally.Tally.{Tally}
 use Rattle.desk_load.specs.Loads.{IsLoad}
 use Rattle.command_inputs.specs.declared.ended.Ended.{Ended}

@@ -7,7 +7,7 @@ use bytes_and_lists::bytes::Bytes;
 use bytes_and_lists::memory::Mem;
 use command_inputs::{Ended, print_text};
 use desk_load::{Tally, load_setup, put_load};
-use gnap_io::device::Sink;
+use outside::device::Sink;
 use std::alloc::Global;
 use std::sync::Wait;
 use std::thread::Threads;

@@ -1,8 +1,8 @@
 -- The answer to a message file, from what was printed for it.
 use Rattle.std.proofs.Common.{◌≡◌, ◌≢◌, ℕ, List, [], refl, sym, subst, ◌⊎◌, inl, inr}
 use Rattle.std.specs.Prelude.{Result, Ok, Err}
-use Rattle.gnap_io.specs.Outside.{Told}
-use Rattle.gnap_io.proofs.Devices.{writes_none}
+use Rattle.outside.specs.Outside.{Told}
+use Rattle.outside.proofs.Devices.{writes_none}
 use Rattle.signed_files.specs.declared.fault.FileFault.{FileFault}
 use Rattle.signed_files.specs.declared.fault.FileFault.TheVariants as file_faults
 use Rattle.signed_files.specs.MessageFiles.{Gives, CountsReadFault}

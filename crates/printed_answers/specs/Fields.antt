@@ -1,6 +1,6 @@
 -- What is printed for the text of a structured field (RFC 9651).
 use Rattle.std.specs.Prelude.{◌≡◌, ℕ, List, [], ◌∷◌, ◌++◌, codes, Result, Ok, Err}
-use Rattle.gnap_io.specs.Outside.{Told}
+use Rattle.outside.specs.Outside.{Told}
 use Rattle.structured_fields.specs.declared.fault.FieldFault.{FieldFault}
 use Rattle.structured_fields.specs.declared.fault.FieldFault.TheVariants.{NotInGrammar as NoField, OutOfMemory}
 use Rattle.structured_fields.specs.declared.item.Item.{Item}

@@ -1,6 +1,6 @@
 -- What is printed of an interaction hash.
 use Rattle.std.specs.Prelude.{◌≡◌, ◌⊎◌, ℕ, List, [], ◌∷◌, ◌++◌}
-use Rattle.gnap_io.specs.Outside.{Told}
+use Rattle.outside.specs.Outside.{Told}
 use Rattle.interaction.specs.Hashes.{interaction_hash}
 use Rattle.command_inputs.specs.declared.ended.Ended.{Ended}
 use Rattle.command_inputs.specs.declared.ended.Ended.TheVariants.{Done, WriteFault, Memory}

@@ -1,6 +1,6 @@
 -- What is printed for a file with one message.
 use Rattle.std.specs.Prelude.{◌≡◌, ◌⊎◌, ℕ, List, [], ◌∷◌, ◌++◌, Result, Ok, Err, codes}
-use Rattle.gnap_io.specs.Outside.{Told}
+use Rattle.outside.specs.Outside.{Told}
 use Rattle.signed_files.specs.declared.fault.FileFault.{FileFault}
 use Rattle.signed_files.specs.declared.fault.FileFault.TheVariants as file_faults
 use Rattle.command_inputs.specs.declared.ended.Ended.{Ended}

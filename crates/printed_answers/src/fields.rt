@@ -1,13 +1,13 @@
 //! The canonical text of a structured field, printed.
 ghost use Rattle.std.specs.Prelude.{◌≡◌, ◌++◌, []};
 ghost use Rattle.std.specs.Io.BufRead.{strip_last};
-ghost use Rattle.gnap_io.specs.Outside.{Leaves, IsRest};
+ghost use Rattle.outside.specs.Outside.{Leaves, IsRest};
 ghost use Rattle.command_inputs.specs.Ends.{CountsReads, CountsWrites, Took};
 ghost use Rattle.printed_answers.specs.Fields.{IsCanonical, PrintsField};
 
 use bytes_and_lists::bytes::Bytes;
 use command_inputs::{Ended, InputFault, read_input};
-use gnap_io::device::{Sink, Source, write_all};
+use outside::device::{Sink, Source, write_all};
 use std::alloc::Global;
 use structured_fields::{
     FieldFault, read_dictionary, read_item, read_list, write_dictionary, write_item, write_list,

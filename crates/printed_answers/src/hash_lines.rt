@@ -6,8 +6,8 @@ ghost use Rattle.printed_answers.specs.HashLines.{hash_line, PrintsHash};
 use bytes_and_lists::bytes::Bytes;
 use bytes_and_lists::memory::Mem;
 use command_inputs::{Ended, print_text};
-use gnap_io::device::Sink;
 use interaction::interaction_hash;
+use outside::device::Sink;
 use std::alloc::Global;
 
 /// What an interaction hash is made of (RFC 9635, section 4.2.3).

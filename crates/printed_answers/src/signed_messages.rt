@@ -1,7 +1,7 @@
 //! Messages that are signed or verified, printed.
 ghost use Rattle.std.specs.Prelude.{◌≡◌, ◌≢◌, ◌<◌, ◌^◌, true, [], ◌++◌, IfOk, IfSome};
 ghost use Rattle.std.specs.Option.{option_copied};
-ghost use Rattle.gnap_io.specs.Outside.{IsAtEnd, IsRest, Leaves};
+ghost use Rattle.outside.specs.Outside.{IsAtEnd, IsRest, Leaves};
 ghost use Rattle.message_signature.specs.Marks.{is_nonce};
 ghost use Rattle.gnap_objects.specs.Setups.{IsSetup};
 ghost use Rattle.signed_files.specs.SignedText.{SignsFile};
@@ -12,8 +12,8 @@ ghost use Rattle.printed_answers.specs.MessageAnswers.{PrintsFault, PrintsFor, r
 use bytes_and_lists::bytes::Bytes;
 use bytes_and_lists::memory::Mem;
 use command_inputs::{Ended, print_text};
-use gnap_io::device::{Sink, Source, write_all};
 use gnap_model::objects::Setup;
+use outside::device::{Sink, Source, write_all};
 use signed_files::{FileFault, sign_file, verify_file};
 use std::alloc::Global;
 

@@ -8,10 +8,10 @@ use Rattle.gnap_model.specs.declared.rights.Right.{Right}
 use Rattle.gnap_model.specs.Rights.{covers}
 use Rattle.message_signature.specs.declared.fault.SigFault.{SigFault}
 use Rattle.message_signature.specs.Verified.{verified}
-use Rattle.gnap_io.specs.Links.{Exchange, LinkState}
-use Rattle.gnap_io.specs.Outside.{Rose}
-use Rattle.gnap_io.specs.declared.link.LinkFault.{LinkFault}
-use Rattle.gnap_io.specs.declared.link.LinkFault.TheVariants as link_faults
+use Rattle.outside.specs.Links.{Exchange, LinkState}
+use Rattle.outside.specs.Outside.{Rose}
+use Rattle.outside.specs.declared.link.LinkFault.{LinkFault}
+use Rattle.outside.specs.declared.link.LinkFault.TheVariants as link_faults
 use Rattle.reply_readers.specs.declared.judgement.Judgement.{Judgement}
 use Rattle.reply_readers.specs.declared.judgement.Judgement.TheVariants.{Active, Inactive}
 use Rattle.signed_requests.specs.declared.unsigned.Scheme.{Scheme}

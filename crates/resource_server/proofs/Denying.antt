@@ -11,9 +11,9 @@ use Rattle.gnap_model.specs.declared.rights.Right.{Right}
 use Rattle.gnap_model.specs.Rights.{covers}
 use Rattle.message_signature.specs.declared.fault.SigFault.{SigFault}
 use Rattle.message_signature.specs.Verified.{verified}
-use Rattle.gnap_io.specs.Links.{Exchange}
-use Rattle.gnap_io.specs.declared.link.LinkFault.{LinkFault}
-use Rattle.gnap_io.specs.declared.link.LinkFault.TheVariants as link_faults
+use Rattle.outside.specs.Links.{Exchange}
+use Rattle.outside.specs.declared.link.LinkFault.{LinkFault}
+use Rattle.outside.specs.declared.link.LinkFault.TheVariants as link_faults
 use Rattle.reply_readers.specs.declared.judgement.Judgement.{Judgement}
 use Rattle.reply_readers.specs.declared.judgement.Judgement.TheVariants.{Active, Inactive}
 use Rattle.signed_requests.specs.declared.unsigned.Scheme.{Scheme}

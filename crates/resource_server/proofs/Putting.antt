@@ -3,9 +3,9 @@ use Rattle.std.proofs.Common.{◌≡◌, ◌∙◌, ◌⊎◌, inl, inr, ℕ, Li
 use Rattle.std.specs.Prelude.{Option, Some, None, Result, Ok, Err, slice_get}
 use Rattle.bytes_and_lists.specs.declared.message.Message.{Message}
 use Rattle.gnap_model.specs.declared.rights.Right.{Right}
-use Rattle.gnap_io.specs.Links.{LinkState, Exchanges}
-use Rattle.gnap_io.specs.declared.link.LinkFault.{LinkFault}
-use Rattle.gnap_io.specs.declared.link.LinkFault.TheVariants as link_faults
+use Rattle.outside.specs.Links.{LinkState, Exchanges}
+use Rattle.outside.specs.declared.link.LinkFault.{LinkFault}
+use Rattle.outside.specs.declared.link.LinkFault.TheVariants as link_faults
 use Rattle.reply_readers.specs.declared.judgement.Judgement.{Judgement}
 use Rattle.signed_requests.specs.declared.unsigned.Scheme.{Scheme}
 use Rattle.resource_server.specs.declared.setup.Route.{Route}

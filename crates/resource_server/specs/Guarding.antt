@@ -1,10 +1,10 @@
 -- What a resource server answers to a request.
 use Rattle.std.specs.Prelude.{◌≡◌, ◌<◌, ℕ, Bool, true, false, not, List, [], ◌∷◌, ◌++◌, length, Option, Some, None, Result, Ok, Err, if◌then◌else◌, codes, slice_get}
 use Rattle.std.specs.Str.{bytes_eq}
-use Rattle.gnap_io.specs.Outside.{Rose}
-use Rattle.gnap_io.specs.Links.{Exchange, LinkState}
-use Rattle.gnap_io.specs.declared.link.LinkFault.{LinkFault}
-use Rattle.gnap_io.specs.declared.link.LinkFault.TheVariants as link_faults
+use Rattle.outside.specs.Outside.{Rose}
+use Rattle.outside.specs.Links.{Exchange, LinkState}
+use Rattle.outside.specs.declared.link.LinkFault.{LinkFault}
+use Rattle.outside.specs.declared.link.LinkFault.TheVariants as link_faults
 use Rattle.bytes_and_lists.specs.declared.message.Message.{Message}
 use Rattle.gnap_model.specs.declared.rights.Right.{Right}
 use Rattle.gnap_model.specs.Rights.{covers}

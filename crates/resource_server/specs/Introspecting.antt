@@ -3,8 +3,8 @@ use Rattle.std.specs.Prelude.{◌≡◌, ℕ, List, [], ◌∷◌, Option, Some,
 use Rattle.serde_json.specs.Data.{Data, string}
 use Rattle.serde_json.specs.Written.{compact_text}
 use Rattle.json_objects.specs.Objects.{object_of}
-use Rattle.gnap_io.specs.Links.{LinkState, Exchanges}
-use Rattle.gnap_io.specs.declared.link.LinkFault.{LinkFault}
+use Rattle.outside.specs.Links.{LinkState, Exchanges}
+use Rattle.outside.specs.declared.link.LinkFault.{LinkFault}
 use Rattle.gnap_model.specs.declared.rights.Right.{Right}
 use Rattle.access_rights.specs.Printing.{rights_data}
 use Rattle.signed_requests.specs.declared.unsigned.UnsignedRequest.{UnsignedRequest}

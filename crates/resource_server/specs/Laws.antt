@@ -1,7 +1,7 @@
 -- When a request is let through, and when it is refused.
 use Rattle.std.specs.Prelude.{◌≡◌, ◌≢◌, ◌⊎◌, ℕ, true, false, List, [], ◌∷◌, filter, Option, Some, None, Ok, codes, slice_get}
 use Rattle.std.specs.List.{list_any}
-use Rattle.gnap_io.specs.Links.{Exchange}
+use Rattle.outside.specs.Links.{Exchange}
 use Rattle.bytes_and_lists.specs.declared.message.Message.{Message}
 use Rattle.gnap_model.specs.declared.rights.Right.{Right}
 use Rattle.gnap_model.specs.Rights.{covers}

@@ -1,6 +1,6 @@
 //! Guarding a request.
 ghost use Rattle.std.specs.Prelude.{◌≡◌, ◌<◌, ◌^◌, Ok, length, IsUtf8};
-ghost use Rattle.gnap_io.specs.Outside.{Rose};
+ghost use Rattle.outside.specs.Outside.{Rose};
 ghost use Rattle.resource_server.specs.Fits.{RsSetupFits};
 ghost use Rattle.resource_server.specs.Guarding.{Guards, GuardsOver, IsAnswer};
 ghost use Rattle.resource_server.specs.Routing.{question_of};
@@ -11,7 +11,7 @@ use crate::judging::judged;
 use crate::routing::question;
 use crate::setup::RsSetup;
 use bytes_and_lists::message::Message;
-use gnap_io::link::{Link, LinkFault};
+use outside::link::{Link, LinkFault};
 use signed_requests::Scheme;
 use std::alloc::Global;
 

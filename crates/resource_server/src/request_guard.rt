@@ -1,8 +1,8 @@
 //! Who guards the requests of a resource server, one after another.
 ghost use Rattle.std.specs.Prelude.{◌≡◌, ℕ, ◌<◌, ◌^◌, List};
 ghost use Rattle.bytes_and_lists.specs.declared.message.Message.{Message};
-ghost use Rattle.gnap_io.specs.Links.{Exchange};
-ghost use Rattle.gnap_io.specs.Outside.{Rose};
+ghost use Rattle.outside.specs.Links.{Exchange};
+ghost use Rattle.outside.specs.Outside.{Rose};
 ghost use Rattle.resource_server.specs.declared.guarded.Guarded.{Guarded};
 ghost use Rattle.resource_server.specs.declared.setup.RsSetup.{RsSetup};
 ghost use Rattle.resource_server.specs.Fits.{RsSetupFits};
@@ -12,7 +12,7 @@ use crate::guarded::Guarded;
 use crate::guarding;
 use crate::setup::RsSetup;
 use bytes_and_lists::message::Message;
-use gnap_io::link::Link;
+use outside::link::Link;
 use std::alloc::Global;
 
 /// Guards requests, and may keep something from one to the next.

@@ -1,9 +1,9 @@
 -- The account of a gear, a link and a guard after one more connection.
 use Rattle.std.proofs.Common.{◌≡◌, ◌∙◌, ◌+◌, ◌-◌, ◌<◌, List, [], ◌∷◌, ◌++◌, length, refl, ap, sym, subst, arith, append_assoc, length-append}
 use Rattle.std.proofs.lemmas.List.{append-nil}
-use Rattle.gnap_io.specs.Gears.{GearState, IsUnused, with_served, empty_log}
-use Rattle.gnap_io.specs.Links.{Exchange, LinkState}
-use Rattle.gnap_io.specs.Outside.{Served}
+use Rattle.outside.specs.Gears.{GearState, IsUnused, with_served, empty_log}
+use Rattle.outside.specs.Links.{Exchange, LinkState}
+use Rattle.outside.specs.Outside.{Served}
 use Rattle.serving.specs.Logs.{joined}
 use Rattle.histories.specs.Turns.{moments_in, entries_in}
 use Rattle.histories.proofs.TurnLemmas.{moments_in-append, entries_in-append}

@@ -4,9 +4,9 @@ use Rattle.std.specs.Prelude.{Some, None}
 use Rattle.std.proofs.lemmas.List.{append-nil}
 use Rattle.lru.proofs.Splits.{cons_head, Contains-head, Contains-tail, Contains-cons, Contains-nil}
 use Rattle.bytes_and_lists.specs.declared.message.Message.{Message}
-use Rattle.gnap_io.specs.Gears.{Log, GearState}
-use Rattle.gnap_io.specs.Links.{Exchange, LinkState}
-use Rattle.gnap_io.specs.Outside.{Served}
+use Rattle.outside.specs.Gears.{Log, GearState}
+use Rattle.outside.specs.Links.{Exchange, LinkState}
+use Rattle.outside.specs.Outside.{Served}
 use Rattle.histories.specs.Turns.{Turn, Each, entries_in}
 use Rattle.histories.proofs.TurnLemmas.{entries_in-append, each-append}
 use Rattle.http_edge.specs.declared.fault.EdgeFault.{EdgeFault}

@@ -2,12 +2,12 @@
 use Rattle.std.proofs.Common.{◌≡◌, ◌∙◌, ℕ, List, [], ◌∷◌, map, length, refl, sym, ap, subst, arith, Bool, true, false, inl}
 use Rattle.std.specs.Prelude.{slice_index_or, slice_set, Result, Ok, Err, All}
 use Rattle.std.proofs.lemmas.List.Elements.{All-nil, All-push}
-use Rattle.gnap_io.specs.Gears.{GearState, IsUnused, AreFull}
-use Rattle.gnap_io.specs.Links.{LinkState, new_link}
-use Rattle.gnap_io.specs.Worlds.{WorldState, HasWorldCause, with_opening, with_gears, with_link}
-use Rattle.gnap_io.specs.declared.world.Opening.TheVariants as opening
-use Rattle.gnap_io.specs.declared.world.WorldFault.{WorldFault}
-use Rattle.gnap_io.specs.declared.world.WorldFault.TheVariants as faults
+use Rattle.outside.specs.Gears.{GearState, IsUnused, AreFull}
+use Rattle.outside.specs.Links.{LinkState, new_link}
+use Rattle.outside.specs.Worlds.{WorldState, HasWorldCause, with_opening, with_gears, with_link}
+use Rattle.outside.specs.declared.world.Opening.TheVariants as opening
+use Rattle.outside.specs.declared.world.WorldFault.{WorldFault}
+use Rattle.outside.specs.declared.world.WorldFault.TheVariants as faults
 use Rattle.serving.specs.Workers.{HasServedAll}
 use Rattle.serving.specs.ServiceEnds.{has_failed, IsUsedUp, IsEndOfDoor, HaveServedJust}
 use Rattle.serving.proofs.UsedUp.{used_up}

@@ -1,9 +1,9 @@
 -- One message's turn, and a connection's, put together.
 use Rattle.std.proofs.Common.{◌≡◌, ◌≢◌, ◌∙◌, ℕ, Bool, [], ◌∷◌, refl, sym, ap, subst, arith, true, false}
 use Rattle.std.proofs.lemmas.List.{append-nil}
-use Rattle.gnap_io.specs.Gears.{GearState, with_moment}
-use Rattle.gnap_io.specs.Links.{LinkState}
-use Rattle.gnap_io.specs.Outside.{Told, Served}
+use Rattle.outside.specs.Gears.{GearState, with_moment}
+use Rattle.outside.specs.Links.{LinkState}
+use Rattle.outside.specs.Outside.{Told, Served}
 use Rattle.bytes_and_lists.specs.declared.message.Message.{Message}
 use Rattle.http_edge.specs.declared.reply.HttpReply.{HttpReply}
 use Rattle.http_edge.specs.Replies.{reply_bytes, busy_reply}

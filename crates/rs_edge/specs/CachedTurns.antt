@@ -1,8 +1,8 @@
 -- What lets requests through at a resource server with a cache, turn by turn.
 use Rattle.std.specs.Prelude.{◌≡◌, ◌⊎◌, ℕ, ◌+◌, ◌<◌, ◌≤◌, Bool, List, [], ◌∷◌, ◌++◌, Option, Some, Contains}
-use Rattle.gnap_io.specs.Gears.{Log, GearState}
-use Rattle.gnap_io.specs.Links.{Exchange, LinkState}
-use Rattle.gnap_io.specs.Outside.{Served}
+use Rattle.outside.specs.Gears.{Log, GearState}
+use Rattle.outside.specs.Links.{Exchange, LinkState}
+use Rattle.outside.specs.Outside.{Served}
 use Rattle.histories.specs.Turns.{Each, entries_in}
 use Rattle.http_edge.specs.declared.fault.EdgeFault.{EdgeFault}
 use Rattle.serving.specs.Logs.{joined}

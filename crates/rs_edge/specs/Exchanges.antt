@@ -1,7 +1,7 @@
 -- Exchanges after exchanges, and steps after steps.
 use Rattle.std.proofs.Common.{◌≡◌, ◌∙◌, ℕ, List, [], ◌∷◌, ◌++◌, refl, ap, sym, subst, append_assoc}
 use Rattle.std.proofs.lemmas.List.{append-nil}
-use Rattle.gnap_io.specs.Links.{Exchange, LinkState}
+use Rattle.outside.specs.Links.{Exchange, LinkState}
 use Rattle.resource_server.specs.Guarding.{CountsExchanges, AddsExchanges}
 use Rattle.rs_edge.specs.GuardedSteps.{GuardedStep, Chained, exchanges_in}
 

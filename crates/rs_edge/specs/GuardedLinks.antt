@@ -1,7 +1,7 @@
 -- A link and a guard as what turns are taken at.
 use Rattle.std.specs.Prelude.{◌≡◌, List, [], ◌++◌}
 use Rattle.std.proofs.Common.{◌∙◌, refl, sym, subst}
-use Rattle.gnap_io.specs.Links.{LinkState}
+use Rattle.outside.specs.Links.{LinkState}
 use Rattle.serving.specs.Backends.{BackendKind}
 use Rattle.resource_server.specs.declared.setup.RsSetup.{RsSetup}
 use Rattle.resource_server.specs.Fits.{RsSetupFits}

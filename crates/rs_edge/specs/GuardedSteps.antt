@@ -1,6 +1,6 @@
 -- What guarding requests did, one after another.
 use Rattle.std.specs.Prelude.{◌≡◌, ℕ, List, [], ◌∷◌, ◌++◌}
-use Rattle.gnap_io.specs.Links.{Exchange}
+use Rattle.outside.specs.Links.{Exchange}
 use Rattle.bytes_and_lists.specs.declared.message.Message.{Message}
 use Rattle.resource_server.specs.declared.setup.RsSetup.{RsSetup}
 use Rattle.resource_server.specs.declared.guarded.Guarded.{Guarded}

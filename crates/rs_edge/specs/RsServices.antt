@@ -1,10 +1,10 @@
 -- What serving a resource server at an address leaves behind.
 use Rattle.std.specs.Prelude.{◌≡◌, ℕ, Bool, false, List, [], ◌∷◌, Result, Err}
-use Rattle.gnap_io.specs.Gears.{GearState}
-use Rattle.gnap_io.specs.Links.{LinkState, new_link}
-use Rattle.gnap_io.specs.Worlds.{WorldState, HasWorldCause, with_opening, with_gears, with_link}
-use Rattle.gnap_io.specs.declared.world.Opening.TheVariants as opening
-use Rattle.gnap_io.specs.declared.world.WorldFault.{WorldFault}
+use Rattle.outside.specs.Gears.{GearState}
+use Rattle.outside.specs.Links.{LinkState, new_link}
+use Rattle.outside.specs.Worlds.{WorldState, HasWorldCause, with_opening, with_gears, with_link}
+use Rattle.outside.specs.declared.world.Opening.TheVariants as opening
+use Rattle.outside.specs.declared.world.WorldFault.{WorldFault}
 use Rattle.serving.specs.ServiceEnds.{has_failed, IsUsedUp, IsEndOfService}
 use Rattle.resource_server.specs.declared.setup.RsSetup.{RsSetup}
 use Rattle.rs_edge.specs.GuardedSteps.{GuardsKeeping}

@@ -1,8 +1,8 @@
 -- What is done with connections to a resource server.
 use Rattle.std.specs.Prelude.{◌≡◌, List, [], ◌∷◌}
-use Rattle.gnap_io.specs.Gears.{Log, GearState, with_uses}
-use Rattle.gnap_io.specs.Links.{Exchange, LinkState}
-use Rattle.gnap_io.specs.Outside.{Served}
+use Rattle.outside.specs.Gears.{Log, GearState, with_uses}
+use Rattle.outside.specs.Links.{Exchange, LinkState}
+use Rattle.outside.specs.Outside.{Served}
 use Rattle.serving.specs.Logs.{joined}
 use Rattle.histories.specs.Turns.{moments_in, entries_in}
 use Rattle.http_edge.specs.declared.fault.EdgeFault.{EdgeFault}

@@ -1,6 +1,6 @@
 -- Connections to a resource server on which nothing failed.
 use Rattle.std.specs.Prelude.{◌≡◌, ℕ, List}
-use Rattle.gnap_io.specs.Outside.{Served}
+use Rattle.outside.specs.Outside.{Served}
 use Rattle.serving.specs.Wholes.{IsServedWhole}
 use Rattle.http_serving.specs.EdgeWire.{edge_wire}
 use Rattle.resource_server.specs.declared.setup.RsSetup.{RsSetup}

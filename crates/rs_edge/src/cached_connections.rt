@@ -1,14 +1,14 @@
 //! A connection's messages, with a cache.
-ghost use Rattle.gnap_io.specs.Outside.{IsUntouched, served_of};
+ghost use Rattle.outside.specs.Outside.{IsUntouched, served_of};
 ghost use Rattle.resource_server.specs.Fits.{RsSetupFits};
 ghost use Rattle.rs_edge.specs.CachedTurns.{ServesCached};
 
 use crate::connections::serve_resources;
-use gnap_io::device::{Sink, Source};
-use gnap_io::gear::Clock;
-use gnap_io::link::Link;
 use http_edge::EdgeFault;
 use introspection_cache::CachedGuard;
+use outside::device::{Sink, Source};
+use outside::gear::Clock;
+use outside::link::Link;
 use resource_server::RsSetup;
 use serving::ends::ConnectionEnd;
 use std::alloc::Global;

@@ -1,15 +1,15 @@
 //! A connection's messages, one after another.
-ghost use Rattle.gnap_io.specs.Outside.{IsUntouched, served_of};
+ghost use Rattle.outside.specs.Outside.{IsUntouched, served_of};
 ghost use Rattle.resource_server.specs.Fits.{RsSetupFits};
 ghost use Rattle.rs_edge.specs.RsSessions.{ServesResources};
 
 use crate::guarded_link::GuardedLink;
 use crate::guarded_server::GuardedServer;
-use gnap_io::device::{Sink, Source};
-use gnap_io::gear::Clock;
-use gnap_io::link::Link;
 use http_edge::EdgeFault;
 use http_serving::HttpReader;
+use outside::device::{Sink, Source};
+use outside::gear::Clock;
+use outside::link::Link;
 use resource_server::{RequestGuard, RsSetup};
 use serving::connection::serve_connection;
 use serving::ends::ConnectionEnd;

@@ -1,13 +1,13 @@
 //! All connections of a gear.
 ghost use Rattle.std.specs.Prelude.{◌≡◌, [], true, false};
-ghost use Rattle.gnap_io.specs.Gears.{IsUnused};
+ghost use Rattle.outside.specs.Gears.{IsUnused};
 ghost use Rattle.resource_server.specs.Fits.{RsSetupFits};
 ghost use Rattle.serving.specs.Workers.{HasServedOne, HasServedAll};
 ghost use Rattle.rs_edge.specs.RsSessions.{IsRsAccount};
 
 use crate::connections::serve_resources;
-use gnap_io::gear::{Door, Gear};
-use gnap_io::link::Link;
+use outside::gear::{Door, Gear};
+use outside::link::Link;
 use resource_server::{RequestGuard, RsSetup};
 use std::alloc::Global;
 

@@ -2,9 +2,9 @@
 use crate::guarded_link::GuardedLink;
 use crate::turns::guarded_turn;
 use bytes_and_lists::message::Message;
-use gnap_io::device::{Sink, Source};
-use gnap_io::gear::Clock;
-use gnap_io::link::Link;
+use outside::device::{Sink, Source};
+use outside::gear::Clock;
+use outside::link::Link;
 use resource_server::{RequestGuard, RsSetup};
 use serving::ends::AfterTurn;
 use serving::turn_taker::TurnTaker;
@@ -18,7 +18,7 @@ pub(crate) struct GuardedServer<'a> {
 
 impl<'a, 'b, K: RequestGuard, L: Link, G: Clock> TurnTaker<GuardedLink<'b, L, K>, G>
     for GuardedServer<'a> {
-    ghost use Rattle.gnap_io.specs.Links.{LinkState};
+    ghost use Rattle.outside.specs.Links.{LinkState};
     ghost use Rattle.rs_edge.specs.GuardedLinks.{guarded_link};
     ghost use Rattle.rs_edge.specs.GuardedSteps.{GuardedStep};
     ghost use Rattle.rs_edge.specs.RsTurns.{IsRsTurn};

@@ -1,16 +1,16 @@
 //! Serving at an address of a world.
 ghost use Rattle.std.specs.Prelude.{◌≡◌, ℕ, All, length, map, true, false, IfOk};
-ghost use Rattle.gnap_io.specs.Gears.{IsUnused, AreFull};
-ghost use Rattle.gnap_io.specs.Links.{new_link};
+ghost use Rattle.outside.specs.Gears.{IsUnused, AreFull};
+ghost use Rattle.outside.specs.Links.{new_link};
 ghost use Rattle.serving.specs.ServiceEnds.{HaveServedJust};
 ghost use Rattle.resource_server.specs.Fits.{RsSetupFits};
 ghost use Rattle.rs_edge.specs.RsServices.{IsRsService, ServesOneGear};
 
 use crate::doors::serve_door;
 use bytes_and_lists::bytes::Bytes;
-use gnap_io::gear::{Door, Gear};
-use gnap_io::link::Link;
-use gnap_io::world::{World, WorldFault};
+use outside::gear::{Door, Gear};
+use outside::link::Link;
+use outside::world::{World, WorldFault};
 use resource_server::{RequestGuard, RsSetup};
 use std::alloc::Global;
 

@@ -1,8 +1,8 @@
 -- What holds of each legal history of sets holds of the one that gears account for.
 use Rattle.std.proofs.Common.{◌≡◌, ℕ, List, subst}
 use Rattle.std.specs.Prelude.{Result}
-use Rattle.gnap_io.specs.Worlds.{WorldState}
-use Rattle.gnap_io.specs.declared.world.WorldFault.{WorldFault}
+use Rattle.outside.specs.Worlds.{WorldState}
+use Rattle.outside.specs.declared.world.WorldFault.{WorldFault}
 use Rattle.histories.specs.History.{Legal}
 use Rattle.serving.specs.Services as serving
 use Rattle.gnap_model.specs.declared.objects.Setup.{Setup}

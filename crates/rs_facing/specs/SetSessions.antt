@@ -1,6 +1,6 @@
 -- What is done with a connection to the server of resource sets.
 use Rattle.std.specs.Prelude.{◌≡◌, ℕ, List, ◌∷◌, ◌++◌, refl}
-use Rattle.gnap_io.specs.Outside.{Served}
+use Rattle.outside.specs.Outside.{Served}
 use Rattle.bytes_and_lists.specs.declared.message.Message.{Message}
 use Rattle.histories.specs.Turns.{Turn, IsTurn}
 use Rattle.http_edge.specs.declared.fault.EdgeFault.{EdgeFault}

@@ -5,8 +5,8 @@ use Rattle.std.proofs.lemmas.List.{append-nil, take_all}
 use Rattle.std.proofs.lemmas.List.Concat.{flat_map-append}
 use Rattle.std.proofs.lemmas.List.Folds.{list_all-append}
 use Rattle.bytes_and_lists.specs.Prefixes.{IsPrefix}
-use Rattle.gnap_io.specs.Outside.{Told, IsAtEnd, IsRest, Writes}
-use Rattle.gnap_io.specs.Links.{Exchange}
+use Rattle.outside.specs.Outside.{Told, IsAtEnd, IsRest, Writes}
+use Rattle.outside.specs.Links.{Exchange}
 use Rattle.histories.specs.Turns.{AllOn, messages_in, entries_in, bytes_in}
 use Rattle.histories.proofs.TurnLemmas.{messages_in-append, entries_in-next, length-next}
 use Rattle.gnap_client.specs.declared.client.Client.{Client}

@@ -1,8 +1,8 @@
 -- The account of a script.
 use Rattle.std.specs.Prelude.{◌≡◌, ◌⊎◌, ◌&&◌, ℕ, Bool, true, false, List, [], ◌∷◌, ◌++◌, length, Option, None, if◌then◌else◌}
 use Rattle.std.specs.List.{list_all}
-use Rattle.gnap_io.specs.Outside.{Told, Writes}
-use Rattle.gnap_io.specs.Links.{Exchange}
+use Rattle.outside.specs.Outside.{Told, Writes}
+use Rattle.outside.specs.Links.{Exchange}
 use Rattle.histories.specs.Turns.{AllOn, messages_in, entries_in, bytes_in}
 use Rattle.gnap_client.specs.declared.client.Client.{Client}
 use Rattle.gnap_client.specs.Configs.{Parts, parts_of}

@@ -1,6 +1,6 @@
 //! What a person is told, on standard error, of a line that is none of a script. Whether it is written changes nothing else.
 use client_scripts::{LineFault, read_line};
-use gnap_io::device::{Sink, write_all};
+use outside::device::{Sink, write_all};
 use std::alloc::Global;
 
 fn tell_fault<E: Sink>(alloc: Global, err: &mut E, number: u64, fault: &LineFault) {

@@ -1,6 +1,6 @@
 //! The lines of a client's script, carried out over a link, and what is printed for them.
 ghost use Rattle.std.specs.Prelude.{◌≡◌, ◌≢◌, ◌≤◌, ◌&&◌, [], true, false, length};
-ghost use Rattle.gnap_io.specs.Outside.{IsAtEnd, IsRest, Leaves};
+ghost use Rattle.outside.specs.Outside.{IsAtEnd, IsRest, Leaves};
 ghost use Rattle.script_runs.specs.Scripts.{SaysLine, ScriptHad, EndsScript, RunsScript, ended_script};
 ghost use Rattle.command_inputs.specs.LineRuns.{CountsPrint, RunsLines, is_last};
 ghost use Rattle.command_inputs.specs.Reading.{held_by};
@@ -11,8 +11,8 @@ use bytes_and_lists::bytes::Bytes;
 use client_scripts::script_line;
 use command_inputs::{After, Ended, LineEnd, LineReader, emptied, say};
 use gnap_client::Client;
-use gnap_io::device::{Sink, Source};
-use gnap_io::link::Link;
+use outside::device::{Sink, Source};
+use outside::link::Link;
 use std::alloc::Global;
 
 // So many bytes of a line are looked at: all of them, since a source has no more.

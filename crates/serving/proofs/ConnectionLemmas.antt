@@ -4,8 +4,8 @@ use Rattle.std.specs.Prelude.{Bool, true, false, ◌||◌, ◌==◌, Option, Som
 use Rattle.std.proofs.lemmas.Bool.Decides.{nat_tests}
 use Rattle.std.proofs.lemmas.List.{append-nil}
 use Rattle.bytes_and_lists.specs.Prefixes.{IsPrefix}
-use Rattle.gnap_io.specs.Outside.{Told, Takes, Writes, Rose, served_of, IsUntouched}
-use Rattle.gnap_io.specs.Gears.{GearState, with_uses}
+use Rattle.outside.specs.Outside.{Told, Takes, Writes, Rose, served_of, IsUntouched}
+use Rattle.outside.specs.Gears.{GearState, with_uses}
 use Rattle.histories.specs.Turns.{Turn, OneMore, messages_in, moments_in, entries_in, bytes_in}
 use Rattle.histories.proofs.TurnLemmas.{messages_in-append, moments_in-append, entries_in-next, bytes_in-next, length-next}
 use Rattle.serving.specs.declared.ends.ConnectionEnd.{ConnectionEnd}

@@ -5,8 +5,8 @@ use Rattle.std.proofs.lemmas.List.{append-nil, take_all}
 use Rattle.std.proofs.Math.ListN.{drop_of_length-le}
 use mathlib.Core.Option.{some, some-injective, some-ne-none}
 use lib.ListN.{get_elem?}
-use Rattle.gnap_io.specs.Outside.{Served}
-use Rattle.gnap_io.specs.Gears.{Log, GearState, IsUnused}
+use Rattle.outside.specs.Outside.{Served}
+use Rattle.outside.specs.Gears.{Log, GearState, IsUnused}
 use Rattle.histories.specs.declared.entry.Entry.{Entry}
 use Rattle.histories.specs.History.{Law, Legal}
 use Rattle.histories.specs.Histories.{legal-nil}

@@ -1,7 +1,7 @@
 -- How many entries the one history of workers has.
 use Rattle.std.proofs.Common.{◌≡◌, ℕ, suc, ◌+◌, ◌*◌, ◌≤◌, List, [], ◌∷◌, length, length-append, refl, ap, subst, arith}
-use Rattle.gnap_io.specs.Outside.{Served}
-use Rattle.gnap_io.specs.Gears.{GearState}
+use Rattle.outside.specs.Outside.{Served}
+use Rattle.outside.specs.Gears.{GearState}
 use Rattle.histories.specs.declared.entry.Entry.{Entry}
 use Rattle.histories.specs.History.{Law}
 use Rattle.histories.specs.Turns.{Turn, Face, IsTurn, entries_in}

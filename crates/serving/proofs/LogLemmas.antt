@@ -2,8 +2,8 @@
 use Rattle.std.proofs.Common.{◌≡◌, ◌∙◌, ℕ, ◌*◌, ◌≤◌, List, [], ◌∷◌, ◌++◌, length, length-append, refl, ap, sym, subst, append_assoc, arith}
 use Rattle.std.specs.Prelude.{Bool, map}
 use Rattle.std.proofs.lemmas.List.{append-nil, map-append}
-use Rattle.gnap_io.specs.Outside.{Served}
-use Rattle.gnap_io.specs.Gears.{Log, GearState, empty_log, log_served, log_uses}
+use Rattle.outside.specs.Outside.{Served}
+use Rattle.outside.specs.Gears.{Log, GearState, empty_log, log_served, log_uses}
 use Rattle.histories.specs.History.{Law}
 use Rattle.histories.specs.declared.entry.Entry.{Entry}
 use Rattle.histories.specs.Turns.{Turn, Face, IsTurn, direct, called, starved, lapsed, unsaid, moments_in, entries_in, draw_of}

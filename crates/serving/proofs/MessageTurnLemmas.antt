@@ -2,8 +2,8 @@
 use Rattle.std.proofs.Common.{◌≡◌, ◌≢◌, ◌∙◌, ℕ, ◌≤◌, List, [], ◌∷◌, ◌++◌, map, length, refl, ap, sym, subst, append_assoc}
 use Rattle.std.specs.Prelude.{Bool, true, false, Result, Ok, Err, IfOk, OnErr}
 use Rattle.std.proofs.lemmas.List.{append-nil, map-append}
-use Rattle.gnap_io.specs.Outside.{Told}
-use Rattle.gnap_io.specs.Gears.{GearState, with_moment, with_draw, with_uses}
+use Rattle.outside.specs.Outside.{Told}
+use Rattle.outside.specs.Gears.{GearState, with_moment, with_draw, with_uses}
 use Rattle.histories.specs.declared.entry.Entry.{Entry}
 use Rattle.histories.specs.History.{Law, Legal, entry_of}
 use Rattle.histories.specs.Steps.{NoneOf, Enters, EntersLapse}

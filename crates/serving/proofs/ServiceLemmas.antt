@@ -3,11 +3,11 @@ use Rattle.std.proofs.Common.{◌≡◌, ◌∙◌, ℕ, suc, ◌≤◌, List, [
 use Rattle.std.specs.Prelude.{All, Result}
 use Rattle.std.proofs.lemmas.List.{length-map}
 use Rattle.std.proofs.lemmas.List.Elements.{All-map, All-nil, All-cons}
-use Rattle.gnap_io.specs.Outside.{Served}
-use Rattle.gnap_io.specs.Gears.{GearState, IsUnused, AreStarted, AreFull}
-use Rattle.gnap_io.specs.Worlds.{WorldState, with_opening, with_gears}
-use Rattle.gnap_io.specs.declared.world.Opening.TheVariants as opening
-use Rattle.gnap_io.specs.declared.world.WorldFault.{WorldFault}
+use Rattle.outside.specs.Outside.{Served}
+use Rattle.outside.specs.Gears.{GearState, IsUnused, AreStarted, AreFull}
+use Rattle.outside.specs.Worlds.{WorldState, with_opening, with_gears}
+use Rattle.outside.specs.declared.world.Opening.TheVariants as opening
+use Rattle.outside.specs.declared.world.WorldFault.{WorldFault}
 use Rattle.histories.specs.declared.entry.Entry.{Entry}
 use Rattle.histories.specs.History.{Law}
 use Rattle.histories.specs.Turns.{Turn}

@@ -4,8 +4,8 @@ use Rattle.std.specs.List.{remove}
 use Rattle.std.proofs.lemmas.List.{map-append}
 use mathlib.Core.Option.{some, some-injective, some-ne-none}
 use lib.ListN.{get_elem?}
-use Rattle.gnap_io.specs.Outside.{Served}
-use Rattle.gnap_io.specs.Gears.{Log, GearState}
+use Rattle.outside.specs.Outside.{Served}
+use Rattle.outside.specs.Gears.{Log, GearState}
 use Rattle.histories.specs.declared.entry.Entry.{Entry}
 use Rattle.serving.specs.Logs.{IsAccount}
 use Rattle.histories.specs.Turns.{Turn}

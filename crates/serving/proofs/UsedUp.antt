@@ -4,8 +4,8 @@ use Rattle.std.specs.Prelude.{All}
 use Rattle.std.specs.List.{list_any}
 use Rattle.std.proofs.lemmas.Bool.{or_parts, ltb-false}
 use Rattle.std.proofs.lemmas.List.Elements.{All-cons, All-nil}
-use Rattle.gnap_io.specs.Outside.{Rose}
-use Rattle.gnap_io.specs.Gears.{GearState, IsUnused}
+use Rattle.outside.specs.Outside.{Rose}
+use Rattle.outside.specs.Gears.{GearState, IsUnused}
 use Rattle.serving.specs.Workers.{HasServedAll, HaveServedAll}
 use Rattle.serving.specs.ServiceEnds.{has_failed, IsUsedUp, IsEndOfDoor}
 

@@ -1,7 +1,7 @@
 -- Connections on which nothing failed.
 use Rattle.std.proofs.Common.{◌≡◌, ℕ, List, [], ◌∷◌, ◌++◌, ap, arith}
 use Rattle.std.specs.Prelude.{Bool}
-use Rattle.gnap_io.specs.Outside.{Served}
+use Rattle.outside.specs.Outside.{Served}
 use Rattle.histories.specs.Turns.{Turn}
 use Rattle.serving.specs.Connections.{Wire, AreMessages, Finishes, whole, cut_response, cut_closing, Session}
 use Rattle.serving.specs.Wholes.{IsServedWhole}

@@ -1,9 +1,9 @@
 -- A worker after one more connection.
 use Rattle.std.proofs.Common.{◌≡◌, ◌≢◌, ◌∙◌, inl, inr, ◌+◌, ◌-◌, ◌*◌, ◌<◌, List, [], ◌∷◌, ◌++◌, length, refl, ap, sym, subst, arith, length-append}
 use Rattle.std.specs.Prelude.{map, Option, Some, None, Result, Ok, Err}
-use Rattle.gnap_io.specs.declared.device.Failed.{Failed}
-use Rattle.gnap_io.specs.Outside.{Served}
-use Rattle.gnap_io.specs.Gears.{Log, GearState, Accepts, IsUnused, with_served, log_served, log_uses}
+use Rattle.outside.specs.declared.device.Failed.{Failed}
+use Rattle.outside.specs.Outside.{Served}
+use Rattle.outside.specs.Gears.{Log, GearState, Accepts, IsUnused, with_served, log_served, log_uses}
 use Rattle.histories.specs.declared.entry.Entry.{Entry}
 use Rattle.histories.specs.History.{Law, Legal}
 use Rattle.histories.specs.Histories.{legal-nil}

@@ -1,6 +1,6 @@
 -- What turns are taken at beside a connection: a desk of a machine, or whatever else a server asks.
 use Rattle.std.specs.Prelude.{◌≡◌, ℕ, ◌+◌, ◌*◌, ◌<◌, ◌≤◌, List, [], ◌∷◌, ◌++◌, length}
-use Rattle.gnap_io.specs.Gears.{GearState, with_uses}
+use Rattle.outside.specs.Gears.{GearState, with_uses}
 use Rattle.histories.specs.declared.entry.Entry.{Entry}
 use Rattle.histories.specs.Whole.{own_of}
 

@@ -1,8 +1,8 @@
 -- Connections on which messages come and are answered, one after another.
 use Rattle.std.proofs.Common.{suc}
 use Rattle.std.specs.Prelude.{◌≡◌, ℕ, ◌<◌, ◌≤◌, Bool, true, false, ◌||◌, ◌==◌, List, [], ◌∷◌, ◌++◌, length}
-use Rattle.gnap_io.specs.Outside.{Served, IsAtEnd}
-use Rattle.gnap_io.specs.Gears.{GearState, with_uses}
+use Rattle.outside.specs.Outside.{Served, IsAtEnd}
+use Rattle.outside.specs.Gears.{GearState, with_uses}
 use Rattle.histories.specs.Turns.{Turn, OneMore, Cut, messages_in, moments_in, entries_in, bytes_in}
 use Rattle.serving.specs.Backends.{BackendKind}
 use Rattle.serving.specs.declared.ends.ConnectionEnd.{ConnectionEnd}

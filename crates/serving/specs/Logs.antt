@@ -1,7 +1,7 @@
 -- What a worker's gear tells, as what the worker's own entries account for.
 use Rattle.std.specs.Prelude.{◌≡◌, ℕ, ◌≤◌, List, [], ◌∷◌, ◌++◌, map, length}
-use Rattle.gnap_io.specs.Outside.{Served}
-use Rattle.gnap_io.specs.Gears.{Log, GearState, with_uses}
+use Rattle.outside.specs.Outside.{Served}
+use Rattle.outside.specs.Gears.{Log, GearState, with_uses}
 use Rattle.histories.specs.declared.entry.Entry.{Entry}
 use Rattle.histories.specs.Turns.{Turn, moments_in, entries_in, draw_of}
 use Rattle.histories.specs.Whole.{own_of}

@@ -1,8 +1,8 @@
 -- What one message's turn does.
 use Rattle.std.specs.Prelude.{◌≡◌, ℕ, ◌≤◌, Bool, true, false, List, Result, Ok, Err, length}
 use Rattle.bytes_and_lists.specs.Prefixes.{IsPrefix}
-use Rattle.gnap_io.specs.Outside.{Told, Writes, Rose}
-use Rattle.gnap_io.specs.Gears.{GearState, with_draw}
+use Rattle.outside.specs.Outside.{Told, Writes, Rose}
+use Rattle.outside.specs.Gears.{GearState, with_draw}
 use Rattle.histories.specs.declared.entry.Entry.{Entry}
 use Rattle.histories.specs.History.{Law}
 use Rattle.histories.specs.Steps.{Enters, EntersLapse}

@@ -1,7 +1,7 @@
 -- What reading the next message does, and what is done where there is none.
 use Rattle.std.specs.Prelude.{◌≡◌, ℕ, List, [], ◌++◌, Option, Some, None, Result, Ok, Err}
 use Rattle.bytes_and_lists.specs.Prefixes.{IsPrefix}
-use Rattle.gnap_io.specs.Outside.{Told, Takes, Writes, IsAtEnd, Rose}
+use Rattle.outside.specs.Outside.{Told, Takes, Writes, IsAtEnd, Rose}
 use Rattle.serving.specs.declared.ends.ConnectionEnd.{ConnectionEnd}
 use Rattle.serving.specs.declared.ends.ConnectionEnd.TheVariants as closed
 use Rattle.serving.specs.declared.ends.NoMessage.{NoMessage}

@@ -1,9 +1,9 @@
 -- How the serving of gears ends.
 use Rattle.std.specs.Prelude.{◌≡◌, ◌⊎◌, ℕ, nat_lt, Bool, true, List, All, length, Result, Ok, Err}
 use Rattle.std.specs.List.{list_any}
-use Rattle.gnap_io.specs.Gears.{GearState, IsUnused}
-use Rattle.gnap_io.specs.declared.world.WorldFault.{WorldFault}
-use Rattle.gnap_io.specs.declared.world.WorldFault.TheVariants.{Failed, OutOfMemory}
+use Rattle.outside.specs.Gears.{GearState, IsUnused}
+use Rattle.outside.specs.declared.world.WorldFault.{WorldFault}
+use Rattle.outside.specs.declared.world.WorldFault.TheVariants.{Failed, OutOfMemory}
 
 -- the door failed
 abbrev pub has_failed : GearState → Bool

@@ -1,6 +1,6 @@
 -- Connections on which nothing failed.
 use Rattle.std.specs.Prelude.{◌≡◌, ℕ, Bool, List, ◌++◌}
-use Rattle.gnap_io.specs.Outside.{Served}
+use Rattle.outside.specs.Outside.{Served}
 use Rattle.histories.specs.Turns.{Turn, messages_in, bytes_in}
 use Rattle.serving.specs.Connections.{Wire, AreMessages, AreTurns, Ends}
 use Rattle.serving.specs.declared.ends.ConnectionEnd.{ConnectionEnd}

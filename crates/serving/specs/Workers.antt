@@ -2,8 +2,8 @@
 use Rattle.std.specs.Prelude.{◌≡◌, ◌⊎◌, ℕ, ◌+◌, ◌*◌, ◌<◌, ◌≤◌, List, [], ◌∷◌, length}
 use mathlib.Core.Option.{some}
 use lib.ListN.{get_elem?}
-use Rattle.gnap_io.specs.Outside.{Served, Rose}
-use Rattle.gnap_io.specs.Gears.{GearState}
+use Rattle.outside.specs.Outside.{Served, Rose}
+use Rattle.outside.specs.Gears.{GearState}
 use Rattle.histories.specs.declared.entry.Entry.{Entry}
 use Rattle.histories.specs.History.{Law, Legal}
 use Rattle.serving.specs.Logs.{IsAccount}

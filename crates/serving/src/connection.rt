@@ -1,14 +1,14 @@
 //! A connection's messages, one after another.
 ghost use Rattle.std.specs.Prelude.{◌≡◌};
-ghost use Rattle.gnap_io.specs.Outside.{IsUntouched, served_of};
+ghost use Rattle.outside.specs.Outside.{IsUntouched, served_of};
 ghost use Rattle.serving.specs.Connections.{ServesTurns, is_closing, most_messages};
 ghost use Rattle.serving.specs.Reading.{Stops};
 
 use crate::ends::{AfterTurn, ConnectionEnd, NoMessage};
 use crate::message_reader::MessageReader;
 use crate::turn_taker::TurnTaker;
-use gnap_io::device::{Failed, Sink, Source};
-use gnap_io::gear::Clock;
+use outside::device::{Failed, Sink, Source};
+use outside::gear::Clock;
 use std::alloc::Global;
 
 // The place of the last message that a connection may bring, counted from 0.

@@ -1,14 +1,14 @@
 //! What serves a connection at a desk.
 ghost use Rattle.std.specs.Prelude.{◌≡◌, ℕ, ◌+◌, ◌<◌, List, length};
-ghost use Rattle.gnap_io.specs.Outside.{Served, IsUntouched, served_of};
+ghost use Rattle.outside.specs.Outside.{Served, IsUntouched, served_of};
 ghost use Rattle.histories.specs.declared.entry.Entry.{Entry};
 ghost use Rattle.serving.specs.Logs.{Serves};
 ghost use Rattle.histories.specs.Turns.{Turn};
 ghost use Rattle.histories.specs.Whole.{own_of};
 
-use gnap_io::device::{Sink, Source};
-use gnap_io::gear::{Clock, Draws};
 use histories::machine::{Desk, Machine};
+use outside::device::{Sink, Source};
+use outside::gear::{Clock, Draws};
 use std::alloc::Global;
 
 /// Serves connections, by the messages that come on them.

@@ -1,11 +1,11 @@
 //! How messages are read off connections, and what is written where there is none.
 ghost use Rattle.std.specs.Prelude.{◌≡◌, ℕ, List, [], ◌++◌};
-ghost use Rattle.gnap_io.specs.Outside.{HasSent, HasCause};
+ghost use Rattle.outside.specs.Outside.{HasSent, HasCause};
 ghost use Rattle.serving.specs.Connections.{Wire};
 ghost use Rattle.serving.specs.Reading.{ReadsMessage, HasReadCause};
 
 use crate::ends::NoMessage;
-use gnap_io::device::{Failed, Sink, Source};
+use outside::device::{Failed, Sink, Source};
 use std::alloc::Global;
 
 /// Reads messages off connections, and writes what is said where there is none. Writing takes no memory.

@@ -10,9 +10,9 @@ use crate::ends::AfterTurn;
 use crate::message_step::MessageStep;
 use crate::server::Server;
 use bytes_and_lists::memory::Mem;
-use gnap_io::device::{Failed, Sink, Source};
-use gnap_io::gear::{Clock, Draws};
 use histories::machine::{Desk, Machine};
+use outside::device::{Failed, Sink, Source};
+use outside::gear::{Clock, Draws};
 use std::alloc::Global;
 
 /// Writes a response. At `WriteFailed` a beginning of it went out.

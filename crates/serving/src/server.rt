@@ -1,13 +1,13 @@
 //! What makes a server of a machine: what messages ask, and what is said to them.
 ghost use Rattle.std.specs.Prelude.{◌≡◌, ℕ, List, IfOk};
-ghost use Rattle.gnap_io.specs.Outside.{HasSent, HasCause};
+ghost use Rattle.outside.specs.Outside.{HasSent, HasCause};
 ghost use Rattle.histories.specs.Turns.{Face};
 ghost use Rattle.serving.specs.MessageSteps.{IsStepOf, SaysAllReplies};
 
 use crate::message_step::MessageStep;
 use bytes_and_lists::memory::Mem;
-use gnap_io::device::{Failed, Sink};
 use histories::machine::Machine;
+use outside::device::{Failed, Sink};
 use std::alloc::Global;
 
 /// Finds what messages ask of a machine, one call each at most, and says what is responded. Writing takes no memory.

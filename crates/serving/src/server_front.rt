@@ -6,9 +6,9 @@ use crate::message_reader::MessageReader;
 use crate::message_turn::take_turn;
 use crate::server::Server;
 use crate::turn_taker::TurnTaker;
-use gnap_io::device::{Sink, Source};
-use gnap_io::gear::{Clock, Draws};
 use histories::machine::Desk;
+use outside::device::{Sink, Source};
+use outside::gear::{Clock, Draws};
 use std::alloc::Global;
 
 /// Serves connections by a server of a machine: its messages are those that a reader reads off them, and each has the turn of one call at most.

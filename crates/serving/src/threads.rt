@@ -1,6 +1,6 @@
 //! Workers on threads, all at one shared core.
 ghost use Rattle.std.specs.Prelude.{◌≡◌, ℕ, ◌+◌, ◌*◌, ◌<◌, ◌≤◌, [], All, map, length, slice_index_or, vec_len, vec_capacity, IsOk, IsErr};
-ghost use Rattle.gnap_io.specs.Gears.{IsUnused};
+ghost use Rattle.outside.specs.Gears.{IsUnused};
 ghost use Rattle.histories.specs.History.{Legal};
 ghost use Rattle.histories.specs.Whole.{OneHistory, AllKeep, Joined};
 ghost use Rattle.shared_server.specs.Passes.{AreAll, AreNew};
@@ -9,8 +9,8 @@ ghost use Rattle.serving.specs.Workers.{AreWorkers, HaveServedAll, Drained, acco
 use crate::front::Front;
 use crate::worker::Worker;
 use bytes_and_lists::memory::Mem;
-use gnap_io::gear::Gear;
 use histories::machine::{Core, Machine};
+use outside::gear::Gear;
 use shared_server::shared::{Pass, Shared, close};
 use std::alloc::Global;
 use std::sync::Wait;

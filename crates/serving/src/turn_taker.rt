@@ -5,8 +5,8 @@ ghost use Rattle.serving.specs.Backends.{BackendKind};
 ghost use Rattle.serving.specs.MessageTurns.{TakesTurn};
 
 use crate::ends::AfterTurn;
-use gnap_io::device::{Sink, Source};
-use gnap_io::gear::Clock;
+use outside::device::{Sink, Source};
+use outside::gear::Clock;
 use std::alloc::Global;
 
 /// Answers each message by a turn at a backend: a desk of a machine, or whatever else it asks.

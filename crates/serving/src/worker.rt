@@ -1,14 +1,14 @@
 //! A worker: a station at a shared core, and a gear.
 ghost use Rattle.std.specs.Prelude.{◌≡◌, ◌+◌, ◌*◌, ◌<◌, [], true, false};
-ghost use Rattle.gnap_io.specs.Gears.{IsUnused};
+ghost use Rattle.outside.specs.Gears.{IsUnused};
 ghost use Rattle.serving.specs.Logs.{IsAccount};
 ghost use Rattle.histories.specs.Whole.{own_of};
 ghost use Rattle.shared_server.specs.Passes.{IsPassOf};
 ghost use Rattle.serving.specs.Workers.{IsSameWorker, HasServedOne, HasServedAll, Drained};
 
 use crate::front::Front;
-use gnap_io::gear::{Door, Gear};
 use histories::machine::{Core, Machine};
+use outside::gear::{Door, Gear};
 use shared_server::shared::{Pass, Shared};
 use shared_server::station::Station;
 use std::alloc::Global;

@@ -1,7 +1,7 @@
 -- What the text of a file is that should be one message, and what is answered to it.
 use Rattle.std.specs.Prelude.{◌≡◌, ℕ, ◌<◌, Bool, true, false, List, [], ◌∷◌, length, Result, Ok, Err, codes}
 use Rattle.std.specs.Borrow.{Bor}
-use Rattle.gnap_io.specs.Outside.{Told, Takes, IsAtEnd, Rose}
+use Rattle.outside.specs.Outside.{Told, Takes, IsAtEnd, Rose}
 use Rattle.bytes_and_lists.specs.declared.message.Message.{Message}
 use Rattle.http_edge.specs.declared.fault.EdgeFault.{EdgeFault}
 use Rattle.http_edge.specs.declared.fault.EdgeFault.TheVariants as edge

@@ -1,13 +1,13 @@
 //! The one message that a file is.
 ghost use Rattle.std.specs.Prelude.{◌≡◌, [], ◌++◌, IsOk};
-ghost use Rattle.gnap_io.specs.Outside.{HasCause, HasRead, IsAtEnd, IsRest, Leaves};
+ghost use Rattle.outside.specs.Outside.{HasCause, HasRead, IsAtEnd, IsRest, Leaves};
 ghost use Rattle.signed_files.specs.MessageFiles.{GivesMessage, CountsReadFault, HasMore};
 
 use crate::fault::{FileFault, edge_fault};
 use bytes_and_lists::message::Message;
-use gnap_io::device::{Failed, Source};
 use http_edge::laws::{message_stays, refusal_stays};
 use http_edge::{Held, next_message};
+use outside::device::{Failed, Source};
 use std::alloc::Global;
 
 // Whether the source has more.

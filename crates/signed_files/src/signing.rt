@@ -6,7 +6,7 @@ ghost use Rattle.structured_fields.specs.Letters.{is_string_byte};
 ghost use Rattle.message_signature.specs.declared.fault.SignFault.TheVariants.{HasSignature};
 ghost use Rattle.message_signature.specs.Marks.{is_nonce};
 ghost use Rattle.message_signature.specs.Signed.{has_signature, params_of, signed_under};
-ghost use Rattle.gnap_io.specs.Outside.{IsAtEnd, IsRest, Leaves};
+ghost use Rattle.outside.specs.Outside.{IsAtEnd, IsRest, Leaves};
 ghost use Rattle.gnap_objects.specs.Setups.{IsSetup};
 ghost use Rattle.signed_files.specs.MessageFiles.{Gives, CountsReadFault};
 ghost use Rattle.signed_files.specs.SignedText.{SignsMessage, SignsFile};
@@ -16,9 +16,9 @@ use crate::message_file::read_message;
 use crate::message_text::message_text;
 use bytes_and_lists::bytes::Bytes;
 use bytes_and_lists::message::Message;
-use gnap_io::device::Source;
 use gnap_model::objects::Setup;
 use message_signature::{SignFault, sign, sign_marked};
+use outside::device::Source;
 use std::alloc::Global;
 
 /// The tag of GNAP's signatures (RFC 9635, section 7.3.1).

@@ -1,6 +1,6 @@
 //! Verifying the message of a file.
 ghost use Rattle.std.specs.Prelude.{◌≡◌, ◌≢◌, Err, [], ◌++◌, IfOk, IsOk};
-ghost use Rattle.gnap_io.specs.Outside.{IsAtEnd, IsRest, Leaves};
+ghost use Rattle.outside.specs.Outside.{IsAtEnd, IsRest, Leaves};
 ghost use Rattle.message_signature.specs.Faults as signatures;
 ghost use Rattle.message_signature.specs.Verified.{verified};
 ghost use Rattle.signed_files.specs.MessageFiles.{Gives, CountsReadFault};
@@ -13,10 +13,10 @@ use crate::signing::GNAP_TAG;
 use bytes_and_lists::bytes::Bytes;
 use bytes_and_lists::memory::Mem;
 use bytes_and_lists::message::Message;
-use gnap_io::device::Source;
 use gnap_model::objects::Setup;
 use hmac_key::Keyring;
 use message_signature::{SigFault, verify};
+use outside::device::Source;
 use std::alloc::Global;
 
 fn ring_of(alloc: Global, setup: &Setup) -> Result<Keyring, Mem>

@@ -1,8 +1,8 @@
 -- The turn of a byte that enters two amounts, by what its calls did.
 use Rattle.std.proofs.Common.{◌≡◌, ◌≢◌, ◌∙◌, inl, inr, ℕ, ◌+◌, ◌<◌, List, [], ◌∷◌, ◌++◌, length, length-append, ap, sym, subst, refl, arith}
 use Rattle.std.specs.Prelude.{Bool, true, false}
-use Rattle.gnap_io.specs.Outside.{Told}
-use Rattle.gnap_io.specs.Gears.{GearState, with_moment, with_draw}
+use Rattle.outside.specs.Outside.{Told}
+use Rattle.outside.specs.Gears.{GearState, with_moment, with_draw}
 use Rattle.histories.specs.History.{entry_of}
 use Rattle.histories.specs.Steps.{NoneOf, Enters, EntersLapse}
 use Rattle.histories.specs.Turns.{Turn, IsTurn}

@@ -1,7 +1,7 @@
 -- Bytes as messages to the adding machine.
 use Rattle.std.specs.Prelude.{◌≡◌, ◌≢◌, ℕ, ◌<◌, ◌%◌, ◌==◌, ◌⊎◌, Bool, true, false, List, [], ◌∷◌, ◌++◌, if◌then◌else◌, Result, OnOk, IfErr, MatchResult}
 use mathlib.Core.Path.{ap}
-use Rattle.gnap_io.specs.Outside.{Told, Served, Takes, IsAtEnd, Rose}
+use Rattle.outside.specs.Outside.{Told, Served, Takes, IsAtEnd, Rose}
 use Rattle.histories.specs.Turns.{Face, Turn, IsTurn}
 use Rattle.test_adding.specs.Adding.{adding}
 use Rattle.test_adding.specs.Amounts.{AddingEntry}

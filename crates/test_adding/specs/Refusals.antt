@@ -1,6 +1,6 @@
 -- At which of its steps a core that adds says that memory ran out.
 use Rattle.std.specs.Prelude.{◌≡◌, ℕ, ◌+◌, ◌%◌, ◌<◌, vec_len, vec_capacity}
-use Rattle.gnap_io.specs.Outside.{one_more}
+use Rattle.outside.specs.Outside.{one_more}
 use Rattle.test_adding.specs.declared.adding.Call.{Call}
 use Rattle.test_adding.specs.declared.adding.Call.TheVariants.{Add, Total, Lapse}
 use Rattle.test_adding.specs.declared.adder.Adder.{Adder}

@@ -1,7 +1,7 @@
 //! A server whose workers are given their connections in one order: the first one to the first worker, the next to the second, and so on. So what is
 //! written to them can be foretold.
 ghost use Rattle.std.specs.Prelude.{◌≤◌, IfOk, All};
-ghost use Rattle.gnap_io.specs.Gears.{IsUnused};
+ghost use Rattle.outside.specs.Gears.{IsUnused};
 
 use crate::case::{Case, GearCase, pair};
 use crate::fault::Fault;
@@ -10,12 +10,12 @@ use crate::world::gear;
 use as_edge::AuthorizationServer;
 use as_requests::Edge;
 use bytes_and_lists::memory::{Duplicate, Mem};
-use gnap_io::device::Failed;
-use gnap_io::gear::{Clock, Counted, Door, Draws, Gear};
 use gnap_io::memory_conn::MemConn;
 use gnap_io::memory_gear::MemGear;
 use gnap_objects::read_setup;
 use http_serving::{HttpFront, HttpReader};
+use outside::device::Failed;
+use outside::gear::{Clock, Counted, Door, Draws, Gear};
 use serving::server_front::ServerFront;
 use serving::threads::serve_gears;
 use std::alloc::Global;

@@ -1,20 +1,20 @@
 //! The worlds of the table.
 ghost use Rattle.std.specs.Prelude.{◌≡◌, ◌≤◌, IfOk, All};
 ghost use Rattle.bytes_and_lists.specs.Moments.{last_moment};
-ghost use Rattle.gnap_io.specs.Gears.{IsUnused};
-ghost use Rattle.gnap_io.specs.Links.{new_link};
+ghost use Rattle.outside.specs.Gears.{IsUnused};
+ghost use Rattle.outside.specs.Links.{new_link};
 ghost use Rattle.gnap_io.specs.MemoryForms.{IsUnusedConn, link_state};
 
 use crate::case::{Case, GearCase, items_of, number, numbers, pair, text};
 use crate::fault::Fault;
 use crate::latin::bytes_of;
 use bytes_and_lists::bytes::Bytes;
-use gnap_io::gear::Counted;
 use gnap_io::memory_conn::MemConn;
 use gnap_io::memory_devices::MemSource;
 use gnap_io::memory_gear::MemGear;
 use gnap_io::memory_link::MemLink;
 use gnap_io::memory_world::MemWorld;
+use outside::gear::Counted;
 use serde_json::Value;
 use std::alloc::Global;
 

@@ -1,17 +1,17 @@
 //! Two workers at once: what a connection brings second can be read only once the other one has got a reply.
 ghost use Rattle.std.specs.Prelude.{◌≡◌, IfOk};
-ghost use Rattle.gnap_io.specs.Gears.{new_gear, AreStarted};
+ghost use Rattle.outside.specs.Gears.{new_gear, AreStarted};
 
 use as_edge::AuthorizationServer;
 use as_requests::Edge;
 use bytes_and_lists::bytes::Bytes;
 use bytes_and_lists::memory::{Duplicate, Mem};
-use gnap_io::device::{Device, Failed, Sink, Source};
-use gnap_io::gear::{Clock, Counted, Door, Draws, Gear};
 use gnap_io::memory_conn::MemConn;
 use gnap_io::memory_gear::MemGear;
 use gnap_objects::read_setup;
 use http_serving::{HttpFront, HttpReader};
+use outside::device::{Device, Failed, Sink, Source};
+use outside::gear::{Clock, Counted, Door, Draws, Gear};
 use serving::server_front::ServerFront;
 use serving::threads::serve_gears;
 use std::alloc::Global;

@@ -1,26 +1,26 @@
 //! Devices and worlds in memory and of the system, and lists.
 ghost use Rattle.std.specs.Prelude.{IfOk};
-ghost use Rattle.gnap_io.specs.Gears.{IsUnused};
+ghost use Rattle.outside.specs.Gears.{IsUnused};
 ghost use Rattle.gnap_io.specs.MemoryForms.{IsUnusedConn, gear_state};
 
 use bytes_and_lists::bytes::Bytes;
 use bytes_and_lists::memory::{Duplicate, Mem};
 use bytes_and_lists::seq::Seq;
-use gnap_io::adapters::Stream;
-use gnap_io::device::{Failed, Sink, Source, write_all};
-use gnap_io::gear::{Clock, Door, Draws};
-use gnap_io::link::Link;
 use gnap_io::memory_conn::MemConn;
 use gnap_io::memory_devices::{MemSink, MemSource};
 use gnap_io::memory_gear::MemGear;
 use gnap_io::memory_link::MemLink;
 use gnap_io::memory_world::MemWorld;
-use gnap_io::real_gear::RealGear;
-use gnap_io::real_link::RealLink;
-use gnap_io::real_world::RealWorld;
-use gnap_io::shared_listener::SharedListener;
-use gnap_io::transcript::Transcript;
-use gnap_io::world::{World, WorldFault};
+use outside::adapters::Stream;
+use outside::device::{Failed, Sink, Source, write_all};
+use outside::gear::{Clock, Door, Draws};
+use outside::link::Link;
+use outside::real_gear::RealGear;
+use outside::real_link::RealLink;
+use outside::real_world::RealWorld;
+use outside::shared_listener::SharedListener;
+use outside::transcript::Transcript;
+use outside::world::{World, WorldFault};
 use std::alloc::Global;
 use std::io::{Read, Write};
 use std::net::{Net, Shutdown, SocketAddr, TcpListener, TcpStream};
@@ -140,11 +140,7 @@ fn copied(alloc: Global) -> Result<bool, Mem> {
     let mut list = Seq::new(alloc);
     list.push(braces(alloc)?)?;
     let again = list.copy()?;
-    Ok(
-        again.len() == 1
-            && again.at(0).as_slice() == b"{}".as_slice()
-            && *again.at(0).at(1) == b'}',
-    )
+    Ok(again.len() == 1 && again.at(0).as_slice() == b"{}".as_slice() && *again.at(0).at(1) == b'}')
 }
 
 #[test]

@@ -6,12 +6,12 @@ ghost use Rattle.http_edge.specs.Replies.{MayWrite, is_method_byte};
 use bytes_and_lists::bytes::Bytes;
 use bytes_and_lists::memory::Mem;
 use bytes_and_lists::message::Message;
-use gnap_io::device::{Device, Failed, Source};
 use gnap_io::memory_devices::{MemSink, MemSource};
 use http_edge::{
     EdgeFault, Held, HttpReply, ReplyFault, WriteFault, fault_reply, next_message, read_reply,
     write_reply,
 };
+use outside::device::{Device, Failed, Source};
 use std::alloc::Global;
 use std::rt::HostRuntime;
 

@@ -1,13 +1,13 @@
 //! What two gears' connections are answered.
 ghost use Rattle.std.specs.Prelude.{◌≡◌, ◌<◌, ◌≤◌, All, IfOk, length};
-ghost use Rattle.gnap_io.specs.Gears.{new_gear, AreStarted, IsUnused};
+ghost use Rattle.outside.specs.Gears.{new_gear, AreStarted, IsUnused};
 ghost use Rattle.gnap_io.specs.MemoryForms.{IsUnusedConn};
 
 use bytes_and_lists::bytes::Bytes;
 use bytes_and_lists::memory::Mem;
-use gnap_io::gear::Counted;
 use gnap_io::memory_conn::MemConn;
 use gnap_io::memory_gear::MemGear;
+use outside::gear::Counted;
 use serving::threads::serve_gears;
 use std::alloc::Global;
 use std::sync::Wait;

@@ -4,14 +4,14 @@ use Rattle.std.specs.Prelude.{Option, Some, None, IsSome, IfSome, IsOk, All, Any
 use Rattle.std.proofs.Math.Seq.{drop-length, drop-append_seam}
 use Rattle.std.proofs.lemmas.List.{get_or-append-add}
 use Rattle.std.proofs.lemmas.List.Elements.{All-append}
-use Rattle.gnap_io.specs.declared.world.Opening.{Opening}
-use Rattle.gnap_io.specs.declared.world.WorldFault.{WorldFault}
-use Rattle.gnap_io.specs.declared.world.WorldFault.TheVariants as faults
-use Rattle.gnap_io.specs.declared.world.Opening.TheVariants.{File}
-use Rattle.gnap_io.specs.Outside.{Told, Served, IsAtEnd, IsRest, Rose}
-use Rattle.gnap_io.specs.Worlds.{WorldState}
-use Rattle.gnap_io.specs.Openings.{Gives, gears_in, new_files}
-use Rattle.gnap_io.proofs.OpeningLemmas.{gives-then, back-then, back-more}
+use Rattle.outside.specs.declared.world.Opening.{Opening}
+use Rattle.outside.specs.declared.world.WorldFault.{WorldFault}
+use Rattle.outside.specs.declared.world.WorldFault.TheVariants as faults
+use Rattle.outside.specs.declared.world.Opening.TheVariants.{File}
+use Rattle.outside.specs.Outside.{Told, Served, IsAtEnd, IsRest, Rose}
+use Rattle.outside.specs.Worlds.{WorldState}
+use Rattle.outside.specs.Openings.{Gives, gears_in, new_files}
+use Rattle.outside.proofs.OpeningLemmas.{gives-then, back-then, back-more}
 use Rattle.command_inputs.specs.declared.ended.Ended.{Ended}
 use Rattle.command_inputs.specs.declared.ended.Ended.TheVariants.{Done, NoSetup, Failed, WriteFault, Memory, Refused, TooLong}
 use Rattle.command_inputs.specs.Ends.{CountsWrites}

@@ -2,14 +2,14 @@
 use Rattle.std.proofs.Common.{◌≡◌, ◌≢◌, ◌∙◌, ℕ, List, [], ◌∷◌, ◌++◌, length, ap, sym, subst, append_assoc, inl, inr}
 use Rattle.std.specs.Prelude.{Option, IsSome, All, Any, drop, slice_get}
 use Rattle.std.proofs.Math.Seq.{drop-append_seam}
-use Rattle.gnap_io.specs.declared.world.Opening.{Opening}
-use Rattle.gnap_io.specs.declared.world.Opening.TheVariants.{Link}
-use Rattle.gnap_io.specs.Outside.{Served, IsAtEnd, Rose}
-use Rattle.gnap_io.specs.Gears.{GearState}
-use Rattle.gnap_io.specs.Links.{LinkState}
-use Rattle.gnap_io.specs.Worlds.{WorldState, with_opening, with_link}
-use Rattle.gnap_io.specs.Openings.{gears_in, new_files}
-use Rattle.gnap_io.proofs.OpeningLemmas.{gives-around, back-around}
+use Rattle.outside.specs.declared.world.Opening.{Opening}
+use Rattle.outside.specs.declared.world.Opening.TheVariants.{Link}
+use Rattle.outside.specs.Outside.{Served, IsAtEnd, Rose}
+use Rattle.outside.specs.Gears.{GearState}
+use Rattle.outside.specs.Links.{LinkState}
+use Rattle.outside.specs.Worlds.{WorldState, with_opening, with_link}
+use Rattle.outside.specs.Openings.{gears_in, new_files}
+use Rattle.outside.proofs.OpeningLemmas.{gives-around, back-around}
 use Rattle.command_inputs.specs.declared.ended.Ended.{Ended}
 use Rattle.world_uses.specs.Uses.{Over, Unopened, HasFailed, NothingFailed, AllButLast, UsesWorld, new_openings}
 

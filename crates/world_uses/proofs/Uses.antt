@@ -5,14 +5,14 @@ use Rattle.std.proofs.Math.Seq.{drop-length, drop-append_seam}
 use Rattle.std.proofs.lemmas.List.Elements.{All-nil, All-push}
 use Rattle.std.proofs.lemmas.List.Quantifiers.{Any-push}
 use Rattle.std.proofs.lemmas.Option.{slice_get_within}
-use Rattle.gnap_io.specs.declared.world.Opening.{Opening}
-use Rattle.gnap_io.specs.declared.world.WorldFault.{WorldFault}
-use Rattle.gnap_io.specs.declared.world.WorldFault.TheVariants as faults
-use Rattle.gnap_io.specs.declared.world.Opening.TheVariants.{File}
-use Rattle.gnap_io.specs.Outside.{Told, Served, IsAtEnd, IsRest, Leaves, Rose, untouched}
-use Rattle.gnap_io.specs.Worlds.{WorldState, HasWorldCause, with_opened, with_returned}
-use Rattle.gnap_io.specs.Openings.{Gives, GivesBack, gears_in, new_files}
-use Rattle.gnap_io.proofs.OpeningLemmas.{gives-none, gives-file, back-all}
+use Rattle.outside.specs.declared.world.Opening.{Opening}
+use Rattle.outside.specs.declared.world.WorldFault.{WorldFault}
+use Rattle.outside.specs.declared.world.WorldFault.TheVariants as faults
+use Rattle.outside.specs.declared.world.Opening.TheVariants.{File}
+use Rattle.outside.specs.Outside.{Told, Served, IsAtEnd, IsRest, Leaves, Rose, untouched}
+use Rattle.outside.specs.Worlds.{WorldState, HasWorldCause, with_opened, with_returned}
+use Rattle.outside.specs.Openings.{Gives, GivesBack, gears_in, new_files}
+use Rattle.outside.proofs.OpeningLemmas.{gives-none, gives-file, back-all}
 use Rattle.command_inputs.specs.declared.ended.Ended.{Ended}
 use Rattle.command_inputs.specs.declared.ended.Ended.TheVariants.{Done, NoSetup, Failed, WriteFault, Memory, Refused, TooLong}
 use Rattle.command_inputs.specs.Ends.{CountsReads, Took, status_of}

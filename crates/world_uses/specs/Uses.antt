@@ -1,12 +1,12 @@
 -- What a command does to the world with files, links and gears that it opens and gives back.
 use Rattle.std.specs.Prelude.{◌≡◌, ◌≢◌, ◌≤◌, ◌⊎◌, ℕ, List, [], ◌∷◌, ◌++◌, Any, All, length, drop, slice_get, Option, Some, None, IsSome, Result, Err}
-use Rattle.gnap_io.specs.Outside.{Told, Served, Leaves, IsAtEnd, IsRest, Rose}
-use Rattle.gnap_io.specs.declared.world.Opening.{Opening}
-use Rattle.gnap_io.specs.declared.world.WorldFault.{WorldFault}
-use Rattle.gnap_io.specs.declared.world.WorldFault.TheVariants as faults
-use Rattle.gnap_io.specs.Links.{LinkState}
-use Rattle.gnap_io.specs.Worlds.{WorldState}
-use Rattle.gnap_io.specs.Openings.{Gives, GivesBack, gears_in, new_files}
+use Rattle.outside.specs.Outside.{Told, Served, Leaves, IsAtEnd, IsRest, Rose}
+use Rattle.outside.specs.declared.world.Opening.{Opening}
+use Rattle.outside.specs.declared.world.WorldFault.{WorldFault}
+use Rattle.outside.specs.declared.world.WorldFault.TheVariants as faults
+use Rattle.outside.specs.Links.{LinkState}
+use Rattle.outside.specs.Worlds.{WorldState}
+use Rattle.outside.specs.Openings.{Gives, GivesBack, gears_in, new_files}
 use Rattle.command_inputs.specs.declared.ended.Ended.{Ended}
 use Rattle.command_inputs.specs.declared.ended.Ended.TheVariants.{Done, NoSetup, Failed, WriteFault, Memory, Refused, TooLong}
 use Rattle.command_inputs.specs.Ends.{Took}

@@ -1,6 +1,6 @@
 //! A file that should be a setup, a configuration or pairs.
 ghost use Rattle.std.specs.Prelude.{◌≡◌, ◌∷◌, [], None, IfOk, IsOk};
-ghost use Rattle.gnap_io.specs.Outside.{IsAtEnd, IsRest, Leaves};
+ghost use Rattle.outside.specs.Outside.{IsAtEnd, IsRest, Leaves};
 ghost use Rattle.command_inputs.specs.Configs.{config_in};
 ghost use Rattle.command_inputs.specs.Ends.{CountsReads};
 ghost use Rattle.world_uses.specs.ConfigFiles.{GivesConfig, GivesText, ended_by};
@@ -11,8 +11,8 @@ use bytes_and_lists::bytes::Bytes;
 use command_inputs::{
     ConfigKind, ConfigReader, Ended, InputFault, SETUP_LIMIT, WrongSetup, config_in, read_input,
 };
-use gnap_io::device::Source;
-use gnap_io::world::{Opening, World};
+use outside::device::Source;
+use outside::world::{Opening, World};
 use std::alloc::Global;
 
 // The whole text of a file that should be of this kind, of which nothing was read yet. Of a text that is too long for that not much more is read.

@@ -3,7 +3,7 @@ ghost use Rattle.std.specs.Prelude.{◌≡◌};
 ghost use Rattle.world_uses.specs.Uses.{ended_by_fault};
 
 use command_inputs::Ended;
-use gnap_io::world::WorldFault;
+use outside::world::WorldFault;
 
 /// How a command ends for which the world handed nothing out.
 pub fn ended_by_fault(fault: WorldFault) -> Ended

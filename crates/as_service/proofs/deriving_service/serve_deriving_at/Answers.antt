@@ -1,5 +1,5 @@
 use Rattle.std.proofs.Common.{arith, refl}
-use Rattle.gnap_io.specs.declared.world.WorldFault.TheVariants.{OutOfMemory}
+use Rattle.outside.specs.declared.world.WorldFault.TheVariants.{OutOfMemory}
 use Rattle.as_service.specs.DerivedServices.{not_started}
 use Rattle.as_service.proofs.ServedDeriving.{deriving_service}
 use Rattle.as_service.proofs.deriving_service.serve_deriving_at.Goals as goal

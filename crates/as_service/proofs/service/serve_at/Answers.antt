@@ -1,5 +1,5 @@
 use Rattle.std.proofs.Common.{arith, refl}
-use Rattle.gnap_io.specs.declared.world.WorldFault.TheVariants.{OutOfMemory}
+use Rattle.outside.specs.declared.world.WorldFault.TheVariants.{OutOfMemory}
 use Rattle.as_service.specs.Services.{not_started}
 use Rattle.as_service.proofs.FewEntries.{service_holds}
 use Rattle.as_service.proofs.service.serve_at.Goals as goal

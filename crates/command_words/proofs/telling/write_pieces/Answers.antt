@@ -3,7 +3,7 @@ use Rattle.std.proofs.lemmas.Result.{err_from_is_err_and}
 use Rattle.std.specs.Borrow.{Bor}
 use Rattle.std.proofs.lemmas.List.{take_all}
 use Rattle.bytes_and_lists.specs.Prefixes.{IsPrefix}
-use Rattle.gnap_io.specs.Outside.{Writes}
+use Rattle.outside.specs.Outside.{Writes}
 use Rattle.command_words.proofs.ToldTexts.{bytes_of, pieces_split, began_behind}
 use Rattle.command_words.proofs.telling.write_pieces.Goals as goal
 

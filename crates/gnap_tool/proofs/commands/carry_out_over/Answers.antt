@@ -1,5 +1,5 @@
 use Rattle.std.proofs.Common.{ℕ, ap, subst, inl, refl}
-use Rattle.gnap_io.specs.Outside.{served_of}
+use Rattle.outside.specs.Outside.{served_of}
 use Rattle.command_inputs.specs.Ends.{CountsReads}
 use Rattle.world_uses.proofs.Uses.{unopened_used, fault_ends, opened_used, opened_over}
 use Rattle.gnap_tool.proofs.commands.carry_out_over.Goals as goal

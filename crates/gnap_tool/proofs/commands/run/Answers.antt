@@ -1,8 +1,8 @@
 use Rattle.std.proofs.Common.{◌≡◌, ℕ, List, ◌∙◌, ap, sym, subst, inl, inr}
 use Rattle.std.specs.Prelude.{Option, Some, IsSome, IfSome}
-use Rattle.gnap_io.specs.Worlds.{WorldState}
-use Rattle.gnap_io.specs.declared.world.Opening.{Opening}
-use Rattle.gnap_io.specs.Openings.{Gives}
+use Rattle.outside.specs.Worlds.{WorldState}
+use Rattle.outside.specs.declared.world.Opening.{Opening}
+use Rattle.outside.specs.Openings.{Gives}
 use Rattle.command_words.specs.declared.command.Command.{Command}
 use Rattle.command_inputs.specs.declared.ended.Ended.{Ended}
 use Rattle.command_inputs.specs.declared.ended.Ended.TheVariants.{Done, Failed, TooLong}

@@ -1,7 +1,7 @@
 use Rattle.std.proofs.Common.{◌≡◌, ℕ, List, ◌∷◌, [], ap, subst, refl, inl}
 use Rattle.std.specs.Prelude.{Option, Some}
-use Rattle.gnap_io.specs.Worlds.{WorldState}
-use Rattle.gnap_io.specs.declared.world.Opening.TheVariants.{File, Link}
+use Rattle.outside.specs.Worlds.{WorldState}
+use Rattle.outside.specs.declared.world.Opening.TheVariants.{File, Link}
 use Rattle.gnap_client.specs.Configs.{Parts, parts_of}
 use Rattle.gnap_tool.specs.Configs.{client_config_in}
 use Rattle.script_runs.specs.Scripts.{IsNewClient, RunsScript, RunsClient}

@@ -1,6 +1,6 @@
 use Rattle.std.proofs.Common.{◌≡◌, ℕ, List, ◌∷◌, [], ap, subst, inl, inr, refl}
 use Rattle.std.specs.Prelude.{Option}
-use Rattle.gnap_io.specs.declared.world.Opening.TheVariants.{File}
+use Rattle.outside.specs.declared.world.Opening.TheVariants.{File}
 use Rattle.world_uses.proofs.Uses.{unopened_used, fault_ends}
 use Rattle.script_runs.specs.Scripts.{RunsScript}
 use Rattle.world_uses.specs.Uses.{Over, Unopened}

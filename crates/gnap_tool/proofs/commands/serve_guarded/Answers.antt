@@ -1,6 +1,6 @@
 use Rattle.std.proofs.Common.{◌∷◌, [], sym, subst, inr}
 use Rattle.std.specs.Prelude.{None}
-use Rattle.gnap_io.specs.declared.world.Opening.TheVariants.{Gears, Link}
+use Rattle.outside.specs.declared.world.Opening.TheVariants.{Gears, Link}
 use Rattle.command_inputs.specs.declared.ended.Ended.{Ended}
 use Rattle.world_uses.specs.Uses.{UsesWorld}
 use Rattle.gnap_tool.proofs.ServedGears.{done_by}

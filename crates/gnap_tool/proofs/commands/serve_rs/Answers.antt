@@ -1,7 +1,7 @@
 use Rattle.std.proofs.Common.{◌≡◌, ◌∷◌, [], refl}
 use Rattle.std.specs.Prelude.{None}
-use Rattle.gnap_io.specs.Worlds.{WorldState}
-use Rattle.gnap_io.specs.declared.world.Opening.TheVariants.{File, Gears, Link}
+use Rattle.outside.specs.Worlds.{WorldState}
+use Rattle.outside.specs.declared.world.Opening.TheVariants.{File, Gears, Link}
 use Rattle.resource_server.specs.declared.setup.RsSetup.{RsSetup}
 use Rattle.gnap_tool.specs.Configs.{rs_setup_in}
 use Rattle.gnap_tool.specs.Runs.{ServesRs}

@@ -1,7 +1,7 @@
 use Rattle.std.proofs.Common.{◌∷◌, [], ◌++◌}
 use Rattle.std.specs.Prelude.{None}
 use Rattle.std.specs.Option.{option_copied}
-use Rattle.gnap_io.specs.declared.world.Opening.TheVariants.{File}
+use Rattle.outside.specs.declared.world.Opening.TheVariants.{File}
 use Rattle.gnap_model.specs.declared.objects.Setup.{Setup}
 use Rattle.signed_files.specs.SignedText.{SignsFile}
 use Rattle.printed_answers.specs.MessageAnswers.{PrintsFor}

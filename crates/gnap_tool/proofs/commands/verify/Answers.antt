@@ -1,6 +1,6 @@
 use Rattle.std.proofs.Common.{◌∷◌, [], ◌++◌}
 use Rattle.std.specs.Prelude.{None}
-use Rattle.gnap_io.specs.declared.world.Opening.TheVariants.{File}
+use Rattle.outside.specs.declared.world.Opening.TheVariants.{File}
 use Rattle.gnap_model.specs.declared.objects.Setup.{Setup}
 use Rattle.signed_files.specs.Verdicts.{VerifiesFile}
 use Rattle.printed_answers.specs.MessageAnswers.{PrintsFor}

@@ -1,7 +1,7 @@
 use Rattle.std.proofs.Common.{◌≡◌, ℕ, List, ◌∷◌, [], subst}
 use Rattle.std.specs.Prelude.{Option, None}
-use Rattle.gnap_io.specs.Worlds.{WorldState}
-use Rattle.gnap_io.specs.declared.world.Opening.TheVariants.{File}
+use Rattle.outside.specs.Worlds.{WorldState}
+use Rattle.outside.specs.declared.world.Opening.TheVariants.{File}
 use Rattle.gnap_model.specs.declared.objects.Setup.{Setup}
 use Rattle.command_inputs.specs.Configs.{setup_in}
 use Rattle.gnap_tool.specs.Openings.{service_openings}

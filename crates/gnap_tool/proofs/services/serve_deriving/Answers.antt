@@ -1,7 +1,7 @@
 use Rattle.std.proofs.Common.{◌≡◌, List, ◌∷◌, [], sym, subst, inl, inr, refl}
 use Rattle.std.specs.Prelude.{None}
-use Rattle.gnap_io.specs.Worlds.{WorldState}
-use Rattle.gnap_io.specs.declared.world.Opening.TheVariants.{File, Gears}
+use Rattle.outside.specs.Worlds.{WorldState}
+use Rattle.outside.specs.declared.world.Opening.TheVariants.{File, Gears}
 use Rattle.derivation_requests.specs.Pairs.{Pair}
 use Rattle.command_inputs.specs.declared.ended.Ended.{Ended}
 use Rattle.gnap_tool.specs.Configs.{pairs_in}

@@ -1,6 +1,6 @@
 use Rattle.std.proofs.Common.{◌≡◌, ◌∷◌, [], sym, subst, inr, refl}
 use Rattle.std.specs.Prelude.{None}
-use Rattle.gnap_io.specs.declared.world.Opening.TheVariants.{Gears}
+use Rattle.outside.specs.declared.world.Opening.TheVariants.{Gears}
 use Rattle.command_inputs.specs.declared.ended.Ended.{Ended}
 use Rattle.command_words.specs.declared.command.Service.TheVariants.{Grants, Derivations, Sets}
 use Rattle.world_uses.specs.Uses.{UsesWorld}

@@ -1,5 +1,5 @@
 use Rattle.std.proofs.Common.{◌≡◌, ◌-◌, ◌+◌, ◌⊎◌, length, true, cond}
-use Rattle.gnap_io.specs.Outside.{IsAtEnd}
+use Rattle.outside.specs.Outside.{IsAtEnd}
 use Rattle.http_edge.specs.Limits.{message_limit}
 use Rattle.http_edge.specs.Streams.{IsOpen}
 use Rattle.http_edge.specs.Steps.{Grows}

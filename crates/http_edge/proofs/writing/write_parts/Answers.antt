@@ -1,6 +1,6 @@
 use Rattle.std.proofs.Common.{ℕ, List, subst, codes}
-use Rattle.gnap_io.specs.Outside.{HasSent}
-use Rattle.gnap_io.specs.declared.device.Failed.{Failed}
+use Rattle.outside.specs.Outside.{HasSent}
+use Rattle.outside.specs.declared.device.Failed.{Failed}
 use Rattle.http_edge.proofs.Sending.{reply_pieces}
 use Rattle.http_edge.proofs.writing.write_parts.Goals as goal
 

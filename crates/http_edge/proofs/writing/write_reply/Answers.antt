@@ -1,7 +1,7 @@
 use Rattle.std.proofs.Common.{ℕ, List, ◌++◌, ap, ◌∙◌, subst, codes, length}
 use Rattle.std.specs.Prelude.{decimal}
 use Rattle.std.proofs.lemmas.Result.{err_from_is_err_and}
-use Rattle.gnap_io.specs.Outside.{Writes}
+use Rattle.outside.specs.Outside.{Writes}
 use Rattle.http_edge.specs.Replies.{length_line, head_bytes, reply_bytes}
 use Rattle.http_edge.proofs.Sending.{Began}
 use Rattle.http_edge.proofs.writing.write_reply.Goals as goal

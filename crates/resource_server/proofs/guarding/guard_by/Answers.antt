@@ -1,5 +1,5 @@
 use Rattle.std.specs.Prelude.{Ok, Err}
-use Rattle.gnap_io.specs.declared.link.LinkFault.TheVariants as link_faults
+use Rattle.outside.specs.declared.link.LinkFault.TheVariants as link_faults
 use Rattle.resource_server.specs.Guarding.{failed, no_room}
 use Rattle.resource_server.proofs.Putting.{starved_now, asked_now}
 use Rattle.resource_server.proofs.guarding.guard_by.Goals as goal

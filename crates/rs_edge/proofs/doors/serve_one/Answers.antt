@@ -1,4 +1,4 @@
-use Rattle.gnap_io.specs.Outside.{served_of}
+use Rattle.outside.specs.Outside.{served_of}
 use Rattle.serving.proofs.WorkerLemmas.{gave_one}
 use Rattle.rs_edge.proofs.Accounts.{one_out, account_next, served_one, same_out}
 use Rattle.rs_edge.proofs.doors.serve_one.Goals as goal

@@ -1,6 +1,6 @@
 use Rattle.std.proofs.Common.{ap, subst, sym, arith}
-use Rattle.gnap_io.specs.Gears.{IsUnused}
-use Rattle.gnap_io.specs.Links.{LinkState}
+use Rattle.outside.specs.Gears.{IsUnused}
+use Rattle.outside.specs.Links.{LinkState}
 use Rattle.rs_edge.proofs.OneGear.{gear_served, gear_served_just}
 use Rattle.rs_edge.proofs.service.serve_gear.Goals as goal
 

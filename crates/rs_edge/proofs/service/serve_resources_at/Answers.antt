@@ -1,5 +1,5 @@
 use Rattle.std.proofs.Common.{ap}
-use Rattle.gnap_io.specs.Worlds.{WorldState}
+use Rattle.outside.specs.Worlds.{WorldState}
 use Rattle.rs_edge.specs.RsServices.{not_linked}
 use Rattle.rs_edge.proofs.OneGear.{as_told, served_failed, served_well, unstarted, just_back}
 use Rattle.rs_edge.proofs.service.serve_resources_at.Goals as goal

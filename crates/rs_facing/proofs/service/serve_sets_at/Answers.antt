@@ -1,5 +1,5 @@
 use Rattle.std.proofs.Common.{refl}
-use Rattle.gnap_io.specs.declared.world.WorldFault.TheVariants.{OutOfMemory}
+use Rattle.outside.specs.declared.world.WorldFault.TheVariants.{OutOfMemory}
 use Rattle.rs_facing.specs.SetServices.{not_started}
 use Rattle.rs_facing.proofs.SetsServed.{sets_hold}
 use Rattle.rs_facing.proofs.service.serve_sets_at.Goals as goal

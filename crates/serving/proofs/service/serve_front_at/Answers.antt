@@ -4,8 +4,8 @@ use Rattle.std.specs.List.{list_any}
 use Rattle.std.specs.Result.{is_ok, is_err}
 use Rattle.std.proofs.lemmas.Result.{err_from_is_err_and}
 use Rattle.std.proofs.lemmas.List.Elements.{All-map}
-use Rattle.gnap_io.specs.Gears.{IsUnused}
-use Rattle.gnap_io.specs.Worlds.{WorldState}
+use Rattle.outside.specs.Gears.{IsUnused}
+use Rattle.outside.specs.Worlds.{WorldState}
 use Rattle.serving.specs.ServiceEnds.{has_failed}
 use Rattle.serving.specs.Services.{not_started}
 use Rattle.serving.proofs.UsedUp.{any_counted, ends_of_doors, used_up}

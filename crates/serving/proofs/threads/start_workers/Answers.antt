@@ -2,7 +2,7 @@ use Rattle.std.proofs.Common.{◌≡◌, ◌∙◌, ◌≤◌, suc, [], ◌++◌
 use lib.ListN.{get_elem?}
 use Rattle.std.proofs.lemmas.List.{nil_from_length, append-nil}
 use Rattle.std.proofs.lemmas.List.Elements.{All-same, All-head, All-rest}
-use Rattle.gnap_io.specs.Gears.{IsUnused}
+use Rattle.outside.specs.Gears.{IsUnused}
 use Rattle.serving.specs.Workers.{ArePlaced}
 use Rattle.serving.proofs.Starting.{first-taken, size-next, made-next, each-next}
 use Rattle.serving.proofs.threads.start_workers.Goals as goal

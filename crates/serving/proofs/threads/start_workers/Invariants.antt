@@ -1,7 +1,7 @@
 use Rattle.std.proofs.Common.{◌≡◌, ◌++◌, ◌+◌, ◌≤◌, ℕ, [], All, map, length, vec_len, vec_capacity}
 use mathlib.Core.Option.{some}
 use lib.ListN.{get_elem?}
-use Rattle.gnap_io.specs.Gears.{IsUnused}
+use Rattle.outside.specs.Gears.{IsUnused}
 use Rattle.shared_server.specs.Passes.{IsPassOf}
 use Rattle.serving.specs.Workers.{ArePlaced}
 use Rattle.serving.proofs.threads.start_workers.Given as goal

@@ -1,5 +1,5 @@
 use Rattle.std.specs.Prelude.{All}
-use Rattle.gnap_io.specs.Gears.{IsUnused}
+use Rattle.outside.specs.Gears.{IsUnused}
 use Rattle.gnap_io.specs.MemoryForms.{gear_state}
 use Rattle.test_cases.proofs.world.gears.Given as goal
 

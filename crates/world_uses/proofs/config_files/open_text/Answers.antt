@@ -1,5 +1,5 @@
 use Rattle.std.proofs.Common.{◌∙◌, ℕ, ap, subst, inl}
-use Rattle.gnap_io.specs.Outside.{served_of}
+use Rattle.outside.specs.Outside.{served_of}
 use Rattle.command_inputs.specs.Ends.{CountsReads}
 use Rattle.world_uses.specs.ConfigFiles.{ended_by}
 use Rattle.world_uses.proofs.Uses.{unopened_used, opened_used, opened_over}

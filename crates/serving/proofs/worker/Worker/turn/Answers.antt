@@ -1,5 +1,5 @@
 use Rattle.std.proofs.Common.{subst}
-use Rattle.gnap_io.specs.Outside.{served_of}
+use Rattle.outside.specs.Outside.{served_of}
 use Rattle.serving.specs.Workers.{WorkerState, IsSameWorker, HasServedOne}
 use Rattle.serving.proofs.WorkerLemmas.{gave_one, one_out, keeps_on, same_on, served_on}
 use Rattle.serving.proofs.worker.Worker.turn.Goals as goal

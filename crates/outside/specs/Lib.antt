@@ -1,0 +1,5 @@
+pub mod Outside
+pub mod Worlds
+pub mod Gears
+pub mod Links
+pub mod Openings
