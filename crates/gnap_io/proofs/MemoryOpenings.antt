@@ -1,8 +1,8 @@
 -- What a world in memory notes of an opening.
 use Rattle.std.proofs.Common.{◌≡◌, ◌∙◌, ◌+◌, List, [], ◌∷◌, ◌++◌, ap}
-use Rattle.gnap_io.specs.declared.world.Opening.{Opening}
+use Rattle.outside.specs.declared.world.Opening.{Opening}
 use Rattle.gnap_io.specs.MemoryWorlds.{WorldForm}
-use Rattle.gnap_io.specs.Worlds.{with_opened, with_opening}
+use Rattle.outside.specs.Worlds.{with_opened, with_opening}
 
 -- of gears or a link
 pub noted-opening : (opening : Opening) (inside before : WorldForm) (items : List Opening) → inside ≡ before → items ≡ inside.state.opened ++ opening ∷ []

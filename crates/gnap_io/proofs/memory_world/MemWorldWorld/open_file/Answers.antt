@@ -1,13 +1,13 @@
 use Rattle.std.proofs.Common.{◌≡◌, ◌∙◌, ℕ, List, [], ◌∷◌, ◌++◌, false, refl, ap, sym, subst}
 use Rattle.std.specs.Prelude.{Option, Some, Ok, option_map}
-use Rattle.gnap_io.specs.declared.world.Opening.{Opening}
-use Rattle.gnap_io.specs.declared.world.Opening.TheVariants.{File}
+use Rattle.outside.specs.declared.world.Opening.{Opening}
+use Rattle.outside.specs.declared.world.Opening.TheVariants.{File}
 use Rattle.gnap_io.specs.FaultPlans.{Plan, is_bad, called}
 use Rattle.gnap_io.specs.MemoryForms.{SourceForm, new_source, bytes_of, source_told}
 use Rattle.gnap_io.specs.MemoryWorlds.{WorldForm, OpensFile, text_of}
 use Rattle.gnap_io.specs.Named.{found_under, IsPlace}
-use Rattle.gnap_io.specs.Outside.{untouched}
-use Rattle.gnap_io.specs.Worlds.{WorldState}
+use Rattle.outside.specs.Outside.{untouched}
+use Rattle.outside.specs.Worlds.{WorldState}
 use Rattle.gnap_io.proofs.MemoryOpenings.{noted-file}
 use Rattle.gnap_io.proofs.NamedLemmas.{place-found}
 use Rattle.gnap_io.proofs.memory_world.MemWorldWorld.open_file.Goals as goal

@@ -1,13 +1,13 @@
 use Rattle.std.proofs.Common.{◌≡◌, ◌∙◌, ℕ, List, [], ◌∷◌, ◌++◌, false, ap, sym, subst}
 use Rattle.std.specs.Prelude.{Some, Ok}
-use Rattle.gnap_io.specs.declared.world.Opening.{Opening}
-use Rattle.gnap_io.specs.declared.world.Opening.TheVariants.{Link}
+use Rattle.outside.specs.declared.world.Opening.{Opening}
+use Rattle.outside.specs.declared.world.Opening.TheVariants.{Link}
 use Rattle.gnap_io.specs.FaultPlans.{Plan, is_bad, called}
-use Rattle.gnap_io.specs.Links.{new_link}
+use Rattle.outside.specs.Links.{new_link}
 use Rattle.gnap_io.specs.MemoryForms.{LinkForm, link_state}
 use Rattle.gnap_io.specs.MemoryWorlds.{WorldForm, OpensLink}
 use Rattle.gnap_io.specs.Named.{found_under, without, IsPlace}
-use Rattle.gnap_io.specs.Worlds.{WorldState}
+use Rattle.outside.specs.Worlds.{WorldState}
 use Rattle.gnap_io.proofs.MemoryOpenings.{noted-opening}
 use Rattle.gnap_io.proofs.memory_world.MemWorldWorld.open_link.Goals as goal
 

@@ -1,14 +1,14 @@
 use Rattle.std.proofs.Common.{◌≡◌, ◌∙◌, ℕ, List, [], ◌∷◌, ◌++◌, All, false, ap, sym, subst}
 use Rattle.std.specs.Prelude.{Some, Ok}
 use Rattle.std.specs.Global.{Vec}
-use Rattle.gnap_io.specs.declared.world.Opening.{Opening}
-use Rattle.gnap_io.specs.declared.world.Opening.TheVariants.{Gears}
+use Rattle.outside.specs.declared.world.Opening.{Opening}
+use Rattle.outside.specs.declared.world.Opening.TheVariants.{Gears}
 use Rattle.gnap_io.specs.FaultPlans.{Plan, is_bad, called}
-use Rattle.gnap_io.specs.Gears.{IsUnused}
+use Rattle.outside.specs.Gears.{IsUnused}
 use Rattle.gnap_io.specs.MemoryForms.{GearForm, gear_state}
 use Rattle.gnap_io.specs.MemoryWorlds.{WorldForm, StartsGears}
 use Rattle.gnap_io.specs.Named.{found_under, without, IsPlace}
-use Rattle.gnap_io.specs.Worlds.{WorldState}
+use Rattle.outside.specs.Worlds.{WorldState}
 use Rattle.gnap_io.proofs.MemoryOpenings.{noted-opening}
 use Rattle.gnap_io.proofs.memory_world.MemWorldWorld.start_gears.Goals as goal
 
