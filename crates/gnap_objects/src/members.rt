@@ -1,13 +1,15 @@
 //! Members of objects, up to the first fault.
-ghost use Rattle.std.specs.Prelude.{◌≡◌, IfOk, IsUtf8, map, Ok};
+ghost use Rattle.std.specs.Prelude.{◌≡◌, ◌||◌, ℕ, List, IfOk, IsUtf8, map, not, Ok};
 ghost use Rattle.std.specs.List.{AllByRecursion};
+ghost use Rattle.std.specs.Str.{bytes_eq};
 ghost use Rattle.serde_json.specs.View.{view, items_view};
 ghost use Rattle.json_objects.specs.Bodies.{IsBody, AreBodies};
 ghost use Rattle.json_objects.specs.Reading.{Gives};
+ghost use Rattle.json_objects.specs.TextSets.{has_text};
 ghost use Rattle.access_rights.specs.Fits.{Fits};
 ghost use Rattle.access_rights.specs.Reading.{rights_of};
 ghost use Rattle.gnap_objects.specs.declared.fault.ObjectFault.TheVariants.{OutOfMemory};
-ghost use Rattle.gnap_objects.specs.Reading.{required, text_of, required_text, required_items, checked_object, has_string, id_of, sized_text, key_name_of, required_key_name, without_others, under, rights_under, counted_rights, is_too_long};
+ghost use Rattle.gnap_objects.specs.Reading.{required, text_of, required_text, required_items, checked, checked_object, has_string, id_of, sized_text, key_name_of, required_key_name, without_others, under, rights_under, counted_rights, is_too_long};
 
 use crate::fault::ObjectFault;
 use crate::forms::is_id;
@@ -16,7 +18,7 @@ use access_rights::{RightsFault, read_rights};
 use bytes_and_lists::bytes::Bytes;
 use gnap_model::rights::Rights;
 use json_objects::sizes::enclosed_size;
-use json_objects::{member, other_member};
+use json_objects::{TextSet, member, other_member};
 use serde_json::Value;
 use std::alloc::Global;
 
@@ -36,6 +38,24 @@ pub(crate) fn copied(alloc: Global, text: &str) -> Result<Bytes, ObjectFault>
     ensures utf8 { IfOk result IsUtf8 }
 {
     Ok(Bytes::from_slice(alloc, text.as_bytes())?)
+}
+
+// A copy of the text, once it is in the set; `Wrong`, with that name, where it was there before.
+pub(crate) fn added_text(
+    alloc: Global,
+    set: &mut TextSet,
+    text: &str,
+    name: &str,
+) -> Result<Bytes, ObjectFault>
+    ensures value { Gives OutOfMemory (λ b. b) result (checked (λ t. not (has_text set.old t)) name.now text.now) }
+    ensures added { IfOk result (λ b. (other : List ℕ) → has_text set.new other ≡ (bytes_eq b other || has_text set.old other)) }
+    ensures utf8 { IfOk result IsUtf8 }
+{
+    if set.insert(alloc, text)? {
+        copied(alloc, text)
+    } else {
+        Err(ObjectFault::wrong(alloc, name))
+    }
 }
 
 // The text where it stands in the value; `Wrong`, with that name, where the value is no string.

@@ -15,7 +15,8 @@ ghost use Rattle.gnap_objects.specs.Setups.{has_id, key_id_of, role_of, client_r
 
 use crate::fault::ObjectFault;
 use crate::members::{
-    copied, id_str, required, required_items, required_str, rights_under, text_of, without_others,
+    added_text, id_str, required, required_items, required_str, rights_under, text_of,
+    without_others,
 };
 use crate::setup_members::{base_of, object_of, secret_of};
 use bytes_and_lists::bytes::Bytes;
@@ -91,11 +92,7 @@ fn key_id_of(
 {
     let member = required(alloc, value, "id")?;
     let id = id_str(alloc, member, "id")?;
-    if ids.insert(alloc, id)? {
-        copied(alloc, id)
-    } else {
-        Err(ObjectFault::wrong(alloc, "id"))
-    }
+    added_text(alloc, ids, id, "id")
 }
 
 #[tactic(auto, unfolding(crate::specs::Setups::role_of, crate::specs::Reading::required_text))]

@@ -13,7 +13,7 @@ ghost use Rattle.gnap_objects.specs.Fits.{AskFits};
 ghost use Rattle.gnap_objects.specs.TokenRequests.{access_of, has_label, label_of, flags_from, flags_of, token_request_of, token_requests_from, single_request, token_requests_of};
 
 use crate::fault::ObjectFault;
-use crate::members::{copied, counted_rights, rights_under, sized_str};
+use crate::members::{added_text, counted_rights, rights_under, sized_str};
 use bytes_and_lists::bytes::Bytes;
 use bytes_and_lists::seq::Seq;
 use gnap_model::objects::{Ask, Asks};
@@ -76,10 +76,7 @@ fn label_of(
         return Ok(None);
     };
     let label = sized_str(alloc, member, 64, "label")?;
-    if !labels.insert(alloc, label)? {
-        return Err(ObjectFault::wrong(alloc, "label"));
-    }
-    Ok(Some(copied(alloc, label)?))
+    Ok(Some(added_text(alloc, labels, label, "label")?))
 }
 
 #[tactic(auto, unfolding(crate::specs::Reading::text_of))]
