@@ -110,10 +110,7 @@ pub(crate) fn grant_body_of(
     let client = client_of(alloc, value, modify)?;
     let user = named_user_of(alloc, value, modify)?;
     let modes = interact_of(alloc, value)?;
-    if asks_too_much(&tokens.asks) {
-        return Err(ObjectFault::too_many(alloc, "access_token"));
-    }
-    Ok(GrantBody {
+    let body = GrantBody {
         request: GrantRequest {
             asks: tokens.asks,
             single: tokens.single,
@@ -124,7 +121,12 @@ pub(crate) fn grant_body_of(
             modes,
         },
         repeats_flag: tokens.repeats_flag,
-    })
+    };
+    if asks_too_much(&body.request.asks) {
+        drop(body);
+        return Err(ObjectFault::too_many(alloc, "access_token"));
+    }
+    Ok(body)
 }
 
 /// The grant request that a body is, or the modification, for which `client` and `user` are not looked at (RFC 9635, sections 2 and 5.3).
