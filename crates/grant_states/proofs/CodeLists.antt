@@ -1,16 +1,17 @@
 -- Lists of user codes in their order.
 use Rattle.std.proofs.Common.{ℕ, zero, suc, ◌≡◌, ◌⊎◌, ◌<◌, ◌≤◌, ◌+◌, ◌-◌, ◌/◌, ◌^◌, Bool, true, false, List, [], ◌∷◌, ◌++◌, length, get_or, take, drop, map, refl, sym, ◌∙◌, ap, subst, inl, inr, arith, Option, Some, None, set}
-use Rattle.std.specs.Prelude.{◌==◌, ◌&&◌, slice_get, filter, not, if◌then◌else◌}
+use Rattle.std.specs.Prelude.{◌==◌, ◌&&◌, slice_get, filter, not, if◌then◌else◌, is_some, option_map}
 use Rattle.std.specs.List.{insert, remove, items_where_true}
 use Rattle.std.proofs.lemmas.List.{length-map, length-drop, take-append-drop, get_or-drop, get_or-set_same, get_or-set_other, get_or_past, get_or_read}
 use Rattle.std.proofs.lemmas.List.Edits.{length-insert, get_or-insert_below, get_or-insert_at, get_or-insert_above}
 use Rattle.std.proofs.lemmas.List.Kept.{AllPairs-cons}
 use Rattle.std.proofs.lemmas.List.Quantifiers.{all_pairs_remove}
 use Rattle.std.proofs.lemmas.Bool.{cases_lt, cases_eq, eqb-true}
+use Rattle.gnap_model.specs.Common.{some_if}
 use Rattle.gnap_tables.proofs.Lists.{HasItem}
 use Rattle.ordered_search.specs.Order.{IsAscending, IsPlaceOf}
 use Rattle.grant_states.specs.declared.numbers_by_key.Listed.{Listed}
-use Rattle.grant_states.specs.Listed.{under, key_of, Ascend, where_some}
+use Rattle.grant_states.specs.Listed.{under, key_of, number_where, Ascend, where_some}
 use Rattle.grant_states.proofs.Items.{item_at, item_filtered, item_of_filter, item_in, item_append, item_left, item_right, get_at, get_past}
 use Rattle.grant_states.proofs.Placed.{ascending_keys, at_place, eqb-self, key_at, one_key}
 use Rattle.grant_states.proofs.Changed.{removed_at}
@@ -18,6 +19,20 @@ use Rattle.grant_states.proofs.ListedNumbers.{picked_item}
 
 pub codes_ascend : (slice listed : List Listed) → slice ≡ listed → Ascend listed → IsAscending (map key_of slice)
 codes_ascend slice listed same ascend = subst (λ (os : List Listed). IsAscending (map key_of os)) (sym same) (ascending_keys key_of listed ascend)
+
+-- ---- the number at a place
+
+pub number_here : (code number : ℕ) → number_where code (Some (under code number)) ≡ Some number
+number_here code number = rw (eqb-self code) refl
+
+-- there is a number where what is there has the key
+pub number_there : (key : ℕ) (there : Option Listed) → is_some (number_where key there) ≡ where_some (λ (one : Listed). one.key == key) there
+number_there key None = refl
+number_there key (Some one) = by (one.key == key)
+  where
+    by : (b : Bool) → is_some (option_map (λ (o : Listed). o.number) (some_if b one)) ≡ b
+    by true = refl
+    by false = refl
 
 -- ---- a code is put in
 

@@ -22,9 +22,9 @@ use Rattle.ordered_search.specs.Order.{IsAscending, IsPlaceOf}
 use Rattle.grant_states.specs.declared.changes.Change.{Change}
 use Rattle.grant_states.specs.declared.changes.Change.TheVariants.{Terms, Approve, Decide, Wrong}
 use Rattle.grant_states.specs.declared.grant_table.GrantPlace.{GrantPlace}
-use Rattle.grant_states.specs.declared.grant_table.DoorPlace.{DoorPlace}
-use Rattle.grant_states.specs.Grants.{BeginsWith, grant_in, door_place, IsGrantPlace, AreGrantPlaces, is_current_door, is_door_of, Changes, ChangesAll, changed_by}
-use Rattle.grant_states.specs.Listed.{where_some}
+use Rattle.grant_states.specs.Grants.{BeginsWith, grant_in, IsGrantPlace, AreGrantPlaces, is_current_door, is_door_of, Changes, ChangesAll, changed_by}
+use Rattle.grant_states.specs.declared.numbers_by_key.Listed.{Listed}
+use Rattle.grant_states.specs.Listed.{under, where_some, number_where}
 use Rattle.grant_states.proofs.Items.{item_all, item_filtered, item_of_map, item_left, item_right, item_in, get_at, get_has, get_past, newest_none, newest_only, found_in, found_none, any_newest}
 use Rattle.grant_states.proofs.Placed.{ascending_keys, at_place, one_key, placed, placed_key, eqb-self}
 use Rattle.grant_states.proofs.Changed.{changed_at, changed_past, removed_at, all_left, map-filter}
@@ -33,31 +33,31 @@ use Rattle.grant_states.proofs.Decoding.{Tells, no_number}
 abbrev pub place_numbers : List GrantPlace → List ℕ
 place_numbers places = map (λ (place : GrantPlace). place.number) places
 
-abbrev pub door_serials : List DoorPlace → List ℕ
-door_serials doors = map (λ (door : DoorPlace). door.serial) doors
+abbrev pub door_serials : List Listed → List ℕ
+door_serials doors = map (λ (door : Listed). door.key) doors
 
 numbers_same : (places : List GrantPlace) → ((p : GrantPlace) → HasItem places p → p.number ≡ p.row.value.number)
     → place_numbers places ≡ map (λ (row : GrantRow). row.number) (map grant_in places)
 numbers_same [] h = refl
 numbers_same (p ∷ ps) h = ap (λ n. n ∷ place_numbers ps) (h p (inl refl)) ∙ ap (λ (ns : List ℕ). p.row.value.number ∷ ns) (numbers_same ps (λ q m. h q (inr m)))
 
-pub numbers_are : (doors : List DoorPlace) (places : List GrantPlace) → All (IsGrantPlace doors) places
+pub numbers_are : (doors : List Listed) (places : List GrantPlace) → All (IsGrantPlace doors) places
     → place_numbers places ≡ map (λ (row : GrantRow). row.number) (map grant_in places)
 numbers_are doors places each = numbers_same places (λ p h. (item_all (IsGrantPlace doors) places p each h).number)
 
-pub ascending_places : (slice places : List GrantPlace) (doors : List DoorPlace) (bound : ℕ) → slice ≡ places → AreGrantPlaces places doors bound
+pub ascending_places : (slice places : List GrantPlace) (doors : List Listed) (bound : ℕ) → slice ≡ places → AreGrantPlaces places doors bound
     → IsAscending (place_numbers slice)
 ascending_places slice places doors bound same are = subst (λ (ps : List GrantPlace). IsAscending (place_numbers ps)) (sym same)
     (subst IsAscending (sym (numbers_are doors places are.each)) (ascending_keys (λ (row : GrantRow). row.number) (map grant_in places) are.ascending))
 
-pub ascending_doors : (slice doors : List DoorPlace) (places : List GrantPlace) (bound : ℕ) → slice ≡ doors → AreGrantPlaces places doors bound
+pub ascending_doors : (slice doors : List Listed) (places : List GrantPlace) (bound : ℕ) → slice ≡ doors → AreGrantPlaces places doors bound
     → IsAscending (door_serials slice)
-ascending_doors slice doors places bound same are = subst (λ (ds : List DoorPlace). IsAscending (door_serials ds)) (sym same)
-    (ascending_keys (λ (door : DoorPlace). door.serial) doors are.doors_ascend)
+ascending_doors slice doors places bound same are = subst (λ (ds : List Listed). IsAscending (door_serials ds)) (sym same)
+    (ascending_keys (λ (door : Listed). door.key) doors are.doors_ascend)
 
 -- ---- a row by its number
 
-pub number_found : (slice places : List GrantPlace) (doors : List DoorPlace) (bound : ℕ) (rows : List GrantRow) (at number : ℕ) → slice ≡ places
+pub number_found : (slice places : List GrantPlace) (doors : List Listed) (bound : ℕ) (rows : List GrantRow) (at number : ℕ) → slice ≡ places
     → map grant_in places ≡ rows → AreGrantPlaces places doors bound
     → IsPlaceOf number (place_numbers slice) at
     → option_map grant_in (option_and_then (λ (place : GrantPlace). some_if (place.number == number) place) (slice_get slice at)) ≡ row_by_number number rows
@@ -96,43 +96,43 @@ has_found number rows = any_newest (λ (row : GrantRow). row.number == number) r
 -- ---- a row by its continuation value
 
 -- the index has the continuation value of the row
-pub record IsIndexed (doors : List DoorPlace) (row : GrantRow) : Type 0 where
+pub record IsIndexed (doors : List Listed) (row : GrantRow) : Type 0 where
   pub serial : ℕ
   pub small : serial < 2 ^ 64
   pub value : BeginsWith serial row.door
-  pub listed : HasItem doors (door_place serial row.number)
+  pub listed : HasItem doors (under serial row.number)
 
-abbrev AreIndexed : List DoorPlace → List GrantRow → Type 0
+abbrev AreIndexed : List Listed → List GrantRow → Type 0
 AreIndexed doors rows = (z : GrantRow) → HasItem rows z → IsIndexed doors z
 
-indexed_row : (doors : List DoorPlace) (p : GrantPlace) → IsGrantPlace doors p → IsIndexed doors p.row.value
+indexed_row : (doors : List Listed) (p : GrantPlace) → IsGrantPlace doors p → IsIndexed doors p.row.value
 indexed_row doors p is = record {
   serial = p.door_serial;
   small = is.small;
   value = is.door;
-  listed = subst (λ n. HasItem doors (door_place p.door_serial n)) is.number is.listed;
+  listed = subst (λ n. HasItem doors (under p.door_serial n)) is.number is.listed;
 }
 
-indexed_rows : (slice doors : List DoorPlace) (places : List GrantPlace) (bound : ℕ) (rows : List GrantRow) → slice ≡ doors → map grant_in places ≡ rows
+indexed_rows : (slice doors : List Listed) (places : List GrantPlace) (bound : ℕ) (rows : List GrantRow) → slice ≡ doors → map grant_in places ≡ rows
     → AreGrantPlaces places doors bound → AreIndexed slice rows
 indexed_rows slice doors places bound rows same view are z h =
     let p = item_of_map grant_in places z (subst (λ (rs : List GrantRow). HasItem rs z) (sym view) h) in
-    subst (λ (ds : List DoorPlace). IsIndexed ds z) (sym same)
+    subst (λ (ds : List Listed). IsIndexed ds z) (sym same)
     (subst (IsIndexed doors) p.2 (indexed_row doors p.0 (item_all (IsGrantPlace doors) places p.0 are.each p.1)))
 
 -- a row with the value has its pair in the index, at the place of the value's serial
-door_of : (doors : List DoorPlace) (rows : List GrantRow) (value : Text) (serial at : ℕ) → AreIndexed doors rows → IsAscending (door_serials doors)
+door_of : (doors : List Listed) (rows : List GrantRow) (value : Text) (serial at : ℕ) → AreIndexed doors rows → IsAscending (door_serials doors)
     → Tells value (Some serial) → IsPlaceOf serial (door_serials doors) at
-    → (z : GrantRow) → HasItem rows z → same_text z.door value ≡ true → slice_get doors at ≡ Some (door_place serial z.number)
+    → (z : GrantRow) → HasItem rows z → same_text z.door value ≡ true → slice_get doors at ≡ Some (under serial z.number)
 door_of doors rows value serial at indexed ascending told place z h same =
     let is : z.door ≡ value = (bytes_eq-Decides z.door value).0 same in
     let row = indexed z h in
     let k : Some serial ≡ Some row.serial = told row.serial row.value.0 row.value.1 row.small (sym is ∙ row.value.2) in
     let e : row.serial ≡ serial = sym (cc k) in
-    at_place (λ (door : DoorPlace). door.serial) doors at serial (door_place serial z.number) ascending place
-    (subst (λ n. HasItem doors (door_place n z.number)) e row.listed) refl
+    at_place (λ (door : Listed). door.key) doors at serial (under serial z.number) ascending place
+    (subst (λ n. HasItem doors (under n z.number)) e row.listed) refl
 
-door_never : (doors : List DoorPlace) (rows : List GrantRow) (value : Text) → AreIndexed doors rows → Tells value no_number → (z : GrantRow) → HasItem rows z
+door_never : (doors : List Listed) (rows : List GrantRow) (value : Text) → AreIndexed doors rows → Tells value no_number → (z : GrantRow) → HasItem rows z
     → same_text z.door value ≡ true → ⊥
 door_never doors rows value indexed told z h same =
     let is : z.door ≡ value = (bytes_eq-Decides z.door value).0 same in
@@ -147,27 +147,26 @@ none_with rows value never = sym
     nothing z h true e = absurd (never z h e)
     nothing z h false e = refl
 
-pub door_missing : (places : List GrantPlace) (doors : List DoorPlace) (bound : ℕ) (rows : List GrantRow) (value : Text) → map grant_in places ≡ rows
+pub door_missing : (places : List GrantPlace) (doors : List Listed) (bound : ℕ) (rows : List GrantRow) (value : Text) → map grant_in places ≡ rows
     → AreGrantPlaces places doors bound → Tells value no_number
     → None ≡ row_by_door value rows
 door_missing places doors bound rows value view are told =
     none_with rows value (door_never doors rows value (indexed_rows doors doors places bound rows refl view are) told)
 
-pub door_unlisted : (slice doors : List DoorPlace) (places : List GrantPlace) (bound : ℕ) (rows : List GrantRow) (value : Text) (at serial : ℕ) → slice ≡ doors
+pub door_unlisted : (slice doors : List Listed) (places : List GrantPlace) (bound : ℕ) (rows : List GrantRow) (value : Text) (at serial : ℕ) → slice ≡ doors
     → map grant_in places ≡ rows → AreGrantPlaces places doors bound
     → Tells value (Some serial) → IsPlaceOf serial (door_serials slice) at
-    → None ≡ option_map (λ (door : DoorPlace). door.grant) (option_and_then (λ (door : DoorPlace). some_if (door.serial == serial) door) (slice_get slice at))
+    → None ≡ number_where serial (slice_get slice at)
     → None ≡ row_by_door value rows
 door_unlisted slice doors places bound rows value at serial same view are told place none = none_with rows value (λ z h e.
     let there = door_of slice rows value serial at (indexed_rows slice doors places bound rows same view are)
     (ascending_doors slice doors places bound same are) told place z h e in
     let some : None ≡ Some z.number = none ∙ rw there (rw (eqb-self serial) refl) in cc some)
 
-pub door_found : (slice doors : List DoorPlace) (places : List GrantPlace) (bound : ℕ) (rows : List GrantRow) (value : Text) (at serial number : ℕ)
+pub door_found : (slice doors : List Listed) (places : List GrantPlace) (bound : ℕ) (rows : List GrantRow) (value : Text) (at serial number : ℕ)
     → slice ≡ doors → map grant_in places ≡ rows → AreGrantPlaces places doors bound
     → Tells value (Some serial) → IsPlaceOf serial (door_serials slice) at
-    → Some number ≡ option_map (λ (door : DoorPlace). door.grant)
-    (option_and_then (λ (door : DoorPlace). some_if (door.serial == serial) door) (slice_get slice at))
+    → Some number ≡ number_where serial (slice_get slice at)
     → option_and_then (λ (row : GrantRow). some_if (same_text row.door value) row) (row_by_number number rows) ≡ row_by_door value rows
 door_found slice doors places bound rows value at serial number same view are told place listed = by (row_by_number number rows) refl
   where
@@ -201,10 +200,10 @@ door_found slice doors places bound rows value at serial number same view are to
 -- ---- rows that are taken out
 
 -- places whose rows are these
-abbrev pub HoldGrants : List GrantPlace → List DoorPlace → ℕ → List GrantRow → Type 0
+abbrev pub HoldGrants : List GrantPlace → List Listed → ℕ → List GrantRow → Type 0
 HoldGrants places doors bound rows = (map grant_in places ≡ rows) × AreGrantPlaces places doors bound
 
-pub kept_grants : (test : GrantPlace → Bool) (row_test : GrantRow → Bool) (places : List GrantPlace) (doors : List DoorPlace) (bound : ℕ)
+pub kept_grants : (test : GrantPlace → Bool) (row_test : GrantRow → Bool) (places : List GrantPlace) (doors : List Listed) (bound : ℕ)
     → AreGrantPlaces places doors bound
     → ((p : GrantPlace) → p.number ≡ p.row.value.number → test p ≡ row_test p.row.value)
     → HoldGrants (filter test places) doors bound (filter row_test (map grant_in places))
@@ -221,7 +220,7 @@ kept_grants test row_test places doors bound are same =
     )
 
 -- the numbers of the places ascend
-pub place_pairs : (places : List GrantPlace) (doors : List DoorPlace) (bound : ℕ) → AreGrantPlaces places doors bound
+pub place_pairs : (places : List GrantPlace) (doors : List Listed) (bound : ℕ) → AreGrantPlaces places doors bound
     → AllPairs (λ (a b : GrantPlace). a.number < b.number) places
 place_pairs places doors bound are i j d lt jn =
     let many = length-map places grant_in in
@@ -231,7 +230,7 @@ place_pairs places doors bound are i j d lt jn =
     let x = (are.each i d (omega (arith, lt, jn))).number in
     let y = (are.each j d jn).number in omega (arith, pair, a, b, x, y)
 
-pub place_removed : (places : List GrantPlace) (doors : List DoorPlace) (bound at number : ℕ) (old : GrantPlace) → AreGrantPlaces places doors bound
+pub place_removed : (places : List GrantPlace) (doors : List Listed) (bound at number : ℕ) (old : GrantPlace) → AreGrantPlaces places doors bound
     → at < length places → old ≡ get_or places at old → old.number ≡ number
     → HoldGrants (remove places at) doors bound (drop_grant number (map grant_in places))
 place_removed places doors bound at number old are inside is mine =
@@ -243,7 +242,7 @@ place_removed places doors bound at number old are inside is mine =
     (λ p e. ap (λ n. not (number == n)) e))
 
 -- a row with the number stands at its place
-place_of_row : (slice places : List GrantPlace) (doors : List DoorPlace) (bound : ℕ) (rows : List GrantRow) (at number : ℕ) → slice ≡ places
+place_of_row : (slice places : List GrantPlace) (doors : List Listed) (bound : ℕ) (rows : List GrantRow) (at number : ℕ) → slice ≡ places
     → map grant_in places ≡ rows → AreGrantPlaces places doors bound
     → IsPlaceOf number (place_numbers slice) at → (z : GrantRow) → HasItem rows z → z.number ≡ number
     → (p : GrantPlace) × (p.number ≡ number) × (slice_get places at ≡ Some p)
@@ -257,7 +256,7 @@ place_of_row slice places doors bound rows at number same view are place z h e =
           (subst (λ (ps : List GrantPlace). HasItem ps p.0) (sym same) p.1) mine,
     )
 
-pub none_removed : (slice places : List GrantPlace) (doors : List DoorPlace) (bound : ℕ) (rows : List GrantRow) (at number : ℕ) → slice ≡ places
+pub none_removed : (slice places : List GrantPlace) (doors : List Listed) (bound : ℕ) (rows : List GrantRow) (at number : ℕ) → slice ≡ places
     → map grant_in places ≡ rows → AreGrantPlaces places doors bound
     → IsPlaceOf number (place_numbers slice) at → ((old : GrantPlace) → at < length places → old ≡ get_or places at old → old.number ≡ number → ⊥)
     → rows ≡ drop_grant number rows
@@ -294,7 +293,7 @@ changed_ascend number f rows keeps pairs i j d lt jn =
     g : GrantRow → GrantRow
     g row = if number == row.number then f row else row
 
-pub place_changed : (slice places : List GrantPlace) (doors : List DoorPlace) (bound : ℕ) (rows : List GrantRow) (at number : ℕ) (f : GrantRow → GrantRow)
+pub place_changed : (slice places : List GrantPlace) (doors : List Listed) (bound : ℕ) (rows : List GrantRow) (at number : ℕ) (f : GrantRow → GrantRow)
     (old new : GrantPlace)
     → slice ≡ places → map grant_in places ≡ rows → AreGrantPlaces places doors bound → IsPlaceOf number (place_numbers slice) at → at < length places
     → old ≡ get_or places at old → Changes number f old new
@@ -317,12 +316,12 @@ place_changed slice places doors bound rows at number f old new same view are pl
     ∙ ap (change_grant number f) view
 
 -- the place that was changed is one for the index afterwards, and so are the others
-pub places_changed : (slice places : List GrantPlace) (doors more : List DoorPlace) (bound low : ℕ) (at number : ℕ) (f : GrantRow → GrantRow)
+pub places_changed : (slice places : List GrantPlace) (doors more : List Listed) (bound low : ℕ) (at number : ℕ) (f : GrantRow → GrantRow)
     (old new : GrantPlace)
     → slice ≡ places → AreGrantPlaces places doors bound → IsPlaceOf number (place_numbers slice) at → at < length places → old ≡ get_or places at old
     → Changes number f old new → KeepsNumber f
-    → All (IsGrantPlace more) places → IsGrantPlace more new → AllPairs (λ (a b : DoorPlace). a.serial < b.serial) more
-    → All (λ (door : DoorPlace). door.serial < low) more
+    → All (IsGrantPlace more) places → IsGrantPlace more new → AllPairs (λ (a b : Listed). a.key < b.key) more
+    → All (λ (door : Listed). door.key < low) more
     → AreGrantPlaces (set places at new) more low
 places_changed slice places doors more bound low at number f old new same are place inside is changes keeps each one ascend below = record {
   ascending = subst (λ (rs : List GrantRow). AllPairs (λ (a b : GrantRow). a.number < b.number) rs)
@@ -333,7 +332,7 @@ places_changed slice places doors more bound low at number f old new same are pl
   doors_low = below;
 }
 
-pub place_past : (slice places : List GrantPlace) (doors : List DoorPlace) (bound : ℕ) (rows : List GrantRow) (at number : ℕ) (f : GrantRow → GrantRow)
+pub place_past : (slice places : List GrantPlace) (doors : List Listed) (bound : ℕ) (rows : List GrantRow) (at number : ℕ) (f : GrantRow → GrantRow)
     → slice ≡ places → map grant_in places ≡ rows → AreGrantPlaces places doors bound
     → IsPlaceOf number (place_numbers slice) at → length places ≤ at → rows ≡ change_grant number f rows
 place_past slice places doors bound rows at number f same view are place past =
@@ -346,35 +345,35 @@ place_past slice places doors bound rows at number f same view are place past =
 
 -- ---- a row that is appended, and a new continuation value
 
-more_doors : (doors : List DoorPlace) (door : DoorPlace) (p : GrantPlace) → IsGrantPlace doors p → IsGrantPlace (doors ++ door ∷ []) p
+more_doors : (doors : List Listed) (door : Listed) (p : GrantPlace) → IsGrantPlace doors p → IsGrantPlace (doors ++ door ∷ []) p
 more_doors doors door p is = record
-    { number = is.number; small = is.small; door = is.door; listed = item_left doors (door ∷ []) (door_place p.door_serial p.number) is.listed }
+    { number = is.number; small = is.small; door = is.door; listed = item_left doors (door ∷ []) (under p.door_serial p.number) is.listed }
 
-pub doors_pushed : (doors : List DoorPlace) (bound serial number : ℕ) → AllPairs (λ (a b : DoorPlace). a.serial < b.serial) doors
-    → All (λ (door : DoorPlace). door.serial < bound) doors → bound ≤ serial
-    → AllPairs (λ (a b : DoorPlace). a.serial < b.serial) (doors ++ door_place serial number ∷ [])
+pub doors_pushed : (doors : List Listed) (bound serial number : ℕ) → AllPairs (λ (a b : Listed). a.key < b.key) doors
+    → All (λ (door : Listed). door.key < bound) doors → bound ≤ serial
+    → AllPairs (λ (a b : Listed). a.key < b.key) (doors ++ under serial number ∷ [])
 doors_pushed doors bound serial number pairs low fresh =
-    all_pairs_push (λ (a b : DoorPlace). a.serial < b.serial) doors (door_place serial number) pairs (λ k d kn. let l = low k d kn in omega (arith, l, fresh))
+    all_pairs_push (λ (a b : Listed). a.key < b.key) doors (under serial number) pairs (λ k d kn. let l = low k d kn in omega (arith, l, fresh))
 
-pub doors_low_pushed : (doors : List DoorPlace) (bound serial number : ℕ) → All (λ (door : DoorPlace). door.serial < bound) doors → bound ≤ serial
-    → All (λ (door : DoorPlace). door.serial < serial + 1) (doors ++ door_place serial number ∷ [])
+pub doors_low_pushed : (doors : List Listed) (bound serial number : ℕ) → All (λ (door : Listed). door.key < bound) doors → bound ≤ serial
+    → All (λ (door : Listed). door.key < serial + 1) (doors ++ under serial number ∷ [])
 doors_low_pushed doors bound serial number low fresh =
-    All-push (λ (door : DoorPlace). door.serial < serial + 1) doors (door_place serial number) (λ k d kn. let l = low k d kn in omega (arith, l, fresh))
+    All-push (λ (door : Listed). door.key < serial + 1) doors (under serial number) (λ k d kn. let l = low k d kn in omega (arith, l, fresh))
     (omega arith)
 
-pub listed_door : (places : List GrantPlace) (doors : List DoorPlace) (bound serial number : ℕ) → AreGrantPlaces places doors bound → bound ≤ serial
-    → AreGrantPlaces places (doors ++ door_place serial number ∷ []) (serial + 1)
+pub listed_door : (places : List GrantPlace) (doors : List Listed) (bound serial number : ℕ) → AreGrantPlaces places doors bound → bound ≤ serial
+    → AreGrantPlaces places (doors ++ under serial number ∷ []) (serial + 1)
 listed_door places doors bound serial number are fresh = record {
   ascending = are.ascending;
-  each = λ k d kn. more_doors doors (door_place serial number) (get_or places k d) (are.each k d kn);
+  each = λ k d kn. more_doors doors (under serial number) (get_or places k d) (are.each k d kn);
   doors_ascend = doors_pushed doors bound serial number are.doors_ascend are.doors_low fresh;
   doors_low = doors_low_pushed doors bound serial number are.doors_low fresh;
 }
 
-pub place_pushed : (places : List GrantPlace) (doors : List DoorPlace) (bound : ℕ) (new : GrantPlace) → AreGrantPlaces places doors bound
+pub place_pushed : (places : List GrantPlace) (doors : List Listed) (bound : ℕ) (new : GrantPlace) → AreGrantPlaces places doors bound
     → bound ≤ new.door_serial → new.number ≡ new.row.value.number → new.door_serial < 2 ^ 64
     → BeginsWith new.door_serial new.row.value.door → All (λ (other : GrantRow). other.number < new.row.value.number) (map grant_in places)
-    → HoldGrants (places ++ new ∷ []) (doors ++ door_place new.door_serial new.number ∷ []) (new.door_serial + 1) (map grant_in places ++ new.row.value ∷ [])
+    → HoldGrants (places ++ new ∷ []) (doors ++ under new.door_serial new.number ∷ []) (new.door_serial + 1) (map grant_in places ++ new.row.value ∷ [])
 place_pushed places doors bound new are fresh keyed small begins above =
     let rows = map-append grant_in places (new ∷ []) in
     let listed = listed_door places doors bound new.door_serial new.number are fresh in (
@@ -382,11 +381,11 @@ place_pushed places doors bound new are fresh keyed small begins above =
       record {
         ascending = subst (λ (rs : List GrantRow). AllPairs (λ (a b : GrantRow). a.number < b.number) rs) (sym rows)
             (all_pairs_push (λ (a b : GrantRow). a.number < b.number) (map grant_in places) new.row.value are.ascending above);
-        each = All-push (IsGrantPlace (doors ++ door_place new.door_serial new.number ∷ [])) places new listed.each (record {
+        each = All-push (IsGrantPlace (doors ++ under new.door_serial new.number ∷ [])) places new listed.each (record {
           number = keyed;
           small = small;
           door = begins;
-          listed = item_right doors (door_place new.door_serial new.number ∷ []) (door_place new.door_serial new.number) (inl refl);
+          listed = item_right doors (under new.door_serial new.number ∷ []) (under new.door_serial new.number) (inl refl);
         });
         doors_ascend = listed.doors_ascend;
         doors_low = listed.doors_low;
@@ -395,20 +394,20 @@ place_pushed places doors bound new are fresh keyed small begins above =
 
 -- ---- continuation values that are left out of the index
 
-is_current : (places : List GrantPlace) (p : GrantPlace) → HasItem places p → is_current_door places (door_place p.door_serial p.number) ≡ true
+is_current : (places : List GrantPlace) (p : GrantPlace) → HasItem places p → is_current_door places (under p.door_serial p.number) ≡ true
 is_current [] p h = absurd h
 is_current (q ∷ qs) p (inl e) = ap
-    (λ (x : GrantPlace). is_door_of (door_place p.door_serial p.number) x || is_current_door qs (door_place p.door_serial p.number)) (sym e) ∙ both
+    (λ (x : GrantPlace). is_door_of (under p.door_serial p.number) x || is_current_door qs (under p.door_serial p.number)) (sym e) ∙ both
   where
-    both : (is_door_of (door_place p.door_serial p.number) p || is_current_door qs (door_place p.door_serial p.number)) ≡ true
+    both : (is_door_of (under p.door_serial p.number) p || is_current_door qs (under p.door_serial p.number)) ≡ true
     both = rw (eqb-self p.number, eqb-self p.door_serial) refl
-is_current (q ∷ qs) p (inr h) = at (is_door_of (door_place p.door_serial p.number) q) (is_current qs p h)
+is_current (q ∷ qs) p (inr h) = at (is_door_of (under p.door_serial p.number) q) (is_current qs p h)
   where
-    at : (b : Bool) → is_current_door qs (door_place p.door_serial p.number) ≡ true → (b || is_current_door qs (door_place p.door_serial p.number)) ≡ true
+    at : (b : Bool) → is_current_door qs (under p.door_serial p.number) ≡ true → (b || is_current_door qs (under p.door_serial p.number)) ≡ true
     at true e = refl
     at false e = e
 
-pub current_kept : (slice places : List GrantPlace) (doors : List DoorPlace) (bound : ℕ) → slice ≡ places → AreGrantPlaces places doors bound
+pub current_kept : (slice places : List GrantPlace) (doors : List Listed) (bound : ℕ) → slice ≡ places → AreGrantPlaces places doors bound
     → AreGrantPlaces places (filter (is_current_door slice) doors) bound
 current_kept slice places doors bound same are = subst (λ (ps : List GrantPlace). AreGrantPlaces places (filter (is_current_door ps) doors) bound) (sym same)
     (record {
@@ -418,20 +417,20 @@ current_kept slice places doors bound same are = subst (λ (ps : List GrantPlace
             number = is.number;
             small = is.small;
             door = is.door;
-            listed = item_filtered (is_current_door places) doors (door_place (get_or places k d).door_serial (get_or places k d).number) is.listed
+            listed = item_filtered (is_current_door places) doors (under (get_or places k d).door_serial (get_or places k d).number) is.listed
                 (is_current places (get_or places k d) (item_in places k d kn));
           };
-      doors_ascend = AllPairs-filter (λ (a b : DoorPlace). a.serial < b.serial) (is_current_door places) doors are.doors_ascend;
-      doors_low = All-filter (is_current_door places) (λ (door : DoorPlace). door.serial < bound) doors are.doors_low;
+      doors_ascend = AllPairs-filter (λ (a b : Listed). a.key < b.key) (is_current_door places) doors are.doors_ascend;
+      doors_low = All-filter (is_current_door places) (λ (door : Listed). door.key < bound) doors are.doors_low;
     })
 
 -- what stands at the place of the number decides
-pub current_at : (places : List GrantPlace) (at : ℕ) (door : DoorPlace) → IsAscending (place_numbers places) → IsPlaceOf door.grant (place_numbers places) at
+pub current_at : (places : List GrantPlace) (at : ℕ) (door : Listed) → IsAscending (place_numbers places) → IsPlaceOf door.number (place_numbers places) at
     → where_some (is_door_of door) (slice_get places at) ≡ is_current_door places door
 current_at places at door ascending place =
     passes (slice_get places at)
-    ∙ ap (λ (o : Option GrantPlace). is_some o) (placed (λ (p : GrantPlace). p.number) (is_door_of door) places at door.grant ascending place
-    (λ z h t. eqb-true z.number door.grant (first (z.number == door.grant) (z.door_serial == door.serial) t)))
+    ∙ ap (λ (o : Option GrantPlace). is_some o) (placed (λ (p : GrantPlace). p.number) (is_door_of door) places at door.number ascending place
+    (λ z h t. eqb-true z.number door.number (first (z.number == door.number) (z.door_serial == door.key) t)))
     ∙ any_newest (is_door_of door) places
   where
     first : (a b : Bool) → (a && b) ≡ true → a ≡ true
@@ -464,13 +463,13 @@ door_kept (Approve consent) row = refl
 door_kept (Decide decision) row = refl
 door_kept Wrong row = refl
 
-number_after : (number : ℕ) (f : GrantRow → GrantRow) (doors : List DoorPlace) (old new : GrantPlace) → KeepsNumber f → IsGrantPlace doors old
+number_after : (number : ℕ) (f : GrantRow → GrantRow) (doors : List Listed) (old new : GrantPlace) → KeepsNumber f → IsGrantPlace doors old
     → Changes number f old new → new.number ≡ new.row.value.number
 number_after number f doors old new keeps is changes =
     changes.number_kept ∙ is.number ∙ sym (ap (λ (r : GrantRow). r.number) changes.row ∙ kept_number number f keeps old.row.value (number == old.number))
 
 -- the place that was changed has the continuation value that it had
-pub changed_one : (doors : List DoorPlace) (number : ℕ) (f : GrantRow → GrantRow) (old new : GrantPlace) → KeepsNumber f → KeepsDoor f → IsGrantPlace doors old
+pub changed_one : (doors : List Listed) (number : ℕ) (f : GrantRow → GrantRow) (old new : GrantPlace) → KeepsNumber f → KeepsDoor f → IsGrantPlace doors old
     → ChangesAll number old.door_serial f old new → IsGrantPlace doors new
 changed_one doors number f old new keeps door_stays is all =
     let serial : new.door_serial ≡ old.door_serial = all.door_serial ∙ either (number == old.number) in
@@ -478,8 +477,8 @@ changed_one doors number f old new keeps door_stays is all =
       number = number_after number f doors old new keeps is all.changes;
       small = rw serial is.small;
       door = (is.door.0, is.door.1, door ∙ is.door.2 ∙ ap (λ n. value_text n is.door.0 is.door.1) (sym serial));
-      listed = subst (λ n. HasItem doors (door_place n new.number)) (sym serial)
-          (subst (λ n. HasItem doors (door_place old.door_serial n)) (sym all.changes.number_kept) is.listed);
+      listed = subst (λ n. HasItem doors (under n new.number)) (sym serial)
+          (subst (λ n. HasItem doors (under old.door_serial n)) (sym all.changes.number_kept) is.listed);
     }
   where
     either : (b : Bool) → (if b then old.door_serial else old.door_serial) ≡ old.door_serial
@@ -494,15 +493,15 @@ pub door_keeps : (value : Text) (earliest : ℕ) → KeepsNumber (with_door valu
 door_keeps value earliest row = refl
 
 -- the place of the grant has the new continuation value, and another one that which it had
-pub renewed_one : (doors : List DoorPlace) (number serial earliest : ℕ) (value : Text) (old new : GrantPlace) → IsGrantPlace doors old
+pub renewed_one : (doors : List Listed) (number serial earliest : ℕ) (value : Text) (old new : GrantPlace) → IsGrantPlace doors old
     → ChangesAll number serial (with_door value earliest) old new → serial < 2 ^ 64 → BeginsWith serial value
-    → IsGrantPlace (doors ++ door_place serial number ∷ []) new
+    → IsGrantPlace (doors ++ under serial number ∷ []) new
 renewed_one doors number serial earliest value old new is all small begins = by (number == old.number) refl
   where
     own : new.number ≡ new.row.value.number
     own = number_after number (with_door value earliest) doors old new (door_keeps value earliest) is all.changes
 
-    by : (b : Bool) → (number == old.number) ≡ b → IsGrantPlace (doors ++ door_place serial number ∷ []) new
+    by : (b : Bool) → (number == old.number) ≡ b → IsGrantPlace (doors ++ under serial number ∷ []) new
     by true e =
         let at : new.door_serial ≡ serial = all.door_serial ∙ rw e refl in
         let door : new.row.value.door ≡ value = ap (λ (r : GrantRow). r.door) all.changes.row ∙ rw e refl in
@@ -510,9 +509,9 @@ renewed_one doors number serial earliest value old new is all small begins = by 
           number = own;
           small = rw at small;
           door = (begins.0, begins.1, door ∙ begins.2 ∙ ap (λ n. value_text n begins.0 begins.1) (sym at));
-          listed = subst (λ n. HasItem (doors ++ door_place serial number ∷ []) (door_place n new.number)) (sym at)
-              (subst (λ n. HasItem (doors ++ door_place serial number ∷ []) (door_place serial n)) mine
-              (item_right doors (door_place serial number ∷ []) (door_place serial number) (inl refl)));
+          listed = subst (λ n. HasItem (doors ++ under serial number ∷ []) (under n new.number)) (sym at)
+              (subst (λ n. HasItem (doors ++ under serial number ∷ []) (under serial n)) mine
+              (item_right doors (under serial number ∷ []) (under serial number) (inl refl)));
         }
     by false e =
         let at : new.door_serial ≡ old.door_serial = all.door_serial ∙ rw e refl in
@@ -520,7 +519,7 @@ renewed_one doors number serial earliest value old new is all small begins = by 
           number = own;
           small = rw at is.small;
           door = (is.door.0, is.door.1, door ∙ is.door.2 ∙ ap (λ n. value_text n is.door.0 is.door.1) (sym at));
-          listed = subst (λ n. HasItem (doors ++ door_place serial number ∷ []) (door_place n new.number)) (sym at)
-              (subst (λ n. HasItem (doors ++ door_place serial number ∷ []) (door_place old.door_serial n)) (sym all.changes.number_kept)
-              (item_left doors (door_place serial number ∷ []) (door_place old.door_serial old.number) is.listed));
+          listed = subst (λ n. HasItem (doors ++ under serial number ∷ []) (under n new.number)) (sym at)
+              (subst (λ n. HasItem (doors ++ under serial number ∷ []) (under old.door_serial n)) (sym all.changes.number_kept)
+              (item_left doors (under serial number ∷ []) (under old.door_serial old.number) is.listed));
         }

@@ -1,5 +1,5 @@
 -- The row with an interaction, by what its round says.
-use Rattle.std.proofs.Common.{ℕ, ◌≡◌, Bool, true, false, List, [], ◌∷◌, ◌++◌, map, reverse, refl, sym, ◌∙◌, ap, Option, Some, None}
+use Rattle.std.proofs.Common.{ℕ, ◌≡◌, Bool, true, false, List, [], ◌∷◌, reverse, refl, ◌∙◌, ap, Option, Some, None}
 use Rattle.std.specs.Prelude.{option_map, not, ◌&&◌, nat_lt, is_some}
 use Rattle.std.specs.Option.{option_or, option_and_then}
 use Rattle.gnap_model.specs.Common.{first_of, some_if}

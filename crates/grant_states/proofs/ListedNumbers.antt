@@ -1,7 +1,7 @@
 -- Numbers in the order of their keys.
-use Rattle.std.proofs.Common.{ℕ, zero, suc, ◌+◌, ◌≡◌, ◌⊎◌, ◌<◌, ◌≤◌, Bool, true, false, List, [], ◌∷◌, length, get_or, take, drop, refl, sym, ◌∙◌, ap, subst, inl, inr, arith, leb, ltb, Some}
+use Rattle.std.proofs.Common.{ℕ, zero, suc, ◌+◌, ◌≡◌, ◌⊎◌, ◌<◌, ◌≤◌, Bool, true, false, List, [], ◌∷◌, length, get_or, take, drop, refl, sym, ◌∙◌, ap, subst, inl, inr, arith, ltb, Some}
 use Rattle.std.specs.List.{insert, remove, items_where_true}
-use Rattle.std.specs.List.Sorted.{IsNonDecreasingBy, IsPartitionPoint}
+use Rattle.std.specs.List.Sorted.{IsNonDecreasingBy}
 use Rattle.std.proofs.lemmas.List.{take-append-drop}
 use Rattle.std.proofs.lemmas.List.Edits.{get_or-remove_above, get_or-remove_below, length-remove}
 use Rattle.std.proofs.lemmas.List.Sorted.{IsNonDecreasingBy-insert, IsNonDecreasingBy-short, IsNonDecreasingBy-drop}
@@ -9,7 +9,7 @@ use Rattle.std.proofs.lemmas.Bool.{cases_lt}
 use Rattle.std.proofs.lemmas.Bool.Decides.{nat_tests}
 use Rattle.gnap_tables.proofs.Lists.{HasItem}
 use Rattle.grant_states.specs.declared.numbers_by_key.Listed.{Listed}
-use Rattle.grant_states.specs.Listed.{key_of, under}
+use Rattle.grant_states.specs.Listed.{key_of, under, IsStartOf, IsEndOf}
 use Rattle.grant_states.proofs.Items.{get_at, item_at, item_append, item_in, item_left, item_right}
 
 -- ---- items of parts
@@ -36,13 +36,6 @@ item_stays {A} xs i y z h = elim (item_append (take i xs) (drop i xs) z (subst (
 ]
 
 -- ---- the place of a key
-
--- what stands below has lower keys, or this one
-abbrev pub IsEndOf : ℕ → List Listed → ℕ → Type 0
-IsEndOf key listed at = IsPartitionPoint (λ (one : Listed). leb (key_of one) key ≡ true) (λ (one : Listed). leb (key_of one) key ≡ false) listed at
-
-abbrev pub IsStartOf : ℕ → List Listed → ℕ → Type 0
-IsStartOf key listed at = IsPartitionPoint (λ (one : Listed). ltb (key_of one) key ≡ true) (λ (one : Listed). ltb (key_of one) key ≡ false) listed at
 
 pub inserted_in_order : (listed : List Listed) (at : ℕ) (one : Listed) → IsNonDecreasingBy key_of listed → at ≤ length listed → IsEndOf (key_of one) listed at
     → IsNonDecreasingBy key_of (insert listed at one)

@@ -17,7 +17,6 @@ use Rattle.gnap_tables.proofs.Lists.{HasItem, reverse-cons}
 use Rattle.grant_states.specs.declared.changes.Change.{Change}
 use Rattle.grant_states.specs.declared.changes.Change.TheVariants.{Terms, Approve, Decide, Wrong}
 use Rattle.grant_states.specs.declared.grant_table.GrantPlace.{GrantPlace}
-use Rattle.grant_states.specs.declared.grant_table.DoorPlace.{DoorPlace}
 use Rattle.grant_states.specs.declared.interactions.InteractionName.{InteractionName}
 use Rattle.grant_states.specs.declared.numbers_by_key.Listed.{Listed}
 use Rattle.grant_states.specs.Listed.{under, where_some}
@@ -61,7 +60,7 @@ pub named_set : (names : List Listed) (places : List GrantPlace) (at : ℕ) (new
     → AreHandlesListed names (set places at new)
 named_set names places at new all one = All-set (IsNamed names) places at new one all
 
-pub named_left : (names : List Listed) (places : List GrantPlace) (doors : List DoorPlace) (bound at number : ℕ) (old : GrantPlace)
+pub named_left : (names : List Listed) (places : List GrantPlace) (doors : List Listed) (bound at number : ℕ) (old : GrantPlace)
     → AreGrantPlaces places doors bound → at < length places → old ≡ get_or places at old → old.number ≡ number
     → AreHandlesListed names places → AreHandlesListed names (remove places at)
 named_left names places doors bound at number old are inside is mine all =
@@ -141,7 +140,7 @@ handle_current places p round pairs h e =
     (option_and_then (λ (q : GrantPlace). q.row.value.round) o)) (numbered_place places p pairs h)
     ∙ ap (where_some (λ (r : Round). handle_key r.handle == handle_key round.handle)) e ∙ eqb-self (handle_key round.handle)
 
-pub still_named : (slice places : List GrantPlace) (doors : List DoorPlace) (bound : ℕ) (names left : List Listed) → slice ≡ places
+pub still_named : (slice places : List GrantPlace) (doors : List Listed) (bound : ℕ) (names left : List Listed) → slice ≡ places
     → AreGrantPlaces places doors bound → AreHandlesListed names places
     → left ≡ filter (is_handle_listed slice) names → AreHandlesListed left places
 still_named slice places doors bound names left same are all handles = λ k d kn. one (get_or places k d) (item_in places k d kn)
@@ -333,7 +332,7 @@ handle_finds names listed places name handle key now all called is finds p h e =
     (item_all (IsNamed names) places p all h) in
     (under (handle_key r.0.handle) p.number, finds (under (handle_key r.0.handle) p.number) named (ap handle_key (called r.0 r.2) ∙ sym is), refl)
 
-pub interaction_latest : (slice places : List GrantPlace) (doors : List DoorPlace) (bound : ℕ) (rows : List GrantRow) (listed : List Listed)
+pub interaction_latest : (slice places : List GrantPlace) (doors : List Listed) (bound : ℕ) (rows : List GrantRow) (listed : List Listed)
     (name : InteractionName) (now : ℕ) (found : Option GrantRow)
     → slice ≡ places → map grant_in places ≡ rows → AreGrantPlaces places doors bound
     → ((p : GrantPlace) → HasItem places p → is_open_by name now p.row.value.round ≡ true → HasNumber listed p.number)

@@ -15,7 +15,6 @@ use Rattle.gnap_tables.specs.declared.rows.Round.{Round}
 use Rattle.gnap_tables.specs.RowSearches.{Interaction, interaction_by_code, interaction_where, is_open_round, round_of}
 use Rattle.gnap_model.specs.declared.notes.RoundNote.{RoundNote}
 use Rattle.gnap_tables.proofs.Lists.{HasItem}
-use Rattle.grant_states.specs.declared.grant_table.DoorPlace.{DoorPlace}
 use Rattle.grant_states.specs.declared.grant_table.GrantPlace.{GrantPlace}
 use Rattle.grant_states.specs.declared.numbers_by_key.Listed.{Listed}
 use Rattle.grant_states.specs.declared.open_codes.OpenCodes.{OpenCodes}
@@ -387,7 +386,7 @@ read_moved moment codes more places at old new again last after are inside is ke
     (subst (λ n. AreMoved codes more n (code_at moment new)) (ap (λ (p : GrantPlace). p.number) (read_after places at new last inside number))
     (subst (AreMoved codes more last.number) (coded ∙ ap (code_at moment) (read_after places at new again inside read)) moves))
 
-pub numbers_low : (places : List GrantPlace) (doors : List DoorPlace) (bound number : ℕ) (rows : List GrantRow) → map grant_in places ≡ rows
+pub numbers_low : (places : List GrantPlace) (doors : List Listed) (bound number : ℕ) (rows : List GrantRow) → map grant_in places ≡ rows
     → AreGrantPlaces places doors bound
     → All (λ (other : GrantRow). other.number < number) rows → (p : GrantPlace) → HasItem places p → p.number < number
 numbers_low places doors bound number rows view are low p h =

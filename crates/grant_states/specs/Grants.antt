@@ -14,7 +14,6 @@ use Rattle.gnap_tables.proofs.Lists.{HasItem}
 use Rattle.grant_states.specs.declared.changes.Change.{Change}
 use Rattle.grant_states.specs.declared.changes.Change.TheVariants.{Terms, Approve, Decide, Wrong}
 use Rattle.grant_states.specs.declared.grant_table.GrantPlace.{GrantPlace}
-use Rattle.grant_states.specs.declared.grant_table.DoorPlace.{DoorPlace}
 use Rattle.grant_states.specs.declared.interactions.InteractionName.{InteractionName}
 use Rattle.grant_states.specs.declared.numbers_by_key.Listed.{Listed}
 use Rattle.grant_states.specs.declared.open_codes.OpenCodes.{OpenCodes}
@@ -56,25 +55,22 @@ CanChange _ row = Unit {0}
 abbrev pub grant_in : GrantPlace → GrantRow
 grant_in place = place.row.value
 
-abbrev pub door_place : ℕ → ℕ → DoorPlace
-door_place serial grant = record { serial = serial; grant = grant }
-
 -- the number and the serial that stand beside a row are its own and its continuation value's, and the index has them
-pub record IsGrantPlace (doors : List DoorPlace) (place : GrantPlace) : Type 0 where
+pub record IsGrantPlace (doors : List Listed) (place : GrantPlace) : Type 0 where
   pub number : place.number ≡ place.row.value.number
   pub small : place.door_serial < 2 ^ 64
   pub door : BeginsWith place.door_serial place.row.value.door
-  pub listed : HasItem doors (door_place place.door_serial place.number)
+  pub listed : HasItem doors (under place.door_serial place.number)
 
-pub record AreGrantPlaces (places : List GrantPlace) (doors : List DoorPlace) (doors_below : ℕ) : Type 0 where
+pub record AreGrantPlaces (places : List GrantPlace) (doors : List Listed) (doors_below : ℕ) : Type 0 where
   pub ascending : AllPairs (λ (a b : GrantRow). a.number < b.number) (map grant_in places)
   pub each : All (IsGrantPlace doors) places
-  pub doors_ascend : AllPairs (λ (a b : DoorPlace). a.serial < b.serial) doors
-  pub doors_low : All (λ (door : DoorPlace). door.serial < doors_below) doors
+  pub doors_ascend : AllPairs (λ (a b : Listed). a.key < b.key) doors
+  pub doors_low : All (λ (door : Listed). door.key < doors_below) doors
 
 -- the place has this continuation value
-abbrev pub is_door_of : DoorPlace → GrantPlace → Bool
-is_door_of door place = (place.number == door.grant) && (place.door_serial == door.serial)
+abbrev pub is_door_of : Listed → GrantPlace → Bool
+is_door_of door place = (place.number == door.number) && (place.door_serial == door.key)
 
 -- the grant is listed under the handle of its round
 abbrev pub IsHandleListed : List Listed → ℕ → Round → Type 0
@@ -98,7 +94,7 @@ pub record AreCodesListed (moment : ℕ) (codes : OpenCodes) (places : List Gran
   pub listed : codes.complete ≡ true → (place : GrantPlace) → HasItem places place → IfSome (code_at moment place) (IsCodeListed codes place.number)
 
 -- the continuation value with this serial is that of a row
-abbrev pub is_current_door : List GrantPlace → DoorPlace → Bool
+abbrev pub is_current_door : List GrantPlace → Listed → Bool
 is_current_door places door = list_any (is_door_of door) places
 
 -- ---- how the names of rounds are looked up

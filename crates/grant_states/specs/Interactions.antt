@@ -2,7 +2,7 @@
 use Rattle.std.specs.Prelude.{ℕ, Bool, false, not, ◌&&◌, nat_lt, is_some}
 use Rattle.std.specs.declared.option.Option.{Option}
 use Rattle.std.specs.declared.option.Option.TheVariants.{None, Some}
-use Rattle.gnap_model.specs.Common.{Text, same_text, is_text}
+use Rattle.gnap_model.specs.Common.{same_text, is_text}
 use Rattle.gnap_model.specs.declared.notes.RoundNote.{RoundNote}
 use Rattle.gnap_tables.specs.declared.rows.Round.{Round}
 use Rattle.grant_states.specs.declared.interactions.InteractionName.{InteractionName}

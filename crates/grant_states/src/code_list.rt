@@ -6,19 +6,11 @@ ghost use Rattle.gnap_tables.proofs.Lists.{HasItem};
 ghost use Rattle.grant_states.specs.Listed.{under, where_some, Ascend};
 ghost use Rattle.grant_states.specs.declared.numbers_by_key.Listed.{Listed};
 
-use crate::numbers_by_key::Listed;
+use crate::numbers_by_key::{Listed, number_at};
 use bytes_and_lists::memory::Mem;
-use ordered_search::{Keyed, place_of};
+use ordered_search::place_of;
 use std::alloc::Global;
 use std::marker::Model;
-
-impl Keyed for Listed {
-    ghost key_of = { λ one. one.key };
-
-    fn key(&self) -> u64 {
-        self.key
-    }
-}
 
 /// The numbers of user codes in their order, each with the number of a grant. Contracts see the list.
 #[derive(Drop)]
@@ -38,16 +30,6 @@ impl Model for CodeList {
     ghost invariant = { λ s. Ascend s.listed.items };
 }
 
-// The code stands at a place.
-fn has_code(listed: &[Listed], at: usize, code: u64) -> bool
-    ensures { result ≡ where_some (λ (one : Listed). one.key == code) (slice_get listed.now at) }
-{
-    match listed.get(at) {
-        Some(one) => one.key == code,
-        None => false,
-    }
-}
-
 // The code stands at a place with this grant.
 fn has_grant(listed: &[Listed], at: usize, code: u64, number: u64) -> bool
     ensures { result ≡ where_some (λ (one : Listed). (one.key == code) && (one.number == number)) (slice_get listed.now at) }
@@ -55,22 +37,6 @@ fn has_grant(listed: &[Listed], at: usize, code: u64, number: u64) -> bool
     match listed.get(at) {
         Some(one) => one.key == code && one.number == number,
         None => false,
-    }
-}
-
-// The grant at a place, where this code stands there.
-fn number_at(listed: &[Listed], at: usize, code: u64) -> Option<u64>
-    ensures { (number : ℕ) → slice_get listed.now at ≡ Some (under code number) → result ≡ Some number }
-{
-    match listed.get(at) {
-        Some(one) => {
-            if one.key == code {
-                Some(one.number)
-            } else {
-                None
-            }
-        }
-        None => None,
     }
 }
 
@@ -86,7 +52,7 @@ fn run_length(items: &[Listed], key: u64) -> usize
     let mut end = items.len();
     while run < end {
         let middle = run + (end - run) / 2;
-        if has_code(items, middle, key + middle as u64) {
+        if number_at(items, middle, key + middle as u64).is_some() {
             run = middle + 1;
         } else {
             end = middle;
@@ -122,7 +88,7 @@ impl CodeList {
         ensures only { (one : Listed) → HasItem self.new one → HasItem self.old one ⊎ (one ≡ under code number) }
     {
         let at = place_of(self.listed.as_slice(), code);
-        if has_code(self.listed.as_slice(), at, code) {
+        if number_at(self.listed.as_slice(), at, code).is_some() {
             return false;
         }
         if self.listed.len() == self.listed.capacity() {

@@ -18,12 +18,11 @@ ghost use Rattle.grant_states.specs.OpenCodes.{open_code as code_while_open};
 ghost use Rattle.gnap_tables.proofs.Lists.{HasItem};
 ghost use Rattle.grant_states.specs.declared.numbers_by_key.Listed.{Listed};
 ghost use Rattle.grant_states.specs.declared.grant_table.GrantPlace.{GrantPlace};
-ghost use Rattle.grant_states.specs.declared.grant_table.DoorPlace.{DoorPlace};
 
 use crate::changes::{Change, apply};
 use crate::code_list::CodeList;
 use crate::interactions::{InteractionName, is_open};
-use crate::numbers_by_key::{Listed, NumbersByKey};
+use crate::numbers_by_key::{Listed, NumbersByKey, number_at};
 use crate::open_codes::{OpenCodes, open_code};
 use crate::serials::{handle_key, serial_in_value};
 use bytes_and_lists::memory::Mem;
@@ -49,26 +48,12 @@ impl Keyed for GrantPlace {
     }
 }
 
-/// A grant has, or had, a continuation value that begins with this serial.
-#[derive(Clone, Copy)]
-struct DoorPlace {
-    serial: u64,
-    grant: u64,
-}
-
-impl Keyed for DoorPlace {
-    ghost key_of = { λ door. door.serial };
-
-    fn key(&self) -> u64 {
-        self.serial
-    }
-}
-
 /// The rows of the grants that aren't finalized, in order of their numbers, with indexes of their continuation values and of the names of their rounds.
 #[derive(Drop)]
 pub struct GrantTable {
     places: Vec<GrantPlace>,
-    doors: Vec<DoorPlace>,
+    // The grants by the serials with which the continuation values begin that they have or had.
+    doors: Vec<Listed>,
     doors_below: u64,
     // The grants by the handles of the rounds that they have or had.
     handles: NumbersByKey,
@@ -110,29 +95,21 @@ fn numbered(places: &[GrantPlace], at: usize, number: u64) -> Option<&GrantRow>
     }
 }
 
-// The grant of the door at a place, where it has this serial.
-fn door_grant(doors: &[DoorPlace], at: usize, serial: u64) -> Option<u64>
-    ensures { result ≡ option_map (λ (door : DoorPlace). door.grant)
-        (option_and_then (λ (door : DoorPlace). some_if (door.serial == serial) door) (slice_get doors.now at)) }
+// The row, where it has this continuation value.
+fn with_door<'a>(row: Option<&'a GrantRow>, value: &[u8]) -> Option<&'a GrantRow>
+    ensures { option_map (λ row. row.now) result
+        ≡ option_and_then (λ (row : GrantRow). some_if (same_text row.door value.now) row) (option_map (λ row. row.now) row.entry) }
 {
-    match doors.get(at) {
-        Some(door) => {
-            if door.serial == serial {
-                Some(door.grant)
+    match row {
+        Some(row) => {
+            if row.door.as_slice() == value {
+                Some(row)
             } else {
                 None
             }
         }
         None => None,
     }
-}
-
-// The row, where it has this continuation value.
-fn with_door<'a>(row: Option<&'a GrantRow>, value: &[u8]) -> Option<&'a GrantRow>
-    ensures { option_map (λ row. row.now) result
-        ≡ option_and_then (λ (row : GrantRow). some_if (same_text row.door value.now) row) (option_map (λ row. row.now) row.entry) }
-{
-    row.filter(|row| row.door.as_slice() == value)
 }
 
 // The row, where it has an interaction of this name in which the user may still decide.
@@ -399,14 +376,14 @@ fn renew_place(place: &mut GrantPlace, number: u64, value: [u8; 32], serial: u64
 }
 
 // The place has this continuation value.
-fn has_door(place: &GrantPlace, door: &DoorPlace) -> bool
+fn has_door(place: &GrantPlace, door: &Listed) -> bool
     ensures { result ≡ is_door_of door.now place.now }
 {
-    place.number == door.grant && place.door_serial == door.serial
+    place.number == door.number && place.door_serial == door.key
 }
 
 // What stands at this place has this continuation value.
-fn has_door_at(places: &[GrantPlace], at: usize, door: &DoorPlace) -> bool
+fn has_door_at(places: &[GrantPlace], at: usize, door: &Listed) -> bool
     ensures { result ≡ where_some (is_door_of door.now) (slice_get places.now at) }
 {
     match places.get(at) {
@@ -416,16 +393,16 @@ fn has_door_at(places: &[GrantPlace], at: usize, door: &DoorPlace) -> bool
 }
 
 // The continuation value with this serial is that of a row.
-fn is_current(places: &[GrantPlace], door: &DoorPlace) -> bool
+fn is_current(places: &[GrantPlace], door: &Listed) -> bool
     requires { IsAscending (map (λ (place : GrantPlace). place.number) places.now) }
     ensures { result ≡ is_current_door places.now door.now }
 {
-    let at = place_of(places, door.grant);
+    let at = place_of(places, door.number);
     has_door_at(places, at, door)
 }
 
 // Leaves out the continuation values that rows had before.
-fn drop_stale(doors: &mut Vec<DoorPlace>, places: &[GrantPlace])
+fn drop_stale(doors: &mut Vec<Listed>, places: &[GrantPlace])
     requires { IsAscending (map (λ (place : GrantPlace). place.number) places.now) }
     ensures { doors.new.items ≡ filter (is_current_door places.now) doors.old.items }
 {
@@ -499,7 +476,7 @@ impl GrantTable {
             Some(serial) => {
                 let doors = self.doors.as_slice();
                 let at = place_of(doors, serial);
-                match door_grant(doors, at, serial) {
+                match number_at(doors, at, serial) {
                     Some(number) => with_door(self.by_number(number), value),
                     None => None,
                 }
@@ -622,9 +599,9 @@ impl GrantTable {
             door_serial: serial,
             row,
         };
-        let door = DoorPlace {
-            serial,
-            grant: number,
+        let door = Listed {
+            key: serial,
+            number,
         };
         self.doors.push_reserved(door);
         self.doors_below = serial + 1;
@@ -657,9 +634,9 @@ impl GrantTable {
         ensures spare { self.old.spare ≤ self.new.spare + 1 }
         ensures doors { self.new.doors_below ≡ serial + 1 }
     {
-        let door = DoorPlace {
-            serial,
-            grant: number,
+        let door = Listed {
+            key: serial,
+            number,
         };
         self.doors.push_reserved(door);
         self.doors_below = serial + 1;

@@ -1,13 +1,14 @@
 //! Numbers that are found by keys.
-ghost use Rattle.std.specs.Prelude.{◌≡◌, ◌+◌, ◌<◌, ◌≤◌, [], None, length, get_or, vec_len, vec_capacity, IfSome, OnOk};
+ghost use Rattle.std.specs.Prelude.{◌≡◌, ◌+◌, ◌<◌, ◌≤◌, [], None, length, slice_get, get_or, vec_len, vec_capacity, IfSome, OnOk};
 ghost use Rattle.std.specs.List.Sorted.{IsNonDecreasingBy};
 ghost use Rattle.std.specs.Fn.{CalledAt};
 ghost use Rattle.std.specs.List.Retain.{IsFiltered};
 ghost use Rattle.gnap_tables.proofs.Lists.{HasItem};
-ghost use Rattle.grant_states.specs.Listed.{under, key_of};
+ghost use Rattle.grant_states.specs.Listed.{under, key_of, number_where, IsStartOf, IsEndOf};
 ghost use Rattle.grant_states.specs.declared.numbers_by_key.Listed.{Listed};
 
 use bytes_and_lists::memory::Mem;
+use ordered_search::Keyed;
 use std::alloc::Global;
 use std::marker::Model;
 
@@ -18,6 +19,14 @@ pub struct Listed {
     pub key: u64,
     /// The number.
     pub number: u64,
+}
+
+impl Keyed for Listed {
+    ghost key_of = { λ one. one.key };
+
+    fn key(&self) -> u64 {
+        self.key
+    }
 }
 
 /// Numbers that are listed under keys, in order of the keys. A key may have several numbers.
@@ -38,13 +47,47 @@ impl Model for NumbersByKey {
     ghost invariant = { λ s. IsNonDecreasingBy key_of s.listed.items };
 }
 
+/// The number at a place, where it has this key.
+pub(crate) fn number_at(listed: &[Listed], at: usize, key: u64) -> Option<u64>
+    ensures { result ≡ number_where key (slice_get listed.now at) }
+{
+    match listed.get(at) {
+        Some(one) => {
+            if one.key == key {
+                Some(one.number)
+            } else {
+                None
+            }
+        }
+        None => None,
+    }
+}
+
+// How many numbers are listed under lower keys.
+fn start_of(listed: &[Listed], key: u64) -> usize
+    requires { IsNonDecreasingBy key_of listed.now }
+    ensures within { result ≤ length listed.now }
+    ensures start { IsStartOf key listed.now result }
+{
+    listed.partition_point(|one| one.key < key)
+}
+
+// How many are listed under lower keys or this one.
+fn end_of(listed: &[Listed], key: u64) -> usize
+    requires { IsNonDecreasingBy key_of listed.now }
+    ensures within { result ≤ length listed.now }
+    ensures end { IsEndOf key listed.now result }
+{
+    listed.partition_point(|one| one.key <= key)
+}
+
 // Where a number stands under a key.
 fn place_under(listed: &[Listed], key: u64, number: u64) -> Option<usize>
     requires { IsNonDecreasingBy key_of listed.now }
     ensures found { IfSome result (λ at. (at < length listed.now) × ((d : Listed) → get_or listed.now at d ≡ under key number)) }
     ensures missing { result ≡ None → HasItem listed.now (under key number) → ⊥ }
 {
-    let mut at = listed.partition_point(|one| one.key < key);
+    let mut at = start_of(listed, key);
     while at < listed.len() && listed[at].key == key {
         if listed[at].number == number {
             return Some(at);
@@ -64,7 +107,7 @@ fn take_run(listed: &mut Vec<Listed>, key: u64)
     ensures fewer { vec_len listed.new ≤ vec_len listed.old }
     ensures capacity { vec_capacity listed.new ≡ vec_capacity listed.old }
 {
-    let first = listed.as_slice().partition_point(|one| one.key < key);
+    let first = start_of(listed.as_slice(), key);
     while first < listed.len() && listed[first].key == key {
         let _gone = listed.remove(first);
     }
@@ -113,7 +156,7 @@ impl NumbersByKey {
         ensures kept { (one : Listed) → HasItem self.old.listed one → HasItem self.new.listed one }
         ensures spare { self.old.spare ≡ self.new.spare + 1 }
     {
-        let at = self.listed.as_slice().partition_point(|one| one.key <= key);
+        let at = end_of(self.listed.as_slice(), key);
         let Ok(()) = self.listed.insert(at, Listed { key, number }) else {
             unreachable!()
         };
@@ -146,9 +189,9 @@ impl NumbersByKey {
         ensures { (one : Listed) → HasItem self.now.listed one → one.key ≡ key → HasItem result.now one }
     {
         let listed = self.listed.as_slice();
-        let low = listed.partition_point(|one| one.key < key);
+        let low = start_of(listed, key);
         let from = &listed[low..];
-        let high = from.partition_point(|one| one.key <= key);
+        let high = end_of(from, key);
         &from[..high]
     }
 }

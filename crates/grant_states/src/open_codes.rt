@@ -120,27 +120,17 @@ impl OpenCodes {
         }
     }
 
-    // Takes a grant out from under a code. Takes no memory.
-    fn take_code(&mut self, number: u64, code: &[u8; 8])
-        ensures kept { (n other : ℕ) → HasCode self.old n other → (other ≡ number → ⊥) → HasCode self.new n other }
-        ensures only { (n other : ℕ) → HasCode self.new n other → HasCode self.old n other }
-        ensures gone { (n : ℕ) → HasCode self.new n number → number_of code.now ≡ Some n → ⊥ }
-        ensures complete { self.new.complete ≡ self.old.complete }
-    {
-        if let Some(listed) = code_number(code) {
-            self.take_number(number, listed);
-        }
-    }
-
-    // The same, where there is a code.
+    // Takes a grant out from under a code, where there is one. Takes no memory.
     fn take(&mut self, number: u64, code: &Option<[u8; 8]>)
         ensures kept { (n other : ℕ) → HasCode self.old n other → (other ≡ number → ⊥) → HasCode self.new n other }
         ensures only { (n other : ℕ) → HasCode self.new n other → HasCode self.old n other }
         ensures gone { (n : ℕ) → HasCode self.new n number → IsCodeIn n code.now → ⊥ }
         ensures complete { self.new.complete ≡ self.old.complete }
     {
-        if let Some(code) = code {
-            self.take_code(number, code);
+        if let Some(code) = code
+            && let Some(listed) = code_number(code)
+        {
+            self.take_number(number, listed);
         }
     }
 
@@ -159,27 +149,17 @@ impl OpenCodes {
         }
     }
 
-    // Lists a grant under a code, where that has a number and no other grant. Takes no memory.
-    fn put_code(&mut self, number: u64, code: &[u8; 8]) -> bool
-        ensures kept { (n other : ℕ) → HasCode self.old n other → HasCode self.new n other }
-        ensures only { (n other : ℕ) → HasCode self.new n other → HasCode self.old n other ⊎ ((other ≡ number) × (number_of code.now ≡ Some n)) }
-        ensures listed { result ≡ true → IsCodeListed self.new number code.now }
-        ensures complete { self.new.complete ≡ self.old.complete }
-    {
-        match code_number(code) {
-            Some(listed) => self.put_number(number, listed),
-            None => false,
-        }
-    }
-
-    // Lists a grant under a code, where there is one. Takes no memory.
+    // Lists a grant under a code, where there is one. It can't where the code has no number or another grant. Takes no memory.
     fn put(&mut self, number: u64, code: &Option<[u8; 8]>)
         ensures kept { (n other : ℕ) → HasCode self.old n other → HasCode self.new n other }
         ensures only { (n other : ℕ) → HasCode self.new n other → HasCode self.old n other ⊎ ((other ≡ number) × IsCodeIn n code.now) }
         ensures listed { self.new.complete ≡ true → (self.old.complete ≡ true) × IfSome code.now (IsCodeListed self.new number) }
     {
         if let Some(code) = code {
-            let listed = self.put_code(number, code);
+            let listed = match code_number(code) {
+                Some(listed) => self.put_number(number, listed),
+                None => false,
+            };
             self.complete = self.complete && listed;
         }
     }

@@ -1,5 +1,6 @@
-use Rattle.std.proofs.Common.{◌+◌, ◌-◌, ◌/◌, ℕ, arith}
-use Rattle.grant_states.proofs.CodeLists.{at_key, run_there}
+use Rattle.std.proofs.Common.{◌∙◌, ◌+◌, ◌-◌, ◌/◌, ℕ, Option, ap, arith, sym}
+use Rattle.std.specs.Prelude.{is_some, slice_get}
+use Rattle.grant_states.proofs.CodeLists.{at_key, number_there, run_there}
 use Rattle.grant_states.proofs.code_list.run_length.Goals as goal
 
 pub loop-run-init : goal.loop-run-init
@@ -9,10 +10,12 @@ loop-run-init c = record {
   there = λ k le lt. absurd (omega (arith, le, lt));
 }
 
-pub loop-run-preserved-then-has_code : goal.loop-run-preserved-then-has_code
-loop-run-preserved-then-has_code c =
+pub loop-run-preserved-then-is_some : goal.loop-run-preserved-then-is_some
+loop-run-preserved-then-is_some c =
     let middle : ℕ = c.loop-run.run + (c.loop-run.end - c.loop-run.run) / 2 in
-    let t = at_key c.args.items.now middle (c.args.key + middle) c.if-has_code.ensures in
+    let t = at_key c.args.items.now middle (c.args.key + middle)
+    (sym (sym c.is_some.ensures ∙ c.if-is_some.true) ∙ ap (λ (o : Option ℕ). is_some o) c.number_at.ensures
+    ∙ number_there (c.args.key + middle) (slice_get c.args.items.now middle)) in
     record {
       ordered = omega (arith, c.loop-run-test.true);
       within = c.loop-run.invariant.within;

@@ -1,20 +1,18 @@
-use Rattle.std.proofs.Common.{rules, of_calls, arith, ltb, ap, sym, subst, refl, ◌∙◌, ◌<◌, length, List}
+use Rattle.std.proofs.Common.{arith, ap, sym, subst, refl, ◌∙◌, ◌<◌, length, List}
 use Rattle.std.specs.List.Sorted.{IsNonDecreasingBy}
-use Rattle.std.proofs.lemmas.Fn.{always_returns_same}
-use Rattle.std.proofs.lemmas.List.Sorted.{IsPartitionedBy-ltb}
 use Rattle.gnap_tables.proofs.Lists.{HasItem}
 use Rattle.grant_states.specs.declared.numbers_by_key.Listed.{Listed}
-use Rattle.grant_states.specs.Listed.{key_of, under}
-use Rattle.grant_states.proofs.ListedNumbers.{IsStartOf, item_left_in, none_under, other_kept, start_stays, taken_in_order}
+use Rattle.grant_states.specs.Listed.{key_of, under, IsStartOf}
+use Rattle.grant_states.proofs.ListedNumbers.{item_left_in, none_under, other_kept, start_stays, taken_in_order}
 use Rattle.grant_states.proofs.numbers_by_key.take_run.Goals as goal
+
+pub start_of-first-requires : goal.start_of-first-requires
+start_of-first-requires c = subst (IsNonDecreasingBy key_of) (sym c.as_slice.ensures.value) c.requires
 
 pub loop-listed-init : goal.loop-listed-init
 loop-listed-init c = (
   c.requires,
-  subst (λ (os : List Listed). IsStartOf c.args.key os c.partition_point-first.result) c.as_slice.ensures.value
-      (c.partition_point-first.ensures.partitioned (λ (one : Listed). ltb (key_of one) c.args.key)
-      (always_returns_same _ _ _ (λ a r f k. search (rules, of_calls)))
-      (IsPartitionedBy-ltb key_of c.as_slice.result.now c.args.key (subst (IsNonDecreasingBy key_of) (sym c.as_slice.ensures.value) c.requires))),
+  subst (λ (os : List Listed). IsStartOf c.args.key os c.start_of-first.result) c.as_slice.ensures.value c.start_of-first.ensures.start,
   λ one h other. h,
   λ one h. h,
   omega arith,
@@ -24,7 +22,7 @@ loop-listed-init c = (
 pub loop-listed-preserved : goal.loop-listed-preserved
 loop-listed-preserved c =
     let items : List Listed = c.loop-listed.listed.items in
-    let first = c.partition_point-first.result in
+    let first = c.start_of-first.result in
     let inside : first < length items = omega (arith, c.loop-listed-test.true, c.len.ensures) in
     let left = c.remove-gone.ensures.items in (
       subst (IsNonDecreasingBy key_of) (sym left) (taken_in_order key_of items first c.loop-listed.invariant.0),
@@ -38,11 +36,11 @@ loop-listed-preserved c =
     )
 
 pub returns-else-index-key-clause-gone : goal.returns-else-index-key-clause-gone
-returns-else-index-key-clause-gone c = none_under c.loop-listed.listed.items c.partition_point-first.result c.args.key c.index.result.now
+returns-else-index-key-clause-gone c = none_under c.loop-listed.listed.items c.start_of-first.result c.args.key c.index.result.now
     c.loop-listed.invariant.0 c.loop-listed.invariant.1
     (λ inside is. c.if-index-key.false (ap key_of c.index.ensures ∙ is))
 
 pub returns-after-loop-listed-clause-gone : goal.returns-after-loop-listed-clause-gone
-returns-after-loop-listed-clause-gone c = none_under c.loop-listed.listed.items c.partition_point-first.result c.args.key (under 0 0) c.loop-listed.invariant.0
+returns-after-loop-listed-clause-gone c = none_under c.loop-listed.listed.items c.start_of-first.result c.args.key (under 0 0) c.loop-listed.invariant.0
     c.loop-listed.invariant.1
     (λ inside is. omega (arith, inside, c.loop-listed-test.false, c.len.ensures))

@@ -2,9 +2,8 @@ use Rattle.std.proofs.Common.{length, ◌-◌, ◌≡◌, ◌≤◌}
 use Rattle.std.specs.Prelude.{vec_len, vec_capacity}
 use Rattle.std.specs.List.Sorted.{IsNonDecreasingBy}
 use Rattle.gnap_tables.proofs.Lists.{HasItem}
-use Rattle.grant_states.specs.Listed.{key_of}
+use Rattle.grant_states.specs.Listed.{key_of, IsStartOf}
 use Rattle.grant_states.specs.declared.numbers_by_key.Listed.{Listed}
-use Rattle.grant_states.proofs.ListedNumbers.{IsStartOf}
 use Rattle.grant_states.proofs.numbers_by_key.take_run.Given as goal
 
 abbrev pub invariant-loop-listed : goal.invariant-loop-listed

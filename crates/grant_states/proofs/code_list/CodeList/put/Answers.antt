@@ -1,9 +1,10 @@
-use Rattle.std.proofs.Common.{List, subst, sym, arith, inl, inr}
+use Rattle.std.proofs.Common.{◌∙◌, ℕ, List, Option, ap, subst, sym, arith, inl, inr}
+use Rattle.std.specs.Prelude.{is_some, slice_get}
 use Rattle.gnap_tables.proofs.Lists.{HasItem}
 use Rattle.grant_states.specs.declared.numbers_by_key.Listed.{Listed}
 use Rattle.grant_states.specs.Listed.{Ascend, under}
 use Rattle.grant_states.proofs.ListedNumbers.{item_inserted, item_stays}
-use Rattle.grant_states.proofs.CodeLists.{codes_ascend, item_of_insert, place_within, put_ascend}
+use Rattle.grant_states.proofs.CodeLists.{codes_ascend, item_of_insert, number_there, place_within, put_ascend}
 use Rattle.grant_states.proofs.code_list.CodeList.put.Goals as goal
 
 pub place_of-at-requires : goal.place_of-at-requires
@@ -17,7 +18,9 @@ pub invariant_of-self-2 : goal.invariant_of-self-2
 invariant_of-self-2 c =
     subst Ascend (sym c.in-Ok.ensures.items)
     (put_ascend c.as_slice.result.now c.as_slice-2.result.now c.self.inside.listed.items c.place_of-at.result c.args.code c.args.number
-    c.as_slice.ensures.value c.as_slice-2.ensures.value c.self.invariant c.place_of-at.ensures c.if-has_code.ensures)
+    c.as_slice.ensures.value c.as_slice-2.ensures.value c.self.invariant c.place_of-at.ensures
+    (sym (sym c.is_some.ensures ∙ c.if-is_some.false) ∙ ap (λ (o : Option ℕ). is_some o) c.number_at.ensures
+    ∙ number_there c.args.code (slice_get c.as_slice-2.result.now c.place_of-at.result)))
 
 pub returns-clause-listed : goal.returns-clause-listed
 returns-clause-listed c = λ e. subst (λ (os : List Listed). HasItem os (under c.args.code c.args.number)) (sym c.in-Ok.ensures.items)

@@ -3,7 +3,6 @@ use Rattle.std.specs.List.{All}
 use Rattle.std.specs.Prelude.{IfSome}
 use Rattle.gnap_tables.specs.declared.rows.GrantRow.{GrantRow}
 use Rattle.grant_states.specs.declared.grant_table.GrantPlace.{GrantPlace}
-use Rattle.grant_states.specs.declared.grant_table.DoorPlace.{DoorPlace}
 use Rattle.grant_states.specs.declared.numbers_by_key.Listed.{Listed}
 use Rattle.grant_states.specs.OpenCodes.{open_code}
 use Rattle.grant_states.specs.Grants.{StoredGrants, AreCodesListed, AreGrantPlaces, AreHandlesListed, IsHandleListed, code_at}
@@ -45,7 +44,7 @@ invariant_of-self c =
       listed = c.change.ensures.listed;
     } in (
       subst (λ (ps : List GrantPlace). AreGrantPlaces ps c.push_reserved.new.self.items (c.args.serial + 1)) (sym c.push_reserved-2.ensures.items)
-          (subst (λ (ds : List DoorPlace). AreGrantPlaces (c.self.inside.places.items ++ new ∷ []) ds (c.args.serial + 1)) (sym c.push_reserved.ensures.items)
+          (subst (λ (ds : List Listed). AreGrantPlaces (c.self.inside.places.items ++ new ∷ []) ds (c.args.serial + 1)) (sym c.push_reserved.ensures.items)
           held.1),
       subst (AreHandlesListed handles) (sym c.push_reserved-2.ensures.items) named,
       subst (AreCodesListed c.self.inside.swept c.change.new.self) (sym c.push_reserved-2.ensures.items)

@@ -1,8 +1,9 @@
 use Rattle.std.proofs.Common.{ap, refl, sym, subst, ◌∙◌, ◌+◌, ◌<◌, ◌≤◌, ◌++◌, ◌∷◌, [], length, arith, List}
 use Rattle.std.proofs.Math.ListN.{set}
 use Rattle.gnap_tables.specs.Tables.{with_door}
-use Rattle.grant_states.specs.declared.grant_table.DoorPlace.{DoorPlace}
-use Rattle.grant_states.specs.Grants.{StoredGrants, IsGrantPlace, AreGrantPlaces, door_place}
+use Rattle.grant_states.specs.declared.numbers_by_key.Listed.{Listed}
+use Rattle.grant_states.specs.Listed.{under}
+use Rattle.grant_states.specs.Grants.{StoredGrants, IsGrantPlace, AreGrantPlaces}
 use Rattle.grant_states.proofs.NamedRounds.{named_after, named_set, IsNamed}
 use Rattle.grant_states.proofs.GrantLemmas.{ascending_places, door_keeps, renewed_one, listed_door, place_pairs, place_changed, places_changed, place_past}
 use Rattle.grant_states.proofs.OpenRounds.{code_left, stays_at}
@@ -30,7 +31,7 @@ invariant_of-self c =
     c.as_slice.ensures.value c.self.invariant.0 c.place_of-at.ensures (omega (arith, c.if-at-len.true, c.len.ensures)) c.index_mut.ensures.value
     c.renew_place.ensures.changes (door_keeps c.args.value c.args.earliest)
     listed.each one listed.doors_ascend listed.doors_low in (
-      subst (λ (ds : List DoorPlace). AreGrantPlaces (set c.self.inside.places.items c.place_of-at.result c.renew_place.new.place) ds (c.args.serial + 1))
+      subst (λ (ds : List Listed). AreGrantPlaces (set c.self.inside.places.items c.place_of-at.result c.renew_place.new.place) ds (c.args.serial + 1))
           (sym c.push_reserved.ensures.items) held,
       named_set c.self.inside.handles.listed c.self.inside.places.items c.place_of-at.result c.renew_place.new.place c.self.invariant.1
           (named_after c.self.inside.handles.listed c.args.number (with_door c.args.value c.args.earliest) c.index_mut.result.now c.renew_place.new.place
@@ -40,7 +41,7 @@ invariant_of-self c =
           (place_pairs c.self.inside.places.items c.self.inside.doors.items c.self.inside.doors_below c.self.invariant.0) inside c.index_mut.ensures.value
           c.renew_place.ensures.changes.number_kept
           (place_pairs (set c.self.inside.places.items c.place_of-at.result c.renew_place.new.place)
-          (c.self.inside.doors.items ++ door_place c.args.serial c.args.number ∷ []) (c.args.serial + 1) held)
+          (c.self.inside.doors.items ++ under c.args.serial c.args.number ∷ []) (c.args.serial + 1) held)
           (code_left c.self.inside.swept c.args.number (with_door c.args.value c.args.earliest) c.index_mut.result.now c.renew_place.new.place
           c.renew_place.ensures.changes (λ row. refl)),
     )
@@ -49,7 +50,7 @@ pub invariant_of-self-else-at-len : goal.invariant_of-self-else-at-len
 invariant_of-self-else-at-len c =
     let e = ap (λ (s : StoredGrants). s.doors_below) c.self.view_is in
     let low : c.self.inside.doors_below ≤ c.args.serial = omega (arith, e, c.requires.fresh) in (
-      subst (λ (ds : List DoorPlace). AreGrantPlaces c.self.inside.places.items ds (c.args.serial + 1)) (sym c.push_reserved.ensures.items)
+      subst (λ (ds : List Listed). AreGrantPlaces c.self.inside.places.items ds (c.args.serial + 1)) (sym c.push_reserved.ensures.items)
           (listed_door c.self.inside.places.items c.self.inside.doors.items c.self.inside.doors_below c.args.serial c.args.number c.self.invariant.0 low),
       c.self.invariant.1,
       c.self.invariant.2,

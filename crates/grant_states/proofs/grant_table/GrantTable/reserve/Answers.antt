@@ -2,7 +2,6 @@ use Rattle.std.proofs.Common.{ℕ, ◌≡◌, ◌∙◌, ◌/◌, ◌^◌, List,
 use Rattle.std.specs.Prelude.{IfSome}
 use Rattle.gnap_model.specs.Common.{Text}
 use Rattle.gnap_tables.proofs.Lists.{HasItem}
-use Rattle.grant_states.specs.declared.grant_table.DoorPlace.{DoorPlace}
 use Rattle.grant_states.specs.declared.grant_table.GrantPlace.{GrantPlace}
 use Rattle.grant_states.specs.declared.numbers_by_key.Listed.{Listed}
 use Rattle.grant_states.specs.declared.open_codes.OpenCodes.{OpenCodes}
@@ -12,7 +11,7 @@ use Rattle.grant_states.specs.Grants.{AreCodesListed, AreGrantPlaces, AreHandles
 use Rattle.grant_states.proofs.grant_table.GrantTable.reserve.Goals as goal
 
 -- the invariant holds of parts that are equal, each list of codes to that at its place
-held : (swept bound : ℕ) (places same_places : List GrantPlace) (doors same_doors : List DoorPlace) (names same_names : List Listed)
+held : (swept bound : ℕ) (places same_places : List GrantPlace) (doors same_doors : List Listed) (names same_names : List Listed)
     (codes same_codes : OpenCodes)
     → same_places ≡ places → same_doors ≡ doors → same_names ≡ names
     → ((i : ℕ) → get_or same_codes.lists.items i [] ≡ get_or codes.lists.items i []) → same_codes.complete ≡ codes.complete
@@ -20,7 +19,7 @@ held : (swept bound : ℕ) (places same_places : List GrantPlace) (doors same_do
     → AreGrantPlaces same_places same_doors bound × AreHandlesListed same_names same_places × AreCodesListed swept same_codes same_places
 held swept bound places same_places doors same_doors names same_names codes same_codes by_places by_doors by_names by_lists by_complete is =
     subst (λ (ps : List GrantPlace). AreGrantPlaces ps same_doors bound × AreHandlesListed same_names ps × AreCodesListed swept same_codes ps) (sym by_places) (
-      subst (λ (ds : List DoorPlace). AreGrantPlaces places ds bound) (sym by_doors) is.0,
+      subst (λ (ds : List Listed). AreGrantPlaces places ds bound) (sym by_doors) is.0,
       subst (λ (ns : List Listed). AreHandlesListed ns places) (sym by_names) is.1,
       record {
         open_under = λ code number h. is.2.open_under code number
