@@ -7,7 +7,9 @@ use Rattle.std.proofs.lemmas.List.Edits.{length-insert, get_or-insert_below, get
 use Rattle.std.proofs.lemmas.List.Kept.{AllPairs-cons}
 use Rattle.std.proofs.lemmas.List.Quantifiers.{all_pairs_remove}
 use Rattle.std.proofs.lemmas.Bool.{cases_lt, cases_eq, eqb-true}
-use Rattle.gnap_model.specs.Common.{some_if}
+use Rattle.std.specs.Option.{option_eq}
+use Rattle.std.proofs.lemmas.Slice.Eq.{bytes_eq-Decides}
+use Rattle.gnap_model.specs.Common.{same_text, some_if}
 use Rattle.gnap_tables.proofs.Lists.{HasItem}
 use Rattle.ordered_search.specs.Order.{IsAscending, IsPlaceOf}
 use Rattle.grant_states.specs.declared.numbers_by_key.Listed.{Listed}
@@ -19,6 +21,13 @@ use Rattle.grant_states.proofs.ListedNumbers.{picked_item}
 
 pub codes_ascend : (slice listed : List Listed) → slice ≡ listed → Ascend listed → IsAscending (map key_of slice)
 codes_ascend slice listed same ascend = subst (λ (os : List Listed). IsAscending (map key_of os)) (sym same) (ascending_keys key_of listed ascend)
+
+-- both are none, or the same code
+pub same_codes : (a b : Option (List ℕ)) → option_eq same_text a b ≡ true → a ≡ b
+same_codes None None e = refl
+same_codes None (Some b) e = cc e
+same_codes (Some a) None e = cc e
+same_codes (Some a) (Some b) e = ap (λ (text : List ℕ). Some text) ((bytes_eq-Decides a b).0 e)
 
 -- ---- the number at a place
 

@@ -3,7 +3,7 @@ use Rattle.std.proofs.Common.{ℕ, zero, suc, ◌≡◌, ◌⊎◌, ◌<◌, ◌
 use Rattle.std.specs.Prelude.{◌==◌, ◌&&◌, nat_lt, not, is_some, filter, if◌then◌else◌, option_map, IfSome}
 use Rattle.std.specs.Option.{option_and_then}
 use Rattle.std.specs.List.{All, AllPairs, remove}
-use Rattle.std.proofs.lemmas.List.{get_or_default, get_or-set_same}
+use Rattle.std.proofs.lemmas.List.{get_or_default}
 use Rattle.std.proofs.lemmas.Bool.{cases_eq, eqb-true}
 use Rattle.std.proofs.lemmas.Bool.Decides.{nat_tests}
 use Rattle.std.proofs.lemmas.Slice.Eq.{bytes_eq-Decides}
@@ -24,7 +24,7 @@ use Rattle.grant_states.specs.OpenCodes.{HasCode, IsCodeIn, IsCodeListed, open_c
 use Rattle.grant_states.specs.declared.interactions.InteractionName.{InteractionName}
 use Rattle.grant_states.specs.Interactions.{is_called, is_open_by}
 use Rattle.grant_states.specs.Grants.{AreCodesListed, AreGrantPlaces, Changes, IsGrantPlace, grant_in, IsOpenUnder, code_at, is_round_open, place_numbered}
-use Rattle.grant_states.proofs.Items.{found_in, item_all, item_append, item_filtered, item_in, item_left, item_mapped, item_of_filter, item_right, newest_some, same_place}
+use Rattle.grant_states.proofs.Items.{found_in, item_all, item_append, item_filtered, item_in, item_left, item_mapped, item_of_filter, item_right, newest_some}
 use Rattle.grant_states.proofs.Placed.{eqb-self, one_key}
 use Rattle.grant_states.proofs.Changed.{removed_at}
 use Rattle.grant_states.proofs.NamedRounds.{numbered_place}
@@ -350,41 +350,27 @@ code_taken moment now codes places rows code number are le view h = by (code_at 
 
 -- ---- what a call reads at the place that it changes
 
--- what is read at the place afterwards is the place as it was changed
-read_after : (places : List GrantPlace) (at : ℕ) (new again : GrantPlace) → at < length places → again ≡ get_or (set places at new) at again → again ≡ new
-read_after places at new again inside is = is ∙ get_or-set_same places at new again inside
+pub read_own : (moment : ℕ) (codes : OpenCodes) (places : List GrantPlace) (at number : ℕ) (old : GrantPlace) (before : Option Text)
+    → AreCodesListed moment codes places → NumbersAscend places → at < length places → old ≡ get_or places at old → number ≡ old.number
+    → before ≡ code_at moment old
+    → (code : ℕ) → HasCode codes code number → IsCodeIn code before
+read_own moment codes places at number old before are pairs inside is keeps coded code h =
+    subst (IsCodeIn code) (sym coded) (own_code moment codes places at old are pairs inside is code (subst (λ n. HasCode codes code n) keeps h))
 
-pub read_own : (moment : ℕ) (codes : OpenCodes) (places : List GrantPlace) (at : ℕ) (was old new again : GrantPlace) (before : Option Text)
-    → AreCodesListed moment codes places → NumbersAscend places → at < length places
-    → was ≡ get_or places at was → old ≡ get_or places at old → new.number ≡ old.number → again ≡ get_or (set places at new) at again
-    → before ≡ code_at moment was
-    → (code : ℕ) → HasCode codes code again.number → IsCodeIn code before
-read_own moment codes places at was old new again before are pairs inside read is keeps after coded code h =
-    let same : was ≡ old = same_place places at was old inside read is in
-    let number : again.number ≡ old.number = ap (λ (p : GrantPlace). p.number) (read_after places at new again inside after) ∙ keeps in
-    subst (IsCodeIn code) (sym (coded ∙ ap (code_at moment) same))
-    (own_code moment codes places at old are pairs inside is code (subst (λ n. HasCode codes code n) number h))
+pub read_listed : (moment : ℕ) (codes : OpenCodes) (places : List GrantPlace) (at number : ℕ) (old : GrantPlace) (before : Option Text)
+    → AreCodesListed moment codes places → at < length places → old ≡ get_or places at old → number ≡ old.number
+    → before ≡ code_at moment old
+    → codes.complete ≡ true → IfSome before (IsCodeListed codes number)
+read_listed moment codes places at number old before are inside is keeps coded all =
+    subst (λ (o : Option Text). IfSome o (IsCodeListed codes number)) (sym coded)
+    (subst (λ n. IfSome (code_at moment old) (IsCodeListed codes n)) (sym keeps) (own_listed moment codes places at old are inside is all))
 
-pub read_listed : (moment : ℕ) (codes : OpenCodes) (places : List GrantPlace) (at : ℕ) (was old new again : GrantPlace) (before : Option Text)
+pub read_moved : (moment : ℕ) (codes more : OpenCodes) (places : List GrantPlace) (at : ℕ) (old new : GrantPlace) (after : Option Text)
     → AreCodesListed moment codes places → at < length places
-    → was ≡ get_or places at was → old ≡ get_or places at old → new.number ≡ old.number → again ≡ get_or (set places at new) at again
-    → before ≡ code_at moment was
-    → codes.complete ≡ true → IfSome before (IsCodeListed codes again.number)
-read_listed moment codes places at was old new again before are inside read is keeps after coded all =
-    let same : was ≡ old = same_place places at was old inside read is in
-    let number : again.number ≡ old.number = ap (λ (p : GrantPlace). p.number) (read_after places at new again inside after) ∙ keeps in
-    subst (λ (o : Option Text). IfSome o (IsCodeListed codes again.number)) (sym (coded ∙ ap (code_at moment) same))
-    (subst (λ n. IfSome (code_at moment old) (IsCodeListed codes n)) (sym number) (own_listed moment codes places at old are inside is all))
-
-pub read_moved : (moment : ℕ) (codes more : OpenCodes) (places : List GrantPlace) (at : ℕ) (old new again last : GrantPlace) (after : Option Text)
-    → AreCodesListed moment codes places → at < length places
-    → old ≡ get_or places at old → new.number ≡ old.number → NumbersAscend (set places at new) → again ≡ get_or (set places at new) at again
-    → last ≡ get_or (set places at new) at last
-    → after ≡ code_at moment again → AreMoved codes more last.number after → AreCodesListed moment more (set places at new)
-read_moved moment codes more places at old new again last after are inside is keeps pairs read number coded moves =
-    moved_at moment codes more places at old new are inside is keeps pairs
-    (subst (λ n. AreMoved codes more n (code_at moment new)) (ap (λ (p : GrantPlace). p.number) (read_after places at new last inside number))
-    (subst (AreMoved codes more last.number) (coded ∙ ap (code_at moment) (read_after places at new again inside read)) moves))
+    → old ≡ get_or places at old → new.number ≡ old.number → NumbersAscend (set places at new)
+    → after ≡ code_at moment new → AreMoved codes more new.number after → AreCodesListed moment more (set places at new)
+read_moved moment codes more places at old new after are inside is keeps pairs coded moves =
+    moved_at moment codes more places at old new are inside is keeps pairs (subst (AreMoved codes more new.number) coded moves)
 
 pub numbers_low : (places : List GrantPlace) (doors : List Listed) (bound number : ℕ) (rows : List GrantRow) → map grant_in places ≡ rows
     → AreGrantPlaces places doors bound

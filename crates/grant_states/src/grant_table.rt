@@ -617,10 +617,11 @@ impl GrantTable {
     {
         let at = place_of(self.places.as_slice(), number);
         if at < self.places.len() {
-            let before = open_code_at(&self.places[at], self.swept);
-            change_place(&mut self.places[at], number, change);
-            let after = open_code_at(&self.places[at], self.swept);
-            self.codes.change(self.places[at].number, &before, &after);
+            let place = &mut self.places[at];
+            let before = open_code_at(place, self.swept);
+            change_place(place, number, change);
+            let after = open_code_at(place, self.swept);
+            self.codes.change(place.number, &before, &after);
         }
     }
 
@@ -655,10 +656,11 @@ impl GrantTable {
         self.handles.list(handle_key(&round.round().handle), number);
         let at = place_of(self.places.as_slice(), number);
         if at < self.places.len() {
-            let before = open_code_at(&self.places[at], self.swept);
-            pend_place(&mut self.places[at], number, round);
-            let after = open_code_at(&self.places[at], self.swept);
-            self.codes.change(self.places[at].number, &before, &after);
+            let place = &mut self.places[at];
+            let before = open_code_at(place, self.swept);
+            pend_place(place, number, round);
+            let after = open_code_at(place, self.swept);
+            self.codes.change(place.number, &before, &after);
         }
     }
 
@@ -670,9 +672,9 @@ impl GrantTable {
     {
         let at = place_of(self.places.as_slice(), number);
         if at < self.places.len() && self.places[at].number == number {
-            let before = open_code_at(&self.places[at], self.swept);
+            let gone = self.places.remove(at);
+            let before = open_code_at(&gone, self.swept);
             self.codes.change(number, &before, &None);
-            let _gone = self.places.remove(at);
         }
     }
 

@@ -46,17 +46,6 @@ pub(crate) fn open_code(round: &Option<KeptRound>, after: u64) -> Option<[u8; 8]
     }
 }
 
-// Both are none, or the same code.
-fn is_same_code(a: &Option<[u8; 8]>, b: &Option<[u8; 8]>) -> bool
-    ensures { result ≡ true → a.now ≡ b.now }
-{
-    match (a, b) {
-        (Some(a), Some(b)) => a == b,
-        (None, None) => true,
-        _ => false,
-    }
-}
-
 // Takes memory for so many more in each of the lists from this one on.
 fn reserve_lists(lists: &mut Vec<CodeList>, more: usize) -> Result<(), Mem>
     ensures { lists.new.items ≡ lists.old.items }
@@ -173,7 +162,7 @@ impl OpenCodes {
         ensures own { (n : ℕ) → HasCode self.new n number → IsCodeIn n after.now }
         ensures listed { self.new.complete ≡ true → (self.old.complete ≡ true) × IfSome after.now (IsCodeListed self.new number) }
     {
-        if is_same_code(before, after) {
+        if before == after {
             return;
         }
         self.take(number, before);

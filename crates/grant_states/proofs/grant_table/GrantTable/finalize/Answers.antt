@@ -19,8 +19,8 @@ place_of-at-requires c = ascending_places c.as_slice.result.now c.self.inside.pl
 pub change-requires-clause-own : goal.change-requires-clause-own
 change-requires-clause-own c =
     let inside : c.place_of-at.result < length c.self.inside.places.items = omega (arith, c.if-at-len.true, c.len.ensures) in
-    let same = same_place c.self.inside.places.items c.place_of-at.result c.index-then-index-number.result.now c.index.result.now inside
-    c.index-then-index-number.ensures c.index.ensures in
+    let same = same_place c.self.inside.places.items c.place_of-at.result c.remove-gone.result c.index.result.now inside
+    c.remove-gone.ensures.value c.index.ensures in
     λ n h. subst (IsCodeIn n) (sym (c.open_code_at-before.ensures ∙ ap (code_at c.self.inside.swept) same))
     (own_code c.self.inside.swept c.self.inside.codes c.self.inside.places.items c.place_of-at.result c.index.result.now c.self.invariant.2
     (place_pairs c.self.inside.places.items c.self.inside.doors.items c.self.inside.doors_below c.self.invariant.0) inside c.index.ensures n
@@ -29,8 +29,8 @@ change-requires-clause-own c =
 pub change-requires-clause-was : goal.change-requires-clause-was
 change-requires-clause-was c =
     let inside : c.place_of-at.result < length c.self.inside.places.items = omega (arith, c.if-at-len.true, c.len.ensures) in
-    let same = same_place c.self.inside.places.items c.place_of-at.result c.index-then-index-number.result.now c.index.result.now inside
-    c.index-then-index-number.ensures c.index.ensures in
+    let same = same_place c.self.inside.places.items c.place_of-at.result c.remove-gone.result c.index.result.now inside
+    c.remove-gone.ensures.value c.index.ensures in
     λ all. subst (λ (o : Option Text). IfSome o (IsCodeListed c.self.inside.codes c.args.number))
     (sym (c.open_code_at-before.ensures ∙ ap (code_at c.self.inside.swept) same))
     (subst (λ n. IfSome (code_at c.self.inside.swept c.index.result.now) (IsCodeListed c.self.inside.codes n)) c.if-index-number.true

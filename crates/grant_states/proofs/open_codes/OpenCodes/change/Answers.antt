@@ -2,15 +2,16 @@ use Rattle.std.proofs.Common.{◌∙◌, Option, sym, subst, inl, inr}
 use Rattle.std.specs.Prelude.{IfSome}
 use Rattle.gnap_model.specs.Common.{Text}
 use Rattle.grant_states.specs.OpenCodes.{IsCodeIn, IsCodeListed}
+use Rattle.grant_states.proofs.CodeLists.{same_codes}
 use Rattle.grant_states.proofs.open_codes.OpenCodes.change.Goals as goal
 
-pub returns-then-is_same_code-clause-own : goal.returns-then-is_same_code-clause-own
-returns-then-is_same_code-clause-own c = λ n h. subst (IsCodeIn n) (c.is_same_code.ensures c.if-is_same_code.true) (c.requires.own n h)
+pub returns-then-eq-clause-own : goal.returns-then-eq-clause-own
+returns-then-eq-clause-own c = λ n h. subst (IsCodeIn n) (same_codes c.args.before.now c.args.after.now (sym c.eq.ensures ∙ c.if-eq.true)) (c.requires.own n h)
 
-pub returns-then-is_same_code-clause-listed : goal.returns-then-is_same_code-clause-listed
-returns-then-is_same_code-clause-listed c = λ all. (
+pub returns-then-eq-clause-listed : goal.returns-then-eq-clause-listed
+returns-then-eq-clause-listed c = λ all. (
   all,
-  subst (λ (o : Option Text). IfSome o (IsCodeListed c.args.self.now c.args.number)) (c.is_same_code.ensures c.if-is_same_code.true)
+  subst (λ (o : Option Text). IfSome o (IsCodeListed c.args.self.now c.args.number)) (same_codes c.args.before.now c.args.after.now (sym c.eq.ensures ∙ c.if-eq.true))
       (c.requires.was all),
 )
 
