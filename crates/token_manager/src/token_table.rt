@@ -80,7 +80,16 @@ fn with_value<'a>(row: Option<&'a TokenRow>, value: &[u8]) -> Option<&'a TokenRo
     ensures { option_map (λ row. row.now) result
         ≡ option_and_then (λ (row : TokenRow). some_if (same_text row.value value.now) row) (option_map (λ row. row.now) row.entry) }
 {
-    row.filter(|row| row.value.as_slice() == value)
+    match row {
+        Some(row) => {
+            if row.value.as_slice() == value {
+                Some(row)
+            } else {
+                None
+            }
+        }
+        None => None,
+    }
 }
 
 // The row, where it has this management value.
@@ -88,7 +97,16 @@ fn with_manage<'a>(row: Option<&'a TokenRow>, value: &[u8]) -> Option<&'a TokenR
     ensures { option_map (λ row. row.now) result
         ≡ option_and_then (λ (row : TokenRow). some_if (same_text row.manage value.now) row) (option_map (λ row. row.now) row.entry) }
 {
-    row.filter(|row| row.manage.as_slice() == value)
+    match row {
+        Some(row) => {
+            if row.manage.as_slice() == value {
+                Some(row)
+            } else {
+                None
+            }
+        }
+        None => None,
+    }
 }
 
 // The row isn't retired, and its end is after this moment.
@@ -209,9 +227,8 @@ fn take_out(
 {
     let at = place_of(places.as_slice(), serial);
     if at < places.len() && places[at].serial == serial && places[at].grant == grant {
-        let one = one_lasting(&places[at], moment);
-        let _gone = places.remove(at);
-        lasting - one
+        let gone = places.remove(at);
+        lasting - one_lasting(&gone, moment)
     } else {
         lasting
     }
@@ -458,9 +475,10 @@ impl TokenTable {
     {
         let at = place_of(self.places.as_slice(), serial);
         if at < self.places.len() {
-            let before = one_lasting(&self.places[at], self.swept);
-            mark(&mut self.places[at], serial);
-            let after = one_lasting(&self.places[at], self.swept);
+            let place = &mut self.places[at];
+            let before = one_lasting(place, self.swept);
+            mark(place, serial);
+            let after = one_lasting(place, self.swept);
             self.lasting = self.lasting - before + after;
         }
     }
@@ -472,8 +490,8 @@ impl TokenTable {
     {
         let at = place_of(self.places.as_slice(), serial);
         if at < self.places.len() && self.places[at].serial == serial {
-            let one = one_lasting(&self.places[at], self.swept);
             let gone = self.places.remove(at);
+            let one = one_lasting(&gone, self.swept);
             self.serials.unlist(gone.grant, gone.serial);
             self.lasting -= one;
         }

@@ -23,7 +23,7 @@ invariant_of-self c =
           c.self.invariant.1 (omega (arith, c.if-at-len.true, c.len.ensures)) c.index.ensures c.if-index-serial.true)
           c.unlist.ensures.kept),
       (lasting_removed c.self.inside.places.items c.place_of-at.result c.self.inside.swept c.self.inside.lasting c.one_lasting-one.result
-          c.index-then-index-serial.result.now (omega (arith, c.if-at-len.true, c.len.ensures)) c.index-then-index-serial.ensures c.self.invariant.2
+          c.remove-gone.result (omega (arith, c.if-at-len.true, c.len.ensures)) c.remove-gone.ensures.value c.self.invariant.2
           c.one_lasting-one.ensures).1
           ∙ ap (count_by (is_lasting c.self.inside.swept)) (sym c.remove-gone.ensures.items),
     )
