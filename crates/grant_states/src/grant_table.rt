@@ -101,14 +101,8 @@ fn with_door<'a>(row: Option<&'a GrantRow>, value: &[u8]) -> Option<&'a GrantRow
         ≡ option_and_then (λ (row : GrantRow). some_if (same_text row.door value.now) row) (option_map (λ row. row.now) row.entry) }
 {
     match row {
-        Some(row) => {
-            if row.door.as_slice() == value {
-                Some(row)
-            } else {
-                None
-            }
-        }
-        None => None,
+        Some(row) if row.door.as_slice() == value => Some(row),
+        _ => None,
     }
 }
 
@@ -118,14 +112,8 @@ fn open_by<'a>(row: Option<&'a GrantRow>, now: u64, name: InteractionName) -> Op
         ≡ option_and_then (λ (row : GrantRow). some_if (is_open_by name.entry now row.round) row) (option_map (λ row. row.now) row.entry) }
 {
     match row {
-        Some(row) => {
-            if is_open(&row.round, now, name) {
-                Some(row)
-            } else {
-                None
-            }
-        }
-        None => None,
+        Some(row) if is_open(&row.round, now, name) => Some(row),
+        _ => None,
     }
 }
 
@@ -184,12 +172,12 @@ fn last_open<'a>(
 fn round_of(row: Option<&GrantRow>) -> Option<&Round>
     ensures { option_map (λ round. round.now) result ≡ option_and_then (λ (row : GrantRow). row.round) (option_map (λ row. row.now) row.entry) }
 {
-    match row {
-        Some(row) => match &row.round {
-            Some(kept) => Some(kept.round()),
-            None => None,
-        },
-        None => None,
+    if let Some(row) = row
+        && let Some(kept) = &row.round
+    {
+        Some(kept.round())
+    } else {
+        None
     }
 }
 

@@ -81,14 +81,8 @@ fn with_value<'a>(row: Option<&'a TokenRow>, value: &[u8]) -> Option<&'a TokenRo
         ≡ option_and_then (λ (row : TokenRow). some_if (same_text row.value value.now) row) (option_map (λ row. row.now) row.entry) }
 {
     match row {
-        Some(row) => {
-            if row.value.as_slice() == value {
-                Some(row)
-            } else {
-                None
-            }
-        }
-        None => None,
+        Some(row) if row.value.as_slice() == value => Some(row),
+        _ => None,
     }
 }
 
@@ -98,14 +92,8 @@ fn with_manage<'a>(row: Option<&'a TokenRow>, value: &[u8]) -> Option<&'a TokenR
         ≡ option_and_then (λ (row : TokenRow). some_if (same_text row.manage value.now) row) (option_map (λ row. row.now) row.entry) }
 {
     match row {
-        Some(row) => {
-            if row.manage.as_slice() == value {
-                Some(row)
-            } else {
-                None
-            }
-        }
-        None => None,
+        Some(row) if row.manage.as_slice() == value => Some(row),
+        _ => None,
     }
 }
 
