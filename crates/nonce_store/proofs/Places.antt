@@ -1,5 +1,5 @@
 -- Texts that lie one behind the other: what stands at a place stays there when more texts follow.
-use Rattle.std.proofs.Common.{◌≡◌, ◌∙◌, ℕ, ◌-◌, ◌≤◌, Bool, true, false, true≢false, ◌&&◌, ◌||◌, if◌then◌else◌, Result, Ok, Err, is_ok, List, [], ◌∷◌, ◌++◌, length, take, drop, refl, ap, sym, arith, length-append, length-drop}
+use Rattle.std.proofs.Common.{◌≡◌, ◌∙◌, ℕ, ◌-◌, ◌≤◌, Bool, true, false, true≢false, ◌&&◌, ◌||◌, List, [], ◌∷◌, ◌++◌, length, take, drop, refl, ap, sym, arith, length-append, length-drop}
 use Rattle.std.specs.List.{list_any, list_all, slice_range}
 use Rattle.std.specs.Cmp.Derive.{both_true}
 use Rattle.std.proofs.lemmas.Bool.{le-leb, leb-true}
@@ -138,23 +138,18 @@ next_within texts key nonce place next =
 
 -- ---- what a push leaves
 
--- the places with one more, or as they were
-pub pushed_within : {A E : Type 0} (r : Result A E) (texts new key nonce : List ℕ) (places after : List Place) (place : Place)
-    → after ≡ (if is_ok r then places ++ place ∷ [] else places)
+-- the places with one more
+pub pushed_within : (texts new key nonce : List ℕ) (places after : List Place) (place : Place) → after ≡ places ++ place ∷ []
     → list_all (is_within (length texts)) places ≡ true → new ≡ texts ++ (key ++ nonce)
     → IsNext (length texts) (length key) (length nonce) place
     → list_all (is_within (length new)) after ≡ true
-pushed_within {A} {E} r texts new key nonce places after place pushed is more next =
+pushed_within texts new key nonce places after place pushed is more next =
     ap (λ (t : List ℕ). list_all (is_within (length t)) after) more
     ∙ ap (λ (ps : List Place). list_all (is_within (length (texts ++ (key ++ nonce)))) ps) pushed
-    ∙ by r
+    ∙ one_more_within (length texts) (length (texts ++ (key ++ nonce))) places place le is (next_within texts key nonce place next)
   where
     le : length texts ≤ length (texts ++ (key ++ nonce))
     le = omega (arith, length-append {A = ℕ})
-
-    by : (r : Result A E) → list_all (is_within (length (texts ++ (key ++ nonce)))) (if is_ok r then places ++ place ∷ [] else places) ≡ true
-    by (Ok x) = one_more_within (length texts) (length (texts ++ (key ++ nonce))) places place le is (next_within texts key nonce place next)
-    by (Err e) = all_within (length texts) (length (texts ++ (key ++ nonce))) places le is
 
 -- the same places, where more texts follow
 pub kept_within : (few many : ℕ) (places after : List Place) → after ≡ places → few ≤ many → list_all (is_within few) places ≡ true

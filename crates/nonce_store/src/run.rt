@@ -1,5 +1,5 @@
 //! The nonces of one second, packed: at full load there are a thousand, and each stands in the trees besides.
-ghost use Rattle.std.specs.Prelude.{◌≡◌, ◌++◌, ◌||◌, ◌&&◌, ◌+◌, ◌≤◌, ℕ, List, OnOk, OnErr, IfOk, true, false, length, take};
+ghost use Rattle.std.specs.Prelude.{◌≡◌, ◌++◌, ◌||◌, ◌&&◌, ◌+◌, ◌≤◌, ℕ, List, OnOk, OnErr, IfOk, true, false, length, take, vec_len, vec_capacity};
 ghost use Rattle.std.specs.List.{list_all, slice_range};
 ghost use Rattle.gnap_model.specs.Common.{same_text};
 ghost use Rattle.nonce_store.specs.Places.{is_within, IsNext};
@@ -25,7 +25,8 @@ pub struct Run {
 
 // Room for so many more, and for an eighth of what there is at least: a `Vec` that grows by itself takes twice as much.
 fn make_room<T: Drop>(items: &mut Vec<T>, more: usize) -> Result<(), Mem>
-    ensures { items.new.items ≡ items.old.items }
+    ensures items { items.new.items ≡ items.old.items }
+    ensures room { OnOk result (vec_len items.new + more ≤ vec_capacity items.new) }
 {
     if items.capacity() - items.len() < more {
         items.reserve_exact(more.max(items.len() / 8))?;
@@ -37,16 +38,16 @@ fn make_room<T: Drop>(items: &mut Vec<T>, more: usize) -> Result<(), Mem>
 fn next_place(start: usize, key: usize, nonce: usize) -> Result<Place, Mem>
     ensures { IfOk result (λ place. IsNext start key nonce place) }
 {
-    let middle = start.checked_add(key).ok_or(Mem)?;
-    let end = middle.checked_add(nonce).ok_or(Mem)?;
-    match u32::try_from(end) {
-        Ok(end) => Ok(Place {
-            start: start as u32,
-            middle: middle as u32,
-            end,
-        }),
-        Err(_) => Err(Mem),
+    let middle = start.saturating_add(key);
+    let end = middle.saturating_add(nonce);
+    if end > u32::MAX as usize {
+        return Err(Mem);
     }
+    Ok(Place {
+        start: start as u32,
+        middle: middle as u32,
+        end: end as u32,
+    })
 }
 
 // Puts a key and a nonce behind the texts. An `Err` may leave a part of them there.
@@ -82,7 +83,7 @@ impl Run {
         let place = next_place(self.texts.as_slice().len(), key.len(), nonce.len())?;
         make_room(&mut self.places, 1)?;
         append(&mut self.texts, key, nonce)?;
-        self.places.push(place)?;
+        self.places.push_reserved(place);
         Ok(())
     }
 

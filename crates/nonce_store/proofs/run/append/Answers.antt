@@ -10,12 +10,12 @@ stays_in_front old more new is =
 pub returns-in_err-extend_from_slice-2-clause-stays : goal.returns-in_err-extend_from_slice-2-clause-stays
 returns-in_err-extend_from_slice-2-clause-stays c = stays_in_front c.args.texts.now.items c.args.key.now c.extend_from_slice-2.new.self.items
     (c.in_err-extend_from_slice-2.ensures.items ∙ c.in_ok-extend_from_slice.ensures.items
-    ∙ ap (λ (l : List ℕ). l ++ c.args.key.now) c.in_ok-make_room.ensures)
+    ∙ ap (λ (l : List ℕ). l ++ c.args.key.now) c.in_ok-make_room.ensures.items)
 
 pub returns-in_err-extend_from_slice-2-clause-longer : goal.returns-in_err-extend_from_slice-2-clause-longer
 returns-in_err-extend_from_slice-2-clause-longer c =
     let is = ap (length {A = ℕ}) (c.in_err-extend_from_slice-2.ensures.items ∙ c.in_ok-extend_from_slice.ensures.items
-    ∙ ap (λ (l : List ℕ). l ++ c.args.key.now) c.in_ok-make_room.ensures) in
+    ∙ ap (λ (l : List ℕ). l ++ c.args.key.now) c.in_ok-make_room.ensures.items) in
     let both = length-append c.args.texts.now.items c.args.key.now in omega (arith, is, both)
 
 whole : (old key nonce made one two : List ℕ) → made ≡ old → one ≡ made ++ key → two ≡ one ++ nonce → two ≡ old ++ (key ++ nonce)
@@ -25,8 +25,8 @@ whole old key nonce made one two made_is one_is two_is =
 pub returns-clause-stays : goal.returns-clause-stays
 returns-clause-stays c = stays_in_front c.args.texts.now.items (c.args.key.now ++ c.args.nonce.now) c.extend_from_slice-2.new.self.items
     (whole c.args.texts.now.items c.args.key.now c.args.nonce.now c.make_room.new.items.items c.extend_from_slice.new.self.items
-    c.extend_from_slice-2.new.self.items c.in_ok-make_room.ensures c.in_ok-extend_from_slice.ensures.items c.in_ok-extend_from_slice-2.ensures.items)
+    c.extend_from_slice-2.new.self.items c.in_ok-make_room.ensures.items c.in_ok-extend_from_slice.ensures.items c.in_ok-extend_from_slice-2.ensures.items)
 
 pub returns-clause-ok : goal.returns-clause-ok
 returns-clause-ok c = whole c.args.texts.now.items c.args.key.now c.args.nonce.now c.make_room.new.items.items c.extend_from_slice.new.self.items
-    c.extend_from_slice-2.new.self.items c.in_ok-make_room.ensures c.in_ok-extend_from_slice.ensures.items c.in_ok-extend_from_slice-2.ensures.items
+    c.extend_from_slice-2.new.self.items c.in_ok-make_room.ensures.items c.in_ok-extend_from_slice.ensures.items c.in_ok-extend_from_slice-2.ensures.items
