@@ -4,6 +4,7 @@ pub mod Kept
 pub mod Lengths
 pub mod MaskedChoices
 pub mod Numbers
+pub mod OneMore
 pub mod Others
 pub mod Whole
 pub mod Written
