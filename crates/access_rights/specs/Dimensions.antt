@@ -1,10 +1,11 @@
 -- The dimensions of a right in full, read together.
-use Rattle.std.specs.Prelude.{ℕ, ◌≤◌, ◌*◌, List, Option, Result, Ok, codes}
+use Rattle.std.specs.Prelude.{ℕ, ◌≤◌, ◌*◌, List, Option, Result, Ok, Err, nat_lt, if◌then◌else◌, codes}
 use Rattle.serde_json.specs.Data.{Data}
 use Rattle.json_objects.specs.Reading.{◌>>=◌}
 use Rattle.gnap_model.specs.declared.rights.RightObject.{RightObject}
 use Rattle.access_rights.specs.declared.reading.Dimensions.{Dimensions}
 use Rattle.access_rights.specs.declared.reading.RightsFault.{RightsFault}
+use Rattle.access_rights.specs.declared.reading.RightsFault.TheVariants as faults
 use Rattle.access_rights.specs.Fits.{AreUtf8}
 use Rattle.access_rights.specs.Reading.{dimension_of, extent}
 
@@ -19,6 +20,10 @@ dimensions_of d = do
 -- how many choices of an action, a location, a datatype and a privilege there are
 abbrev pub choice_count : Dimensions → ℕ
 choice_count s = extent s.actions * extent s.locations * extent s.datatypes * extent s.privileges
+
+-- what a right with these dimensions has, where it has at most 1,024 atoms
+abbrev pub few_choices : {A : Type 0} → Dimensions → A → Result A RightsFault
+few_choices s x = if nat_lt 1024 (choice_count s) then Err faults.TooMany else Ok x
 
 -- the right in full with these dimensions
 abbrev pub right_with : List ℕ → Dimensions → Option (List ℕ) → List ℕ → RightObject

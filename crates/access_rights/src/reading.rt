@@ -8,8 +8,8 @@ ghost use Rattle.json_objects.specs.Reading.{Gives, each};
 ghost use Rattle.json_objects.specs.Texts.{IsUtf8Or, AreUtf8};
 ghost use Rattle.access_rights.specs.declared.reading.RightsFault.TheVariants.{OutOfMemory};
 ghost use Rattle.access_rights.specs.Fits.{IsFurther, FitsObject, Fits};
-ghost use Rattle.access_rights.specs.Reading.{any_text, sized, type_of, dimension_of, identifier_of, further_of, extent, few_atoms, right_object_of, right_of, rights_of};
-ghost use Rattle.access_rights.specs.Dimensions.{dimensions_of, choice_count, right_with, AreFew, DimensionsFit};
+ghost use Rattle.access_rights.specs.Reading.{any_text, sized, type_of, dimension_of, identifier_of, further_of, extent, right_object_of, right_of, rights_of};
+ghost use Rattle.access_rights.specs.Dimensions.{dimensions_of, choice_count, few_choices, right_with, AreFew, DimensionsFit};
 
 use crate::further::further_of;
 use bytes_and_lists::bytes::Bytes;
@@ -181,26 +181,21 @@ fn right_with(
     }
 }
 
-// The right in full of these parts and of the further members, where it has at most 1,024 atoms.
-fn counted_right(
+// The further members of a right with these dimensions, where it has at most 1,024 atoms.
+fn counted_further(
     alloc: Global,
-    kind: Bytes,
-    dimensions: Dimensions,
-    identifier: Option<Bytes>,
+    dimensions: &Dimensions,
     members: &Map<String, Value>,
-) -> Result<RightObject, RightsFault>
-    requires few { AreFew dimensions }
+) -> Result<Bytes, RightsFault>
+    requires few { AreFew dimensions.now }
     requires body { IsBody (object (members_view members.now.entries)) }
-    ensures value { Gives OutOfMemory (λ r. r) result
-        (few_atoms (right_with kind dimensions identifier (further_of (members_view members.now.entries)))) }
-    ensures parts { IfOk result (λ r. r ≡ right_with kind dimensions identifier r.further) }
-    ensures further { IfOk result (λ r. IsFurther r.further) }
+    ensures value { Gives OutOfMemory (λ b. b) result (few_choices dimensions.now (further_of (members_view members.now.entries))) }
+    ensures further { IfOk result IsFurther }
 {
-    if 1024 < choice_count(&dimensions) {
+    if 1024 < choice_count(dimensions) {
         return Err(RightsFault::TooMany);
     }
-    let further = further_of(alloc, members)?;
-    Ok(right_with(kind, dimensions, identifier, further))
+    Ok(further_of(alloc, members)?)
 }
 
 #[tactic(auto, unfolding(crate::specs::Reading::right_object_of), using(crate::proofs::Dimensions::dimensions_then))]
@@ -216,7 +211,8 @@ fn right_object_of(
     let kind = type_of(alloc, right)?;
     let dimensions = dimensions_of(alloc, right)?;
     let identifier = identifier_of(alloc, right)?;
-    counted_right(alloc, kind, dimensions, identifier, members)
+    let further = counted_further(alloc, &dimensions, members)?;
+    Ok(right_with(kind, dimensions, identifier, further))
 }
 
 #[tactic(auto, unfolding(crate::specs::Reading::right_of))]
