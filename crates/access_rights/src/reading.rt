@@ -21,7 +21,7 @@ use std::alloc::Global;
 use thiserror::Error;
 
 /// Why a JSON value isn't an array of rights.
-#[derive(Clone, Copy, Debug, PartialEq, Eq, Error)]
+#[derive(Clone, Copy, Debug, Error)]
 pub enum RightsFault {
     /// Another JSON type, an empty text or array, or a right in full without a type.
     #[error("the rights aren't of their form")]
