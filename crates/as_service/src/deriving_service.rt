@@ -5,8 +5,9 @@ ghost use Rattle.derivation_requests.specs.Pairs.{ArePairs};
 ghost use Rattle.serving.specs.ServiceEnds.{HaveServedJust};
 ghost use Rattle.as_service.specs.DerivedServices.{IsDerivingService};
 
-use crate::service::edge_and_core;
+use as_requests::Edge;
 use bytes_and_lists::bytes::Bytes;
+use bytes_and_lists::memory::Duplicate;
 use derivation_requests::Pairs;
 use derived_tokens::DerivingServer;
 use derived_tokens::laws::ends_with_its_term;
@@ -17,6 +18,7 @@ use serving::service::serve_front_at;
 use std::alloc::Global;
 use std::sync::Wait;
 use std::thread::Threads;
+use table_core::TableCore;
 
 /// Serves the authorization server of a setup, to which these pairs of it are known, at an address of the world, by 1 to 64 workers on threads of their own,
 /// each
@@ -42,10 +44,14 @@ pub fn serve_deriving_at<R: Threads + Wait + Sync, W: World>(
     ensures served { IsDerivingService pairs setup address.now workers quota (W.state world.old) (W.state world.new) result }
     ensures quota { W.gives_quota ≡ true → IfOk result (λ _. HaveServedJust quota (W.state world.new).gears) }
 {
-    let Ok((edge, core)) = edge_and_core(alloc, setup) else {
+    let Ok(rules) = setup.copy() else {
+        return Err(WorldFault::OutOfMemory);
+    };
+    let Ok(edge) = Edge::new(alloc, setup) else {
         return Err(WorldFault::OutOfMemory);
     };
     let server = DerivingServer::new(edge, pairs);
+    let core = TableCore::new(alloc, rules);
     what_holds();
     ends_with_its_term();
     serve_front_at(rt, alloc, world, core, &server, address, workers, quota)

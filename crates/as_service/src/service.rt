@@ -1,5 +1,5 @@
 //! Serving at an address.
-ghost use Rattle.std.specs.Prelude.{◌≡◌, ◌≤◌, [], true, IfOk};
+ghost use Rattle.std.specs.Prelude.{◌≡◌, ◌≤◌, true, IfOk};
 ghost use Rattle.gnap_objects.specs.Setups.{IsSetup};
 ghost use Rattle.serving.specs.ServiceEnds.{HaveServedJust};
 ghost use Rattle.as_service.specs.Services.{IsService};
@@ -7,10 +7,9 @@ ghost use Rattle.as_service.specs.Services.{IsService};
 use as_edge::AuthorizationServer;
 use as_requests::Edge;
 use bytes_and_lists::bytes::Bytes;
-use bytes_and_lists::memory::{Duplicate, Mem};
+use bytes_and_lists::memory::Duplicate;
 use gnap_model::objects::Setup;
 use grant_machine::laws::what_holds;
-use histories::machine::Core;
 use http_serving::HttpReader;
 use outside::world::{World, WorldFault};
 use serving::server_front::ServerFront;
@@ -19,20 +18,6 @@ use std::alloc::Global;
 use std::sync::Wait;
 use std::thread::Threads;
 use table_core::TableCore;
-
-/// The setup with what its requests are verified by, and the core of its machine, to which nothing was entered.
-pub(crate) fn edge_and_core(alloc: Global, setup: Setup) -> Result<(Edge, TableCore), Mem>
-    requires { IsSetup setup }
-    ensures edge { IfOk result (λ both. both.0 ≡ setup) }
-    ensures rules { IfOk result (λ both. ⟦<TableCore as Core>⟧.rules both.1 ≡ setup) }
-    ensures empty { IfOk result (λ both. ⟦<TableCore as Core>⟧.stands both.1 []) }
-{
-    let rules = setup.copy()?;
-    match Edge::new(alloc, setup) {
-        Ok(edge) => Ok((edge, TableCore::new(alloc, rules))),
-        Err((_, Mem)) => Err(Mem),
-    }
-}
 
 /// Serves the authorization server of a setup at an address of the world, by 1 to 64 workers on threads of their own, each for at most `quota` connections,
 /// and gives the workers' gears back to the world.
@@ -55,13 +40,17 @@ pub fn serve_at<R: Threads + Wait + Sync, W: World>(
     ensures served { IsService setup address.now workers quota (W.state world.old) (W.state world.new) result }
     ensures quota { W.gives_quota ≡ true → IfOk result (λ _. HaveServedJust quota (W.state world.new).gears) }
 {
-    let Ok((edge, core)) = edge_and_core(alloc, setup) else {
+    let Ok(rules) = setup.copy() else {
+        return Err(WorldFault::OutOfMemory);
+    };
+    let Ok(edge) = Edge::new(alloc, setup) else {
         return Err(WorldFault::OutOfMemory);
     };
     let front = ServerFront {
         reader: HttpReader,
         server: AuthorizationServer { edge },
     };
+    let core = TableCore::new(alloc, rules);
     what_holds();
     serve_front_at(rt, alloc, world, core, &front, address, workers, quota)
 }

@@ -44,9 +44,7 @@ fn replay_after<S: Source, O: Sink>(
         return Ended::Memory;
     };
     let mut desk = table_desk(alloc, rules);
-    let ended = replay_lines(alloc, &setup, &mut desk, reader, source, out);
-    drop(desk);
-    ended
+    replay_lines(alloc, &setup, &mut desk, reader, source, out)
 }
 
 // A setup without further lines.

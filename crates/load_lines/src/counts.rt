@@ -16,15 +16,16 @@ use table_core::TableCore;
 fn load_line(alloc: Global, grants: u32, tally: &Tally) -> Result<Bytes, Mem>
     ensures { IfOk result (λ line. line ≡ load_line grants tally.now) }
 {
-    let Tally {
-        active,
-        inactive,
-        done,
-    } = *tally;
-    let line = format!(in alloc;
-        "grants {grants} active {active} inactive {inactive} cancelled {done}\n"
-    )?;
-    Ok(Bytes::from_vec(line.into_bytes()))
+    let mut line = Bytes::from_slice(alloc, b"grants ")?;
+    line.extend(itoa::Buffer::new().format(grants).as_bytes())?;
+    line.extend(b" active ")?;
+    line.extend(itoa::Buffer::new().format(tally.active).as_bytes())?;
+    line.extend(b" inactive ")?;
+    line.extend(itoa::Buffer::new().format(tally.inactive).as_bytes())?;
+    line.extend(b" cancelled ")?;
+    line.extend(itoa::Buffer::new().format(tally.done).as_bytes())?;
+    line.push(b'\n')?;
+    Ok(line)
 }
 
 // Puts a load on tables, with the words under a number, and says what was counted.
