@@ -5,7 +5,7 @@ ghost use Rattle.desk_load.specs.Tallies.{none_counted, counted_in, tally_of_rep
 use gnap_model::calls::Reply;
 
 /// How many replies said that a token is active, that there is no such token, and that a grant was ended.
-#[derive(Clone, Copy, Debug, PartialEq, Eq)]
+#[derive(Clone, Copy)]
 pub struct Tally {
     pub active: u64,
     pub inactive: u64,
