@@ -2,7 +2,7 @@
 ghost use Rattle.std.specs.Prelude.{◌≡◌, option_map, codes, IfOk};
 ghost use Rattle.desk_load.specs.LoadCalls.{photos_request, token_in, value_of, manage_of, door_in, opening_call, question_about, rotation_of, cancellation_of, mark_at, marked, unmarked, opening_place, rotation_place, cancellation_place};
 
-use crate::setup::reference_to;
+use crate::setup::{reference_to, two_texts};
 use bytes_and_lists::bytes::Bytes;
 use bytes_and_lists::memory::Mem;
 use bytes_and_lists::seq::Seq;
@@ -32,32 +32,32 @@ fn token_in(reply: &Reply) -> Option<&TokenOut>
     }
 }
 
-fn value_of(alloc: Global, token: Option<&TokenOut>) -> Result<Bytes, Mem>
-    ensures { IfOk result (λ value. value ≡ value_of (option_map (λ t. t.now) token.entry)) }
+fn value_of(token: Option<&TokenOut>) -> &[u8]
+    ensures { result.now ≡ value_of (option_map (λ t. t.now) token.entry) }
 {
     match token {
-        None => Ok(Bytes::new(alloc)),
-        Some(token) => Bytes::from_slice(alloc, &token.value),
+        None => b"",
+        Some(token) => token.value.as_slice(),
     }
 }
 
-fn manage_of(alloc: Global, token: Option<&TokenOut>) -> Result<Bytes, Mem>
-    ensures { IfOk result (λ value. value ≡ manage_of (option_map (λ t. t.now) token.entry)) }
+fn manage_of(token: Option<&TokenOut>) -> &[u8]
+    ensures { result.now ≡ manage_of (option_map (λ t. t.now) token.entry) }
 {
     match token {
-        None => Ok(Bytes::new(alloc)),
-        Some(token) => Bytes::from_slice(alloc, &token.manage),
+        None => b"",
+        Some(token) => token.manage.as_slice(),
     }
 }
 
-fn door_in(alloc: Global, reply: &Reply) -> Result<Bytes, Mem>
-    ensures { IfOk result (λ value. value ≡ door_in reply.now) }
+fn door_in(reply: &Reply) -> &[u8]
+    ensures { result.now ≡ door_in reply.now }
 {
     match reply {
-        Reply::Granted { door, .. } => Bytes::from_slice(alloc, door),
-        Reply::Pending { door, .. } => Bytes::from_slice(alloc, door),
-        Reply::Continuing { door } => Bytes::from_slice(alloc, door),
-        _ => Ok(Bytes::new(alloc)),
+        Reply::Granted { door, .. } | Reply::Pending { door, .. } | Reply::Continuing { door } => {
+            door.as_slice()
+        }
+        _ => b"",
     }
 }
 
@@ -94,41 +94,31 @@ fn mark_at(alloc: Global, grant: u32, place: u32) -> Result<Mark, Mem>
     })
 }
 
-// A call of the client, with its mark.
-fn marked(alloc: Global, grant: u32, place: u32, call: Call) -> Result<Signed, Mem>
-    ensures { IfOk result (λ signed. signed ≡ marked grant place call) }
-{
-    match mark_at(alloc, grant, place) {
-        Ok(mark) => Ok(Signed {
-            mark: Some(mark),
-            call,
-        }),
-        Err(Mem) => {
-            drop(call);
-            Err(Mem)
-        }
-    }
-}
-
 /// The client asks for a token for photos, in the grant with this number.
 pub fn opening_call(alloc: Global, grant: u32) -> Result<Signed, Mem>
     ensures call { IfOk result (λ signed. signed ≡ marked grant opening_place opening_call) }
 {
+    let mark = mark_at(alloc, grant, OPENING)?;
+    let key = Bytes::from_slice(alloc, b"c1")?;
     let call = Call::Begin {
-        key: Bytes::from_slice(alloc, b"c1")?,
+        key,
         request: photos_request(alloc)?,
         not_after: None,
     };
-    marked(alloc, grant, OPENING, call)
+    Ok(Signed {
+        mark: Some(mark),
+        call,
+    })
 }
 
 /// The resource server asks about the token of a reply.
 pub fn question_about(alloc: Global, reply: &Reply) -> Result<Signed, Mem>
     ensures call { IfOk result (λ signed. signed ≡ unmarked (question_about reply.now)) }
 {
+    let (server, value) = two_texts(alloc, b"r1", value_of(token_in(reply)))?;
     let call = Call::Introspect {
-        server: Bytes::from_slice(alloc, b"r1")?,
-        value: value_of(alloc, token_in(reply))?,
+        server,
+        value,
         binding: None,
         wanted: None,
     };
@@ -139,21 +129,28 @@ pub fn question_about(alloc: Global, reply: &Reply) -> Result<Signed, Mem>
 pub fn rotation_of(alloc: Global, grant: u32, reply: &Reply) -> Result<Signed, Mem>
     ensures call { IfOk result (λ signed. signed ≡ marked grant rotation_place (rotation_of reply.now)) }
 {
+    let mark = mark_at(alloc, grant, ROTATION)?;
+    let (key, value) = two_texts(alloc, b"c1", manage_of(token_in(reply)))?;
     let call = Call::Rotate {
-        key: Bytes::from_slice(alloc, b"c1")?,
-        value: manage_of(alloc, token_in(reply))?,
+        key,
+        value,
         new_key: None,
     };
-    marked(alloc, grant, ROTATION, call)
+    Ok(Signed {
+        mark: Some(mark),
+        call,
+    })
 }
 
 /// The client ends the grant of a reply.
 pub fn cancellation_of(alloc: Global, grant: u32, reply: &Reply) -> Result<Signed, Mem>
     ensures call { IfOk result (λ signed. signed ≡ marked grant cancellation_place (cancellation_of reply.now)) }
 {
-    let call = Call::Cancel {
-        key: Bytes::from_slice(alloc, b"c1")?,
-        value: door_in(alloc, reply)?,
-    };
-    marked(alloc, grant, CANCELLATION, call)
+    let mark = mark_at(alloc, grant, CANCELLATION)?;
+    let (key, value) = two_texts(alloc, b"c1", door_in(reply))?;
+    let call = Call::Cancel { key, value };
+    Ok(Signed {
+        mark: Some(mark),
+        call,
+    })
 }

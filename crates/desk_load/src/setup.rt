@@ -14,20 +14,32 @@ use std::alloc::Global;
 pub fn reference_to(alloc: Global, name: &[u8]) -> Result<Rights, Mem>
     ensures { IfOk result (λ rights. rights ≡ reference_to name.now) }
 {
+    let name = Bytes::from_slice(alloc, name)?;
     let mut rights = Seq::new(alloc);
-    rights.push(Right::Reference(Bytes::from_slice(alloc, name)?))?;
+    rights.push(Right::Reference(name))?;
     Ok(rights)
+}
+
+/// Two texts.
+pub fn two_texts(alloc: Global, first: &[u8], second: &[u8]) -> Result<(Bytes, Bytes), Mem>
+    ensures { IfOk result (λ texts. (texts.0 ≡ first.now) × (texts.1 ≡ second.now)) }
+{
+    let first = Bytes::from_slice(alloc, first)?;
+    Ok((first, Bytes::from_slice(alloc, second)?))
 }
 
 fn client_row(alloc: Global) -> Result<KeyRow, Mem>
     ensures { IfOk result (λ row. row ≡ client_row) }
 {
+    let auto_rights = reference_to(alloc, b"photos")?;
+    let ask_rights = reference_to(alloc, b"mail")?;
+    let (id, secret) = two_texts(alloc, b"c1", b"secret-key-of-c1")?;
     Ok(KeyRow {
-        id: Bytes::from_slice(alloc, b"c1")?,
+        id,
         role: Role::Client,
-        secret: Bytes::from_slice(alloc, b"secret-key-of-c1")?,
-        auto_rights: reference_to(alloc, b"photos")?,
-        ask_rights: reference_to(alloc, b"mail")?,
+        secret,
+        auto_rights,
+        ask_rights,
         serves: Seq::new(alloc),
     })
 }
@@ -35,13 +47,15 @@ fn client_row(alloc: Global) -> Result<KeyRow, Mem>
 fn server_row(alloc: Global) -> Result<KeyRow, Mem>
     ensures { IfOk result (λ row. row ≡ server_row) }
 {
+    let (photos, mail) = two_texts(alloc, b"photos", b"mail")?;
     let mut serves = Seq::new(alloc);
-    serves.push(Bytes::from_slice(alloc, b"photos")?)?;
-    serves.push(Bytes::from_slice(alloc, b"mail")?)?;
+    serves.push(photos)?;
+    serves.push(mail)?;
+    let (id, secret) = two_texts(alloc, b"r1", b"secret-key-of-r1")?;
     Ok(KeyRow {
-        id: Bytes::from_slice(alloc, b"r1")?,
+        id,
         role: Role::Server,
-        secret: Bytes::from_slice(alloc, b"secret-key-of-r1")?,
+        secret,
         auto_rights: Seq::new(alloc),
         ask_rights: Seq::new(alloc),
         serves,
@@ -55,9 +69,10 @@ pub fn load_setup(alloc: Global) -> Result<Setup, Mem>
     let mut keys = Seq::new(alloc);
     keys.push(client_row(alloc)?)?;
     keys.push(server_row(alloc)?)?;
+    let (base, front) = two_texts(alloc, b"https://as.example", b"https://front.example")?;
     Ok(Setup {
-        base: Bytes::from_slice(alloc, b"https://as.example")?,
-        front: Bytes::from_slice(alloc, b"https://front.example")?,
+        base,
+        front,
         keys: KeyRows::new(alloc, keys)?,
     })
 }
