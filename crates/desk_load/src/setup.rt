@@ -20,7 +20,7 @@ pub fn reference_to(alloc: Global, name: &[u8]) -> Result<Rights, Mem>
     Ok(rights)
 }
 
-/// Two texts.
+/// A copy of each of two texts.
 pub fn two_texts(alloc: Global, first: &[u8], second: &[u8]) -> Result<(Bytes, Bytes), Mem>
     ensures { IfOk result (λ texts. (texts.0 ≡ first.now) × (texts.1 ≡ second.now)) }
 {
