@@ -120,7 +120,7 @@ fn nonce(alloc: Global, place: usize, word: &str) -> Result<Bytes, WrongWords>
     }
 }
 
-// The same of a word that may be left out.
+// The word at this place as bytes, where it may be a nonce, and none where there is no word.
 fn optional_nonce(
     alloc: Global,
     place: usize,
