@@ -30,55 +30,82 @@ fn tell_fault<E: Sink, F: fmt::Display>(err: &mut E, fault: &F) {
     let _written = write!(said, "{fault}");
 }
 
-// The form of the member of this name, of pairs or of one of them.
-fn pair_form_of(name: &Bytes) -> &'static str {
-    match str::from_utf8(name.as_slice()) {
-        Ok("pairs") => ": an array of 1 to 256 objects",
-        Ok("client") =>
-            ": the id of a key of the setup in the role `client`, which no other pair has",
-        Ok("server") => ": the id of a key of the setup in the role `server`",
-        Ok(_) | Err(_) => "",
-    }
-}
+// The form of a base address.
+const BASE_FORM: &str =
+    ": `http://` or `https://`, a host in lower case and no default port, without `/` at the end";
 
-// The form of the member of this name, of a setup or of one of its parts.
-fn form_of(name: &Bytes) -> &'static str {
-    match str::from_utf8(name.as_slice()) {
-        Ok("base" | "front" | "server" | "resource") => {
-            ": `http://` or `https://`, a host in lower case and no default port, without `/` at the end"
-        }
-        Ok("id") => ": 1 to 64 letters, digits, `.`, `_` or `-`, which no other key has",
-        Ok("secret") => ": base64 with padding, of 16 to 64 bytes",
-        Ok("role") => ": `client`, `server` or `front`",
-        Ok("auto" | "ask") => {
-            ": an array of rights, each a string or an object with `type` (docs/FORMATS.md, section 1)"
-        }
-        Ok("serves") => ": an array of strings",
-        Ok("keys") => ": an array of objects",
-        Ok("routes") => ": an array of objects, no two with one `method` and one `path`",
-        Ok("method") => ": 1 to 15 upper-case letters",
-        Ok("path") => {
-            ": `/` and at most 2,047 bytes from 0x21 to 0x7E, and no other route has it with the same `method`"
-        }
-        Ok("right") =>
-            ": one right, a string or an object with `type` (docs/FORMATS.md, section 1)",
-        Ok("text") => ": a string",
-        Ok(_) | Err(_) => "",
-    }
-}
+// The form of an array of rights.
+const RIGHTS_FORM: &str =
+    ": an array of rights, each a string or an object with `type` (docs/FORMATS.md, section 1)";
 
-// How long the member of this name may be, or how many items it may have.
-fn limit_of(name: &Bytes) -> &'static str {
-    match str::from_utf8(name.as_slice()) {
-        Ok("keys") => ": 0 to 4,096 keys",
-        Ok("pairs") => ": 1 to 256 pairs",
-        Ok("serves") => ": 0 to 256 strings",
-        Ok("routes") => ": 1 to 1,024 routes",
-        Ok("auto" | "ask" | "right") => {
-            ": a reference or a type has 1 to 256 bytes, an array of a right 1 to 16 strings (docs/FORMATS.md, section 1)"
+// How long the texts and arrays of rights may be.
+const RIGHTS_LIMIT: &str =
+    ": a reference or a type has 1 to 256 bytes, an array of a right 1 to 16 strings (docs/FORMATS.md, section 1)";
+
+// The members of pairs and of one of them, each with its form.
+static PAIR_FORMS: [(&str, &str); 3] = [
+    ("pairs", ": an array of 1 to 256 objects"),
+    (
+        "client",
+        ": the id of a key of the setup in the role `client`, which no other pair has",
+    ),
+    (
+        "server",
+        ": the id of a key of the setup in the role `server`",
+    ),
+];
+
+// The members of a setup and of its parts, each with its form.
+static FORMS: [(&str, &str); 16] = [
+    ("base", BASE_FORM),
+    ("front", BASE_FORM),
+    ("server", BASE_FORM),
+    ("resource", BASE_FORM),
+    (
+        "id",
+        ": 1 to 64 letters, digits, `.`, `_` or `-`, which no other key has",
+    ),
+    ("secret", ": base64 with padding, of 16 to 64 bytes"),
+    ("role", ": `client`, `server` or `front`"),
+    ("auto", RIGHTS_FORM),
+    ("ask", RIGHTS_FORM),
+    ("serves", ": an array of strings"),
+    ("keys", ": an array of objects"),
+    (
+        "routes",
+        ": an array of objects, no two with one `method` and one `path`",
+    ),
+    ("method", ": 1 to 15 upper-case letters"),
+    (
+        "path",
+        ": `/` and at most 2,047 bytes from 0x21 to 0x7E, and no other route has it with the same `method`",
+    ),
+    (
+        "right",
+        ": one right, a string or an object with `type` (docs/FORMATS.md, section 1)",
+    ),
+    ("text", ": a string"),
+];
+
+// The members that have a limit, each with how long it may be, or how many items it may have.
+static LIMITS: [(&str, &str); 7] = [
+    ("keys", ": 0 to 4,096 keys"),
+    ("pairs", ": 1 to 256 pairs"),
+    ("serves", ": 0 to 256 strings"),
+    ("routes", ": 1 to 1,024 routes"),
+    ("auto", RIGHTS_LIMIT),
+    ("ask", RIGHTS_LIMIT),
+    ("right", RIGHTS_LIMIT),
+];
+
+// What is said of the member of this name, and nothing where there is no such member.
+fn said_of(members: &'static [(&'static str, &'static str)], name: &Bytes) -> &'static str {
+    for &(member, words) in members {
+        if member.as_bytes() == name.as_slice() {
+            return words;
         }
-        Ok(_) | Err(_) => "",
     }
+    ""
 }
 
 fn tell_member<E: Sink>(err: &mut E, kind: ConfigKind, fault: &ObjectFault) {
@@ -87,10 +114,10 @@ fn tell_member<E: Sink>(err: &mut E, kind: ConfigKind, fault: &ObjectFault) {
     };
     let form = match fault {
         ObjectFault::Wrong(_) => match kind {
-            ConfigKind::Pairs => pair_form_of(name),
-            _ => form_of(name),
+            ConfigKind::Pairs => said_of(&PAIR_FORMS, name),
+            _ => said_of(&FORMS, name),
         },
-        ObjectFault::TooMany(_) => limit_of(name),
+        ObjectFault::TooMany(_) => said_of(&LIMITS, name),
         _ => "",
     };
     tell(err, &[b"member `"]);
