@@ -198,40 +198,28 @@ fn tell_setup<E: Sink>(err: &mut E, command: &Command, why: &WrongSetup) {
     tell(err, &[b"\n"]);
 }
 
+fn tell_two<E: Sink>(err: &mut E, first: &Bytes, last: &Bytes) {
+    tell(err, &[first.as_slice(), b" or ", last.as_slice()]);
+}
+
+fn tell_three<E: Sink>(err: &mut E, first: &Bytes, second: &Bytes, last: &Bytes) {
+    tell(err, &[first.as_slice(), b", "]);
+    tell_two(err, second, last);
+}
+
 // The files of a command, or what it makes without one.
 fn tell_files<E: Sink>(err: &mut E, command: &Command) {
     match command {
         Command::Replay(file) | Command::Field(_, file) => tell(err, &[file.as_slice()]),
         Command::Sign(config, _, _, file, _) | Command::Verify(config, _, file) => {
-            tell(err, &[config.as_slice(), b" or ", file.as_slice()])
+            tell_two(err, config, file)
         }
-        Command::Serve(service, served) => {
-            tell(err, &[served.config.as_slice()]);
-            if let Service::Derivations(pairs) = service {
-                tell(err, &[b", ", pairs.as_slice()]);
-            }
-            tell(err, &[b" or ", served.listen.as_slice()]);
-        }
-        Command::Rs(config, listen, server, _, _) => tell(
-            err,
-            &[
-                config.as_slice(),
-                b", ",
-                server.as_slice(),
-                b" or ",
-                listen.as_slice(),
-            ],
-        ),
-        Command::Client(config, address, script) => tell(
-            err,
-            &[
-                config.as_slice(),
-                b", ",
-                address.as_slice(),
-                b" or ",
-                script.as_slice(),
-            ],
-        ),
+        Command::Serve(service, served) => match service {
+            Service::Derivations(pairs) => tell_three(err, &served.config, pairs, &served.listen),
+            Service::Grants | Service::Sets => tell_two(err, &served.config, &served.listen),
+        },
+        Command::Rs(config, listen, server, _, _) => tell_three(err, config, server, listen),
+        Command::Client(config, address, script) => tell_three(err, config, address, script),
         Command::Hash(_) => tell(err, &[b"the hash"]),
         Command::Load(_, _, _) => tell(err, &[b"the load"]),
     }
