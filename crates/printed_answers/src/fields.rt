@@ -36,24 +36,9 @@ fn canonical_text(alloc: Global, kind: Kind, text: &[u8]) -> Result<Bytes, Field
     ensures { IsCanonical kind text.now result }
 {
     match kind {
-        Kind::Item => {
-            let item = read_item(alloc, text)?;
-            let canonical = write_item(alloc, &item);
-            drop(item);
-            Ok(canonical?)
-        }
-        Kind::List => {
-            let members = read_list(alloc, text)?;
-            let canonical = write_list(alloc, &members);
-            drop(members);
-            Ok(canonical?)
-        }
-        Kind::Dictionary => {
-            let members = read_dictionary(alloc, text)?;
-            let canonical = write_dictionary(alloc, &members);
-            drop(members);
-            Ok(canonical?)
-        }
+        Kind::Item => Ok(write_item(alloc, &read_item(alloc, text)?)?),
+        Kind::List => Ok(write_list(alloc, &read_list(alloc, text)?)?),
+        Kind::Dictionary => Ok(write_dictionary(alloc, &read_dictionary(alloc, text)?)?),
     }
 }
 
@@ -79,9 +64,7 @@ pub fn print_field<S: Source, O: Sink>(
         Err(InputFault::Failed) => return Ended::Failed,
         Err(InputFault::OutOfMemory) => return Ended::Memory,
     };
-    let canonical = canonical_text(alloc, kind, without_newline(bytes.as_slice()));
-    drop(bytes);
-    match canonical {
+    match canonical_text(alloc, kind, without_newline(bytes.as_slice())) {
         Ok(mut line) => {
             if line.push(b'\n').is_err() {
                 return Ended::Memory;
