@@ -1,4 +1,5 @@
 pub mod AfterDashes
+pub mod HintTexts
 pub mod Numerals
 pub mod Refusals
 pub mod ToldTexts

@@ -1,9 +1,9 @@
 -- What is told.
-use Rattle.std.proofs.Common.{◌≡◌, ◌∙◌, ◌≤◌, inl, inr, ℕ, ◌<◌, suc, List, [], ◌∷◌, ◌++◌, length, map, take, drop, get_or, refl, sym, ap, subst, append_assoc, append-nil, arith}
+use Rattle.std.proofs.Common.{◌≡◌, ◌∙◌, ◌≤◌, inl, inr, ℕ, ◌+◌, ◌<◌, suc, List, [], ◌∷◌, ◌++◌, length, map, take, drop, get_or, refl, sym, ap, subst, append_assoc, append-nil, arith}
 use Rattle.std.specs.Prelude.{Result, Ok, Err, flat_map, min, nat_le, true, codes, if◌then◌else◌}
 use Rattle.std.specs.Borrow.{Bor}
 use Rattle.std.proofs.Math.Seq.{drop-cons}
-use Rattle.std.proofs.lemmas.List.{take-append-drop, take_all, length-take, length-map, get_or-take, get_or-map}
+use Rattle.std.proofs.lemmas.List.{take-append-drop, take_all, take_more, length-take, length-map, get_or-take, get_or-map}
 use Rattle.std.proofs.lemmas.Grind.{flat_map-append, same_number_lists}
 use Rattle.bytes_and_lists.specs.Prefixes.{IsPrefix}
 use Rattle.outside.specs.Outside.{Told, Writes, HasSent, HasCause, Rose}
@@ -27,19 +27,31 @@ told_sent text a b n m (Err e) sent cause = record {
   grows = cause.later;
 }
 
--- ---- pieces that are written one behind another
+-- what was begun of a text was told
+begun_told : (text : List ℕ) (a b : Told) (n m : ℕ) → (sent : List ℕ) × IsPrefix sent text × Writes sent a b → Rose n m → n ≤ m → HasTold text a b n m
+begun_told text a b n m x rose grows = record { sent = x.0; begins = x.1; writes = x.2; whole = inr rose; grows = grows }
+
+-- ---- texts of items that are written one behind another
+
+-- the texts of the items before a place, that of the item there, and those of the items behind it
+pub items_split : {X : Type 0} (f : X → List ℕ) (i : ℕ) (xs : List X) (d : X) → i < length xs
+    → flat_map f xs ≡ (flat_map f (take i xs) ++ f (get_or xs i d)) ++ flat_map f (drop (suc i) xs)
+items_split f i xs d inside =
+    ap (flat_map f) (sym (take-append-drop i xs)) ∙ flat_map-append f (take i xs) (drop i xs)
+    ∙ ap (λ l. flat_map f (take i xs) ++ flat_map f l) (drop-cons xs i d inside)
+    ∙ sym (append_assoc (flat_map f (take i xs)) (f (get_or xs i d)) (flat_map f (drop (suc i) xs)))
+
+-- the texts of the items before a place, and that of the item there
+items_then : {X : Type 0} (f : X → List ℕ) (i : ℕ) (xs : List X) (d : X) → i < length xs
+    → flat_map f (take i xs) ++ f (get_or xs i d) ≡ flat_map f (take (i + 1) xs)
+items_then f i xs d inside =
+    ap (λ (t : List ℕ). flat_map f (take i xs) ++ t) (sym (append-nil (f (get_or xs i d))))
+    ∙ sym (flat_map-append f (take i xs) (get_or xs i d ∷ []))
+    ∙ ap (flat_map f) (sym (take_more xs i d inside))
 
 -- the bytes of the pieces
 abbrev pub bytes_of : List (Bor (List ℕ)) → List ℕ
 bytes_of pieces = flat_map (λ piece. piece.now) pieces
-
--- the pieces before a place, the piece there, and those behind it
-pub pieces_split : (i : ℕ) (ps : List (Bor (List ℕ))) (d : Bor (List ℕ)) → i < length ps
-    → bytes_of ps ≡ (bytes_of (take i ps) ++ (get_or ps i d).now) ++ bytes_of (drop (suc i) ps)
-pieces_split i ps d inside =
-    ap bytes_of (sym (take-append-drop i ps)) ∙ flat_map-append (λ (x : Bor (List ℕ)). x.now) (take i ps) (drop i ps)
-    ∙ ap (λ (l : List (Bor (List ℕ))). bytes_of (take i ps) ++ bytes_of l) (drop-cons ps i d inside)
-    ∙ sym (append_assoc (bytes_of (take i ps)) (get_or ps i d).now (bytes_of (drop (suc i) ps)))
 
 -- behind what was written, a beginning of one more piece was
 pub began_behind : (front piece more : List ℕ) (a b c : Told) → Writes front a b → (sent : List ℕ) × IsPrefix sent piece × Writes sent b c
@@ -49,6 +61,38 @@ began_behind front piece more a b c writes x = (
   (x.1.0 ++ more, ap (λ (t : List ℕ). (front ++ t) ++ more) x.1.1 ∙ simp (append_assoc)),
   writes_then front x.0 a b c writes x.2,
 )
+
+-- ---- a text, and behind it the texts of items
+
+module _ {X : Type 0} (f : X → List ℕ) (front : List ℕ) (xs : List X) where
+  -- the front and the items before a place went out, and a beginning of the item there
+  pub item_begun : (i : ℕ) (d : X) (a b c : Told) (n m k : ℕ) → i < length xs → Writes (front ++ flat_map f (take i xs)) a b → m ≡ n
+      → (sent : List ℕ) × IsPrefix sent (f (get_or xs i d)) × Writes sent b c → Rose m k → m ≤ k → HasTold (front ++ flat_map f xs) a c n k
+  item_begun i d a b c n m k inside written same x rose grows =
+      let split : ((front ++ flat_map f (take i xs)) ++ f (get_or xs i d)) ++ flat_map f (drop (suc i) xs) ≡ front ++ flat_map f xs
+      = simp append_assoc (ap (λ (t : List ℕ). front ++ t) (sym (simp append_assoc at (items_split f i xs d inside)))) in
+      subst (λ (t : List ℕ). HasTold t a c n k) split
+      (begun_told _ a c n k (began_behind _ _ (flat_map f (drop (suc i) xs)) a b c written x) (subst (λ (l : ℕ). Rose l k) same rose)
+      (omega (arith, same, grows)))
+
+  -- one item more went out
+  pub item_written : (i : ℕ) (d : X) (a b c : Told) → i < length xs → Writes (front ++ flat_map f (take i xs)) a b → Writes (f (get_or xs i d)) b c
+      → Writes (front ++ flat_map f (take (i + 1) xs)) a c
+  item_written i d a b c inside written more =
+      subst (λ (t : List ℕ). Writes t a c)
+      (append_assoc front (flat_map f (take i xs)) (f (get_or xs i d)) ∙ ap (λ (t : List ℕ). front ++ t) (items_then f i xs d inside))
+      (writes_then _ _ a b c written more)
+
+  -- all of them went out
+  pub items_told : (i : ℕ) (a b : Told) (n m : ℕ) → length xs ≤ i → Writes (front ++ flat_map f (take i xs)) a b → m ≡ n
+      → HasTold (front ++ flat_map f xs) a b n m
+  items_told i a b n m past written same = record {
+    sent = front ++ flat_map f xs;
+    begins = ([], sym (append-nil (front ++ flat_map f xs)));
+    writes = subst (λ (ys : List X). Writes (front ++ flat_map f ys) a b) (take_all i xs past) written;
+    whole = inl refl;
+    grows = omega (arith, same);
+  }
 
 -- ---- texts that are the same
 
@@ -79,3 +123,7 @@ few_shown text shown few front =
     let is : nat_le (length text) 64 ≡ true = grind (arith, few) in
     append-nil (take (length text) shown) ∙ front ∙ ap (map shown_byte) (take_all 64 text few)
     ∙ ap (λ b. if b then map shown_byte text else map shown_byte (take 64 text) ++ codes "..") (sym is)
+
+-- a shown text of two pieces
+pub two_shown : (shown more text : List ℕ) → shown ++ more ≡ text → shown ++ (more ++ []) ≡ text
+two_shown shown more text is = ap (λ (t : List ℕ). shown ++ t) (append-nil more) ∙ is

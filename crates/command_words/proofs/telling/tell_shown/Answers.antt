@@ -1,6 +1,5 @@
-use Rattle.command_words.proofs.ToldTexts.{told_as, few_shown}
+use Rattle.command_words.proofs.ToldTexts.{told_as, two_shown}
 use Rattle.command_words.proofs.telling.tell_shown.Goals as goal
 
-pub returns-then-text-le-SHOWN : goal.returns-then-text-le-SHOWN
-returns-then-text-le-SHOWN g c =
-    told_as _ _ _ _ _ _ (few_shown c.args.text.now c.shown_front-shown.result c.if-text-le-SHOWN.true c.shown_front-shown.ensures) c.tell.ensures
+pub returns : goal.returns
+returns g c = told_as _ _ _ _ _ _ (two_shown _ _ _ c.shown_pieces.ensures) c.tell.ensures

@@ -4,7 +4,7 @@ use Rattle.std.specs.Borrow.{Bor}
 use Rattle.std.proofs.lemmas.List.{take_all}
 use Rattle.bytes_and_lists.specs.Prefixes.{IsPrefix}
 use Rattle.outside.specs.Outside.{Writes}
-use Rattle.command_words.proofs.ToldTexts.{bytes_of, pieces_split, began_behind}
+use Rattle.command_words.proofs.ToldTexts.{bytes_of, items_split, began_behind}
 use Rattle.command_words.proofs.telling.write_pieces.Goals as goal
 
 pub returns-in_err-write_all-clause-sent : goal.returns-in_err-write_all-clause-sent
@@ -14,7 +14,7 @@ returns-in_err-write_all-clause-sent g c =
     let pieces = c.args.pieces.now in
     let told = g.E.Device.told in
     rw failed.1 (subst (λ (t : List ℕ). (sent : List ℕ) × IsPrefix sent t × Writes sent (told c.args.err.now) (told c.write_all.new.out))
-    (sym (pieces_split i pieces _ c.loop-piece-test.true))
+    (sym (items_split (λ (piece : Bor (List ℕ)). piece.now) i pieces _ c.loop-piece-test.true))
     (began_behind _ _ (bytes_of (drop (suc i) pieces)) _ _ _ c.loop-piece.invariant.written c.in_err-write_all.ensures.sent))
 
 pub returns-clause-sent : goal.returns-clause-sent

@@ -1,5 +1,4 @@
 use Rattle.std.proofs.Common.{◌≡◌, take}
-use Rattle.std.specs.Prelude.{flat_map}
 use Rattle.outside.specs.Outside.{Writes}
 use Rattle.command_words.proofs.ToldTexts.{bytes_of}
 use Rattle.command_words.proofs.telling.write_pieces.Given as goal
