@@ -1,5 +1,5 @@
 -- What serving a setup at an address does to the world.
-use Rattle.std.proofs.Common.{◌≡◌, ℕ, List, [], ◌∷◌, ◌⊎◌, refl, sym, subst, inl, inr}
+use Rattle.std.proofs.Common.{◌≡◌, ℕ, List, [], ◌∷◌, ◌⊎◌, refl, sym, subst, inl}
 use Rattle.std.specs.Prelude.{Option, None, Result, Err}
 use Rattle.outside.specs.declared.world.Opening.TheVariants.{Gears}
 use Rattle.outside.specs.declared.world.WorldFault.{WorldFault}

@@ -1,4 +1,4 @@
-use Rattle.std.proofs.Common.{◌≡◌, ◌∷◌, [], sym, subst, inr, refl}
+use Rattle.std.proofs.Common.{◌∷◌, [], sym, subst, inr, refl}
 use Rattle.std.specs.Prelude.{None}
 use Rattle.outside.specs.declared.world.Opening.TheVariants.{Gears}
 use Rattle.command_inputs.specs.declared.ended.Ended.{Ended}
