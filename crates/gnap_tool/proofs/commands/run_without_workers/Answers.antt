@@ -18,15 +18,6 @@ returns-in-Some-clause-reads g c = λ is. failed_at_4 _ _ _ _ c.in-Some.ended c.
 pub returns-in-Some-clause-no_reads : goal.returns-in-Some-clause-no_reads
 returns-in-Some-clause-no_reads g c = λ isnt. c.in-Some.ensures.world.sound (λ failed. isnt (c.finish.ensures ∙ ap status_of failed))
 
-pub returns-in-Err-NoCommand-clause-no_reads : goal.returns-in-Err-NoCommand-clause-no_reads
-returns-in-Err-NoCommand-clause-no_reads g c = λ isnt. unopened_sound _ _ refl refl
-
-pub returns-in-Err-Count-clause-no_reads : goal.returns-in-Err-Count-clause-no_reads
-returns-in-Err-Count-clause-no_reads g c = λ isnt. unopened_sound _ _ refl refl
-
-pub returns-in-Err-Word-clause-no_reads : goal.returns-in-Err-Word-clause-no_reads
-returns-in-Err-Word-clause-no_reads g c = λ isnt. unopened_sound _ _ refl refl
-
 pub returns-in-Err-OutOfMemory-clause-no_reads : goal.returns-in-Err-OutOfMemory-clause-no_reads
 returns-in-Err-OutOfMemory-clause-no_reads g c = λ isnt. unopened_sound _ _ refl refl
 
