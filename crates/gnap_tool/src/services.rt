@@ -61,7 +61,10 @@ fn serve_deriving<R: Threads + Wait + Sync, W: World>(
             served.workers,
             served.quota,
         )),
-        Err(ended) => ended,
+        Err(ended) => {
+            drop(setup);
+            ended
+        }
     }
 }
 
