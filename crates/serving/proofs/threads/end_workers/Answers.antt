@@ -1,4 +1,4 @@
-use Rattle.std.proofs.Common.{◌≡◌, ◌∙◌, ◌+◌, ℕ, [], ◌∷◌, ◌++◌, length, map, ap, sym, subst, arith, All}
+use Rattle.std.proofs.Common.{◌≡◌, ◌∙◌, ◌+◌, ℕ, [], ◌∷◌, ◌++◌, length, map, ap, sym, subst, arith, All, length-append}
 use mathlib.Core.Option.{some}
 use lib.ListN.{get_elem?}
 use Rattle.std.specs.Vec.Iter.{into_iter_items}
@@ -51,9 +51,47 @@ loop-worker-preserved g c =
       (let a = c.in-Some.ensures.steps.1 in let b = ap length c.in-Some.ensures.steps.0 in let d = i.10 in omega (arith, a, b, d)),
     )
 
+pub push_reserved-requires : goal.push_reserved-requires
+push_reserved-requires g c =
+    let i = c.loop-worker.invariant in
+    let long = c.loop-worker.passes.ok in
+    let left = ap length c.in-Some.ensures.steps.0 in
+    let many = i.4 in
+    let room = i.5 in
+    omega (arith, long, left, many, room)
+
+pub push_reserved-requires-in-loop-worker : goal.push_reserved-requires-in-loop-worker
+push_reserved-requires-in-loop-worker g c =
+    let i = c.loop-worker.invariant in
+    let long = c.loop-worker.gears.ok in
+    let left = ap length c.in-Some.ensures.steps.0 in
+    let many = sym (length-map c.loop-worker.gears.items g.G.Counted.state) ∙ ap length i.3 ∙ length-map c.loop-worker.yielded (λ worker. worker.gear) in
+    let room = i.6 in
+    omega (arith, long, left, many, room)
+
+pub returns-clause-passes : goal.returns-clause-passes
+returns-clause-passes g c =
+    let i = c.loop-worker.invariant in
+    record {
+      count = (
+          let none = sym i.10 ∙ c.in-None.ensures.steps.0 in
+          let all = ap length i.2 in
+          let parts = length-append c.loop-worker.yielded (into_iter_items c.loop-worker.worker-iterator) in
+          let many = i.4 in
+          let count = c.requires.workers.count in
+          omega (arith, none, all, parts, many, count));
+      each = i.7;
+    }
+
 pub returns-clause-gears : goal.returns-clause-gears
 returns-clause-gears g c =
     let i = c.loop-worker.invariant in
     let none : into_iter_items c.loop-worker.worker-iterator
     ≡ [] = nil_from_length (into_iter_items c.loop-worker.worker-iterator) (sym i.10 ∙ c.in-None.ensures.steps.0) in
     i.3 ∙ ap (map (λ worker. worker.gear)) (sym (append-nil c.loop-worker.yielded) ∙ ap (λ l. c.loop-worker.yielded ++ l) (sym none) ∙ i.2)
+
+pub returns-clause-out : goal.returns-clause-out
+returns-clause-out g c = c.loop-worker.invariant.8
+
+pub returns-clause-accounts : goal.returns-clause-accounts
+returns-clause-accounts g c = c.loop-worker.invariant.9
