@@ -11,7 +11,8 @@ use Rattle.serving.specs.Logs.{IsAccount}
 use Rattle.histories.specs.Turns.{Turn}
 use Rattle.histories.specs.Whole.{own_of, AllKeep}
 use Rattle.histories.proofs.WholeLemmas.{keep-append}
-use Rattle.serving.specs.Workers.{accounts_of}
+use Rattle.shared_server.specs.Passes.{Sharing}
+use Rattle.serving.specs.Workers.{ArePlaced, accounts_of}
 
 module _ {X : Type 0} where
   pub at_middle : (xs : List X) (x : X) (ys : List X) → get_elem? (xs ++ x ∷ ys) (length xs) ≡ some x
@@ -49,6 +50,9 @@ module _ {X : Type 0} where
 
   pub size-next : (done : List X) (x : X) → length (done ++ x ∷ []) ≡ length done + 1
   size-next done x = length-append done (x ∷ [])
+
+pub none-placed : {Front Rules E : Type 0} (core : Sharing Rules) (front : Front) → ArePlaced {E = E} core front []
+none-placed core front k w e = absurd (some-ne-none w (sym e))
 
 pub made-next : {W G S : Type 0} (gear : W → S) (state : G → S) (workers : List W) (worker : W) (rest rest_now : List G) (g : G) (gears : List S)
     → map gear workers ++ map state rest ≡ gears → rest ≡ g ∷ rest_now → gear worker ≡ state g
