@@ -1,13 +1,11 @@
-use Rattle.std.proofs.Common.{◌≡◌, ◌∙◌, ◌+◌, ℕ, [], ◌∷◌, ◌++◌, length, map, ap, sym, subst, arith, All, length-append}
+use Rattle.std.proofs.Common.{◌≡◌, ◌∙◌, ℕ, [], ◌∷◌, ◌++◌, length, map, ap, sym, subst, arith, All, length-append}
 use mathlib.Core.Option.{some}
 use lib.ListN.{get_elem?}
 use Rattle.std.specs.Vec.Iter.{into_iter_items}
 use Rattle.std.proofs.lemmas.List.{nil_from_length, map-append, append-nil, length-map}
 use Rattle.std.proofs.lemmas.List.Elements.{All-push}
-use Rattle.histories.specs.Whole.{AllKeep}
 use Rattle.shared_server.specs.Passes.{IsPassOf}
-use Rattle.serving.specs.Workers.{accounts_of}
-use Rattle.serving.proofs.Starting.{next_at, parts-next, size-next, each-next, one-more-account, account_as, map-next}
+use Rattle.serving.proofs.Starting.{next_at, parts-next, size-next, each-next, accounts-next, account_as, map-next}
 use Rattle.serving.proofs.threads.end_workers.Goals as goal
 
 pub loop-worker-preserved : goal.loop-worker-preserved
@@ -26,11 +24,8 @@ loop-worker-preserved g c =
     let place : pass.number ≡ length c.loop-worker.passes.items = c.leave-pass.ensures.number ∙ placed.1 ∙ sym i.4 in
     let session = g.F.Front.session in
     let made = map-next state c.loop-worker.gears.items c.push_reserved-in-loop-worker.new.self.items gear gears in
-    let all_seen = map-next (λ p. p.seen) c.loop-worker.passes.items c.push_reserved.new.self.items pass pushed in
-    let account = account_as session w.front c.args.front.now w.gear.log (state gear).log w.station.number
-    (0 + length (map (λ p. p.seen) c.loop-worker.passes.items)) pass.seen
-    placed.2 (sym (ap (λ s. s.log) c.leave-pass.ensures.gear))
-    (let a = placed.1 in let b = i.4 in let d = length-map c.loop-worker.passes.items (λ p. p.seen) in omega (arith, a, b, d)) c.leave-pass.ensures.account in (
+    let account = account_as session w.front c.args.front.now w.gear.log (state gear).log w.station.number (length c.loop-worker.passes.items) pass.seen
+    placed.2 (sym (ap (λ s. s.log) c.leave-pass.ensures.gear)) (placed.1 ∙ sym i.4) c.leave-pass.ensures.account in (
       tt,
       tt,
       parts-next c.loop-worker.yielded _ _ _ w i.2 c.in-Some.ensures.steps.0,
@@ -44,10 +39,7 @@ loop-worker-preserved g c =
           (subst (λ h. IsPassOf h pass) placed.0 c.leave-pass.ensures.of, place)),
       subst (All (λ g'. (state g').out ≡ 0)) (sym gears)
           (All-push (λ g'. (state g').out ≡ 0) c.loop-worker.gears.items gear i.8 (ap (λ s. s.out) c.leave-pass.ensures.gear ∙ c.leave-pass.ensures.out)),
-      subst (λ l. AllKeep 0 (accounts_of (session c.args.front.now) l) (map (λ p. p.seen) c.push_reserved.new.self.items)) (sym made)
-          (subst (λ l. AllKeep 0 (accounts_of (session c.args.front.now) (map state c.loop-worker.gears.items ++ state gear ∷ [])) l) (sym all_seen)
-          (one-more-account (session c.args.front.now) (map state c.loop-worker.gears.items) (state gear) (map (λ p. p.seen) c.loop-worker.passes.items)
-          pass.seen 0 i.9 account)),
+      accounts-next (session c.args.front.now) state (λ p. p.seen) c.loop-worker.gears.items _ gear c.loop-worker.passes.items _ pass gears pushed i.9 account,
       (let a = c.in-Some.ensures.steps.1 in let b = ap length c.in-Some.ensures.steps.0 in let d = i.10 in omega (arith, a, b, d)),
     )
 
