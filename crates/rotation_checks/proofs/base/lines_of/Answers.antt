@@ -2,9 +2,9 @@ use Rattle.std.proofs.Common.{◌++◌, sym, ap, ◌∙◌, arith}
 use Rattle.std.specs.Option.{option_map}
 use Rattle.std.proofs.lemmas.List.{drop_all}
 use Rattle.std.proofs.lemmas.Result.{err_from_is_err_and}
-use Rattle.key_rotation.specs.RotationBase.{rotation_lines}
-use Rattle.key_rotation.proofs.RotationLines.{lines_start, lines_more, lines_failed, lines_end}
-use Rattle.key_rotation.proofs.base.lines_of.Goals as goal
+use Rattle.rotation_checks.specs.RotationBase.{rotation_lines}
+use Rattle.rotation_checks.proofs.RotationLines.{lines_start, lines_more, lines_failed, lines_end}
+use Rattle.rotation_checks.proofs.base.lines_of.Goals as goal
 
 pub loop-i-init : goal.loop-i-init
 loop-i-init c = rw c.new-text.ensures (lines_start (rotation_lines c.args.message.now c.args.base.now c.args.fields.now c.args.items.now))

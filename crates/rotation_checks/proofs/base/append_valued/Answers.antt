@@ -2,9 +2,9 @@ use Rattle.std.proofs.Common.{sym, subst}
 use Rattle.std.specs.Prelude.{codes}
 use Rattle.structured_fields.specs.Canonical.{item_text}
 use Rattle.message_signature.specs.Faults.{GivesBase}
-use Rattle.key_rotation.specs.RotationBase.{value_of}
-use Rattle.key_rotation.proofs.RotationLines.{valued_line}
-use Rattle.key_rotation.proofs.base.append_valued.Goals as goal
+use Rattle.rotation_checks.specs.RotationBase.{value_of}
+use Rattle.rotation_checks.proofs.RotationLines.{valued_line}
+use Rattle.rotation_checks.proofs.base.append_valued.Goals as goal
 
 pub returns : goal.returns
 returns c =

@@ -4,7 +4,7 @@ use Rattle.std.specs.Prelude.{IfErr, IfOk}
 use Rattle.message_signature.specs.declared.fault.SigFault.{SigFault}
 use Rattle.message_signature.specs.declared.fault.SigFault.TheVariants.{OutOfMemory}
 use Rattle.message_signature.specs.Faults.{Gives as GivesSignature}
-use Rattle.key_rotation.specs.Faults.{Gives, IsToldOf, in_first, in_second, told_first, told_second}
+use Rattle.rotation_checks.specs.Faults.{Gives, IsToldOf, in_first, in_second, told_first, told_second}
 
 pub first_gives : {X Y : Type 0} (view : X → Y) (answer : Result X SigFault) (read : Result Y SigFault) → GivesSignature view answer read
     → Gives view (told_first answer) (in_first read)

@@ -1,9 +1,9 @@
 use Rattle.std.proofs.Common.{sym, subst}
 use Rattle.message_signature.specs.declared.tags.SignatureFields.{SignatureFields}
 use Rattle.message_signature.specs.Faults.{GivesBase}
-use Rattle.key_rotation.specs.RotationBase.{base_with}
-use Rattle.key_rotation.proofs.Members.{members_are}
-use Rattle.key_rotation.proofs.base.base_over.Goals as goal
+use Rattle.rotation_checks.specs.RotationBase.{base_with}
+use Rattle.rotation_checks.proofs.Members.{members_are}
+use Rattle.rotation_checks.proofs.base.base_over.Goals as goal
 
 pub returns : goal.returns
 returns c =

@@ -7,7 +7,7 @@ use Rattle.message_signature.specs.declared.fault.SigFault.{SigFault}
 use Rattle.message_signature.specs.declared.fault.SigFault.TheVariants.{Unsupported}
 use Rattle.message_signature.specs.Faults.{◌>>=◌, need}
 use Rattle.message_signature.specs.Verified.{Signature, tagged, judged_over}
-use Rattle.key_rotation.specs.RotationBase.{is_component, rotation_base}
+use Rattle.rotation_checks.specs.RotationBase.{is_component, rotation_base}
 
 -- the tags of the two signatures
 abbrev pub first_tag : List ℕ

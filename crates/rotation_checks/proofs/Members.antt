@@ -9,7 +9,7 @@ use Rattle.message_signature.specs.declared.tags.SignatureFields.{SignatureField
 use Rattle.message_signature.specs.Components.{field_value}
 use Rattle.message_signature.specs.Verified.{signature_fields}
 use Rattle.message_signature.proofs.CheckSteps.{need_ok}
-use Rattle.key_rotation.specs.RotationBase.{members_of, signature_members}
+use Rattle.rotation_checks.specs.RotationBase.{members_of, signature_members}
 
 members_is : (m : Message) (name text : List ℕ) (d : List (List ℕ × Member)) → field_value name m.fields ≡ Some text → dictionary_of text ≡ Some d
     → members_of m name ≡ d

@@ -2,10 +2,10 @@
 use Rattle.std.specs.Prelude.{ℕ, List, Result, Ok}
 use Rattle.bytes_and_lists.specs.declared.message.Message.{Message}
 use Rattle.message_signature.specs.Verified.{signature_fields, tagged_in, judged}
-use Rattle.key_rotation.specs.declared.fault.RotationFault.{RotationFault}
-use Rattle.key_rotation.specs.declared.verifying.RotatedKeys.{RotatedKeys}
-use Rattle.key_rotation.specs.Faults.{◌>>=◌, in_first, in_second, must_chain}
-use Rattle.key_rotation.specs.SecondSignature.{first_tag, second_tag, judged_again, is_chained}
+use Rattle.rotation_checks.specs.declared.fault.RotationFault.{RotationFault}
+use Rattle.rotation_checks.specs.declared.verifying.RotatedKeys.{RotatedKeys}
+use Rattle.rotation_checks.specs.Faults.{◌>>=◌, in_first, in_second, must_chain}
+use Rattle.rotation_checks.specs.SecondSignature.{first_tag, second_tag, judged_again, is_chained}
 
 -- The old key, which made the first signature, and the new key, which made the second over the first; or the first fault.
 unfoldable pub rotated_keys : Message → List ℕ → List (List ℕ × List ℕ) → ℕ → Result RotatedKeys RotationFault

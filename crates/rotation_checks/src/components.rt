@@ -7,7 +7,7 @@ ghost use Rattle.structured_fields.specs.Canonical.{member_text};
 ghost use Rattle.structured_fields.specs.Named.{value_at};
 ghost use Rattle.structured_fields.specs.Strings.{string_in};
 ghost use Rattle.message_signature.specs.Faults.{GivesBase};
-ghost use Rattle.key_rotation.specs.RotationBase.{key_in, label_in, is_same_label, is_component, plain_value, value_of};
+ghost use Rattle.rotation_checks.specs.RotationBase.{key_in, label_in, is_same_label, is_component, plain_value, value_of};
 
 use bytes_and_lists::bytes::Bytes;
 use bytes_and_lists::message::Message;

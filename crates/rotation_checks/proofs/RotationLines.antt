@@ -10,7 +10,7 @@ use Rattle.message_signature.specs.declared.fault.BaseFault.{BaseFault}
 use Rattle.message_signature.specs.declared.fault.BaseFault.TheVariants.{Unsupported, OutOfMemory}
 use Rattle.message_signature.specs.declared.tags.SignatureFields.{SignatureFields}
 use Rattle.message_signature.specs.Faults.{FailsBase}
-use Rattle.key_rotation.specs.RotationBase.{rotation_line, rotation_lines}
+use Rattle.rotation_checks.specs.RotationBase.{rotation_line, rotation_lines}
 
 abbrev pub behind : List ℕ → Option (List ℕ) → Option (List ℕ)
 behind text o = option_map (λ t. text ++ t) o

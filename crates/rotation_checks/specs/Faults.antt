@@ -2,8 +2,8 @@
 use Rattle.std.specs.Prelude.{◌≡◌, Bool, if◌then◌else◌, Result, Ok, Err}
 use Rattle.message_signature.specs.declared.fault.SigFault.{SigFault}
 use Rattle.message_signature.specs.declared.fault.SigFault.TheVariants.{OutOfMemory as NoSigMemory}
-use Rattle.key_rotation.specs.declared.fault.RotationFault.{RotationFault}
-use Rattle.key_rotation.specs.declared.fault.RotationFault.TheVariants.{First, Second, NotChained, OutOfMemory}
+use Rattle.rotation_checks.specs.declared.fault.RotationFault.{RotationFault}
+use Rattle.rotation_checks.specs.declared.fault.RotationFault.TheVariants.{First, Second, NotChained, OutOfMemory}
 
 -- the first fault is the answer
 infixl 10 ◌>>=◌

@@ -1,5 +1,5 @@
-use Rattle.key_rotation.proofs.Told.{first_gives, first_is, first_told}
-use Rattle.key_rotation.proofs.verifying.fields_of.Goals as goal
+use Rattle.rotation_checks.proofs.Told.{first_gives, first_is, first_told}
+use Rattle.rotation_checks.proofs.verifying.fields_of.Goals as goal
 
 pub returns-clause-gives : goal.returns-clause-gives
 returns-clause-gives c = rw c.in_first.ensures (first_gives (λ fields. fields) c.signature_fields.result _ c.signature_fields.ensures)

@@ -4,10 +4,10 @@ ghost use Rattle.message_signature.specs.declared.fault.SigFault.TheVariants.{Un
 ghost use Rattle.message_signature.specs.Faults.{Gives as GivesSignature, need};
 ghost use Rattle.message_signature.specs.Seen.{signature_seen};
 ghost use Rattle.message_signature.specs.Verified.{judged, signature_fields, tagged_in};
-ghost use Rattle.key_rotation.specs.RotationBase.{rotation_base};
-ghost use Rattle.key_rotation.specs.Faults.{Gives, IsToldOf, in_first, in_second, told_first, told_second};
-ghost use Rattle.key_rotation.specs.SecondSignature.{first_tag, second_tag, judged_again, covers_member, is_chained};
-ghost use Rattle.key_rotation.specs.Rotated.{rotated_keys};
+ghost use Rattle.rotation_checks.specs.RotationBase.{rotation_base};
+ghost use Rattle.rotation_checks.specs.Faults.{Gives, IsToldOf, in_first, in_second, told_first, told_second};
+ghost use Rattle.rotation_checks.specs.SecondSignature.{first_tag, second_tag, judged_again, covers_member, is_chained};
+ghost use Rattle.rotation_checks.specs.Rotated.{rotated_keys};
 
 use crate::base::base_over;
 use crate::components::is_among;

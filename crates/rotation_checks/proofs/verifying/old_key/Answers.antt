@@ -1,5 +1,5 @@
-use Rattle.key_rotation.proofs.Told.{first_gives, first_told}
-use Rattle.key_rotation.proofs.verifying.old_key.Goals as goal
+use Rattle.rotation_checks.proofs.Told.{first_gives, first_told}
+use Rattle.rotation_checks.proofs.verifying.old_key.Goals as goal
 
 pub returns-clause-gives : goal.returns-clause-gives
 returns-clause-gives c = rw c.in_first.ensures (first_gives (λ id. id) c.judged_list.result _ (c.judged_list.ensures c.args.one.now.label.now))
