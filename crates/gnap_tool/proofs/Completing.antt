@@ -16,7 +16,7 @@ use Rattle.command_inputs.specs.declared.ended.Ended.TheVariants.{Done, NoSetup,
 use Rattle.command_inputs.specs.declared.ended.WrongSetup.{WrongSetup}
 use Rattle.command_inputs.specs.Configs.{setup_in}
 use Rattle.command_inputs.specs.Ends.{CountsWrites, Took, status_of}
-use Rattle.world_uses.specs.Uses.{Over, Unopened, Linked, BySetup, Follows, UsesWorld}
+use Rattle.world_uses.specs.Uses.{Over, Unopened, Linked, BySetup, Follows, UsesWorld, ended_service}
 use Rattle.world_uses.proofs.AfterConfig.{some_rest}
 use Rattle.command_words.specs.declared.command.Command.{Command}
 use Rattle.command_words.specs.declared.command.Command.TheVariants.{Replay, Field, Sign, Verify, Serve, Rs, Client, Hash, Load}
@@ -25,7 +25,7 @@ use Rattle.command_words.specs.declared.command.Service.TheVariants.{Grants, Der
 use Rattle.command_words.specs.declared.command.ServedSetup.{ServedSetup}
 use Rattle.gnap_tool.specs.Openings.{openings_of, input_place}
 use Rattle.gnap_tool.specs.Configs.{client_config_in, rs_setup_in, pairs_in}
-use Rattle.gnap_tool.specs.Runs.{ended_service, ServesSo, ServesBy, ServesGuarded, ServesRs, CarriesOut}
+use Rattle.gnap_tool.specs.Runs.{ServesSo, ServesBy, ServesGuarded, ServesRs, CarriesOut}
 use Rattle.gnap_tool.specs.Completeness.{ReadsAs, HoldsAt, ServiceHasSetup, HasItsSetup, NothingWentWrong, IsCompleted}
 
 -- ---- what was opened

@@ -16,8 +16,7 @@ use Rattle.outside.proofs.OpeningLemmas.{gives-gears, back-all}
 use Rattle.serving.specs.ServiceEnds.{has_failed, IsUsedUp, IsEndOfService}
 use Rattle.command_inputs.specs.declared.ended.Ended.{Ended}
 use Rattle.command_inputs.specs.declared.ended.Ended.TheVariants.{Done, Failed, Memory}
-use Rattle.gnap_tool.specs.Runs.{ended_service}
-use Rattle.world_uses.specs.Uses.{NothingFailed, AllButLast, UsesWorld, new_openings}
+use Rattle.world_uses.specs.Uses.{NothingFailed, AllButLast, UsesWorld, ended_service, new_openings}
 
 failed_gear : (gear : GearState) → has_failed gear ≡ true → gear.faults ≢ 0
 failed_gear gear is zero = let none : nat_lt 0 0 ≡ true = subst (λ n. nat_lt 0 n ≡ true) zero is in absurd cc
