@@ -2,7 +2,7 @@
 # shellcheck shell=sh disable=SC2034,SC2154
 
 # How long ./build takes on four processors, and the unproved program on one.
-minutes=40
+minutes=30
 seconds=80
 
 crate="$top/crates/gnap"

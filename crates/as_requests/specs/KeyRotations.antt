@@ -2,9 +2,9 @@
 use Rattle.std.specs.Prelude.{ℕ, Bool, true, false, Option, Some, None, Result, Ok, Err}
 use Rattle.std.specs.Str.{bytes_eq}
 use Rattle.bytes_and_lists.specs.declared.message.Message.{Message}
-use Rattle.key_rotation.specs.declared.fault.RotationFault.{RotationFault}
-use Rattle.key_rotation.specs.declared.verifying.RotatedKeys.{RotatedKeys}
-use Rattle.key_rotation.specs.Rotated.{rotated_keys}
+use Rattle.rotation_checks.specs.declared.fault.RotationFault.{RotationFault}
+use Rattle.rotation_checks.specs.declared.verifying.RotatedKeys.{RotatedKeys}
+use Rattle.rotation_checks.specs.Rotated.{rotated_keys}
 use Rattle.gnap_model.specs.Common.{Text}
 use Rattle.gnap_model.specs.declared.objects.Setup.{Setup}
 use Rattle.gnap_model.specs.declared.calls.Call.{Call}

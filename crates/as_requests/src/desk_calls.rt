@@ -163,7 +163,7 @@ fn route_step(
 /// with `InvalidResourceServer`, where `message_signature::verify` passes no signature with the setup's base, its keys and the tag `gnap`, or where the
 /// signature has no mark (`message_signature::mark_of`) and the call isn't an introspection, or where the signer's role isn't that of the call; the error that
 /// `gnap_objects::read_call` answers of the signer, the presented value and the body; `InvalidClient` where the call is a rotation that names a key, and
-/// `key_rotation::verify_rotation` doesn't answer that key as the one that made the second signature (RFC 9635, section 6.1.1); and else the call that was
+/// `rotation_checks::verify_rotation` doesn't answer that key as the one that made the second signature (RFC 9635, section 6.1.1); and else the call that was
 /// read. A call other than an introspection has the signature's mark.
 ///
 /// A body goes through unread until the signature passed. Err only where memory ran out, and nothing is changed then.

@@ -1,7 +1,7 @@
 //! Rotations that name a key, which has to sign too (RFC 9635, section 6.1.1).
 ghost use Rattle.std.specs.Prelude.{◌≡◌, IfOk};
 ghost use Rattle.std.specs.Option.{option_copied};
-ghost use Rattle.key_rotation.specs.Rotated.{rotated_keys};
+ghost use Rattle.rotation_checks.specs.Rotated.{rotated_keys};
 ghost use Rattle.as_requests.specs.Rings.{secrets_of};
 ghost use Rattle.as_requests.specs.KeyRotations.{named_key, is_new_key, is_signed_by_named};
 
@@ -10,7 +10,7 @@ use bytes_and_lists::bytes::Bytes;
 use bytes_and_lists::memory::Mem;
 use bytes_and_lists::message::Message;
 use gnap_model::calls::Call;
-use key_rotation::{RotationFault, verify_rotation};
+use rotation_checks::{RotationFault, verify_rotation};
 use std::alloc::Global;
 
 // The key that a rotation names, to which the token is to move.

@@ -2,7 +2,7 @@
 //!
 //! `desk_call` answers exactly what the definition of that name gives (`specs/DeskCalls.antt`), for every message, or that memory ran out: the route and
 //! its method (`specs/Routes.antt`), the signature and its mark (`message_signature`, `specs/Signers.antt`), the call that the body is (`gnap_objects`), and
-//! the second signature of a rotation that names a key (`key_rotation`, `specs/KeyRotations.antt`), in this order. Nothing here keeps a state or knows how a
+//! the second signature of a rotation that names a key (`rotation_checks`, `specs/KeyRotations.antt`), in this order. Nothing here keeps a state or knows how a
 //! message came and how an answer is printed. A call that is asked can be taken: its texts can be shown, it has at most 8 asks, and its mark, where it has
 //! one, a nonce of 1 to 64 bytes.
 //!

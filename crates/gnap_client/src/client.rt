@@ -13,7 +13,7 @@ use std::alloc::Global;
 use std::fmt;
 
 /// Where a grant stands, as its client knows it.
-#[derive(Clone, Copy, Debug, PartialEq, Eq)]
+#[derive(Clone, Copy, Debug)]
 pub enum State {
     /// Nothing was asked for yet.
     Fresh,

@@ -69,11 +69,7 @@ fn rotated(asked: &Asked, tokens: Tokens, token: TokenOut) -> Tokens
 {
     match asked {
         Asked::Rotation { token: i } => replaced(tokens, *i, token),
-        Asked::Grant { .. } => tokens,
-        Asked::Continuation => tokens,
-        Asked::Cancellation => tokens,
-        Asked::Revocation => tokens,
-        Asked::Resource => tokens,
+        _ => tokens,
     }
 }
 

@@ -1,3 +1,4 @@
 pub mod AskedSizes
 pub mod Given
+pub mod OneMore
 pub mod ReadParts

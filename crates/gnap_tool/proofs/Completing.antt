@@ -1,5 +1,5 @@
 -- A command of which nothing went wrong was carried out, unless memory ran out.
-use Rattle.std.proofs.Common.{◌≡◌, ◌∙◌, ℕ, ◌<◌, List, [], ◌∷◌, ◌++◌, length, refl, ap, sym, subst, arith, append_assoc, ◌⊎◌, inl, inr}
+use Rattle.std.proofs.Common.{◌≡◌, ◌∙◌, ℕ, ◌<◌, List, [], ◌∷◌, ◌++◌, length, refl, ap, subst, arith, append_assoc, ◌⊎◌, inl, inr}
 use Rattle.std.specs.Prelude.{Option, Some, None, IsSome, drop, slice_get, Result, Ok, Err}
 use Rattle.std.proofs.Math.Seq.{drop-append_seam}
 use Rattle.outside.specs.Outside.{Told, Served, IsRest}
@@ -9,7 +9,6 @@ use Rattle.outside.specs.Links.{LinkState}
 use Rattle.outside.specs.Worlds.{WorldState}
 use Rattle.outside.specs.declared.world.Opening.{Opening}
 use Rattle.outside.specs.Openings.{new_files}
-use Rattle.gnap_model.specs.declared.objects.Setup.{Setup}
 use Rattle.resource_server.specs.declared.setup.RsSetup.{RsSetup}
 use Rattle.rs_edge.specs.GuardedSteps.{GuardsKeeping}
 use Rattle.command_inputs.specs.declared.ended.Ended.{Ended}
@@ -17,7 +16,7 @@ use Rattle.command_inputs.specs.declared.ended.Ended.TheVariants.{Done, NoSetup,
 use Rattle.command_inputs.specs.declared.ended.WrongSetup.{WrongSetup}
 use Rattle.command_inputs.specs.Configs.{setup_in}
 use Rattle.command_inputs.specs.Ends.{CountsWrites, Took, status_of}
-use Rattle.world_uses.specs.Uses.{Over, Unopened, Linked, BySetup, Follows, UsesWorld}
+use Rattle.world_uses.specs.Uses.{Over, Unopened, Linked, BySetup, Follows, UsesWorld, ended_service}
 use Rattle.world_uses.proofs.AfterConfig.{some_rest}
 use Rattle.command_words.specs.declared.command.Command.{Command}
 use Rattle.command_words.specs.declared.command.Command.TheVariants.{Replay, Field, Sign, Verify, Serve, Rs, Client, Hash, Load}
@@ -26,8 +25,8 @@ use Rattle.command_words.specs.declared.command.Service.TheVariants.{Grants, Der
 use Rattle.command_words.specs.declared.command.ServedSetup.{ServedSetup}
 use Rattle.gnap_tool.specs.Openings.{openings_of, input_place}
 use Rattle.gnap_tool.specs.Configs.{client_config_in, rs_setup_in, pairs_in}
-use Rattle.gnap_tool.specs.Runs.{ended_service, ServesSo, ServesBy, ServesGuarded, ServesRs, CarriesOut}
-use Rattle.gnap_tool.specs.Completeness.{ReadsAs, HoldsAt, HoldsPairs, ServiceHasSetup, HasItsSetup, NothingWentWrong, IsCompleted}
+use Rattle.gnap_tool.specs.Runs.{ServesSo, ServesBy, ServesGuarded, ServesRs, CarriesOut}
+use Rattle.gnap_tool.specs.Completeness.{ReadsAs, HoldsAt, ServiceHasSetup, HasItsSetup, NothingWentWrong, IsCompleted}
 
 -- ---- what was opened
 

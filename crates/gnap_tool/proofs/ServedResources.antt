@@ -1,5 +1,5 @@
 -- What serving resources at an address does to the world.
-use Rattle.std.proofs.Common.{◌≡◌, ◌⊎◌, ℕ, List, [], ◌∷◌, refl, sym, subst, inl, inr}
+use Rattle.std.proofs.Common.{◌≡◌, ◌⊎◌, ℕ, List, [], ◌∷◌, refl, sym, subst, inl}
 use Rattle.std.specs.Prelude.{Option, Some, None, Result, Err}
 use Rattle.outside.specs.declared.world.Opening.TheVariants.{Gears, Link}
 use Rattle.outside.specs.declared.world.WorldFault.{WorldFault}
@@ -13,10 +13,10 @@ use Rattle.rs_edge.specs.RsServices.{IsRsService, not_linked, not_started, serve
 use Rattle.rs_edge.proofs.CachedTurns.{accounts_mean}
 use Rattle.command_inputs.specs.declared.ended.Ended.{Ended}
 use Rattle.command_inputs.specs.declared.ended.Ended.TheVariants.{Failed, Memory}
-use Rattle.gnap_tool.specs.Runs.{ServesGuarded, ServesRs, ended_service}
-use Rattle.world_uses.specs.Uses.{UsesWorld}
+use Rattle.gnap_tool.specs.Runs.{ServesGuarded, ServesRs}
+use Rattle.world_uses.specs.Uses.{UsesWorld, ended_service}
 use Rattle.world_uses.proofs.Linked.{uses_around}
-use Rattle.gnap_tool.proofs.ServedGears.{gears_used}
+use Rattle.world_uses.proofs.ServedGears.{gears_used}
 use Rattle.world_uses.proofs.Uses.{unopened_used}
 
 pub resources_used : {K : Type 0} (guards : GuardsKeeping K) (first last : K) (setup : RsSetup) (listen server : List ℕ) (quota : ℕ) (before after : WorldState)

@@ -1,5 +1,5 @@
 -- What serving a setup at an address does to the world.
-use Rattle.std.proofs.Common.{◌≡◌, ℕ, List, [], ◌∷◌, ◌⊎◌, refl, sym, subst, inl, inr}
+use Rattle.std.proofs.Common.{◌≡◌, ℕ, List, [], ◌∷◌, ◌⊎◌, refl, sym, subst, inl}
 use Rattle.std.specs.Prelude.{Option, None, Result, Err}
 use Rattle.outside.specs.declared.world.Opening.TheVariants.{Gears}
 use Rattle.outside.specs.declared.world.WorldFault.{WorldFault}
@@ -19,9 +19,9 @@ use Rattle.command_words.specs.declared.command.Service.{Service}
 use Rattle.command_words.specs.declared.command.Service.TheVariants.{Grants, Derivations, Sets}
 use Rattle.command_words.specs.declared.command.ServedSetup.{ServedSetup}
 use Rattle.gnap_tool.specs.Openings.{service_openings}
-use Rattle.gnap_tool.specs.Runs.{ServesBy, ended_service}
-use Rattle.gnap_tool.proofs.ServedGears.{gears_used}
-use Rattle.world_uses.specs.Uses.{UsesWorld}
+use Rattle.gnap_tool.specs.Runs.{ServesBy}
+use Rattle.world_uses.proofs.ServedGears.{gears_used}
+use Rattle.world_uses.specs.Uses.{UsesWorld, ended_service}
 use Rattle.world_uses.proofs.Uses.{unopened_used}
 
 -- each of the servers

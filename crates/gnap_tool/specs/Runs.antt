@@ -37,7 +37,7 @@ use Rattle.signed_files.specs.SignedText.{SignsFile}
 use Rattle.signed_files.specs.Verdicts.{VerifiesFile}
 use Rattle.gnap_model.specs.declared.objects.Setup.{Setup}
 use Rattle.gnap_objects.specs.Setups.{IsSetup}
-use Rattle.world_uses.specs.Uses.{Over, Unopened, Linked, BySetup, ended_by_fault}
+use Rattle.world_uses.specs.Uses.{Over, Unopened, Linked, BySetup, ended_service}
 
 -- What a file is used for, of which these bytes were taken, and which has this rest.
 abbrev pub Answers : Purpose → List ℕ → List ℕ → Told → Told → Ended → Type 0
@@ -62,11 +62,6 @@ input_of (purposes.Sign setup key created _) = None
 input_of (purposes.Verify setup now) = None
 
 -- ---- a server at an address
-
--- how a command ends by what serving at an address answered
-abbrev pub ended_service : Result (Unit {0}) WorldFault → Ended
-ended_service (Ok done) = Done
-ended_service (Err fault) = ended_by_fault fault
 
 -- Something was to be served. Nothing was opened, for a fault or for want of memory; or it was served as this says, and so the command ended.
 abbrev pub ServesSo : (Result (Unit {0}) WorldFault → Type 0) → WorldState → WorldState → Ended → Type 0

@@ -2,7 +2,7 @@
 use bytes_and_lists::bytes::Bytes;
 use command_inputs::{ConfigKind, Ended, WrongSetup};
 use command_words::telling::{tell, tell_number, tell_shown};
-use command_words::{Command, Service};
+use command_words::{Command, Service, WrongWords, explain_count, explain_name, explain_word};
 use fault_places::FaultPlace;
 use gnap_objects::{ObjectFault, SetupFault};
 use outside::device::{Sink, write_all};
@@ -267,4 +267,14 @@ pub(crate) fn explain<E: Sink>(err: &mut E, command: &Command, ended: &Ended) {
     tell(err, &[b"gnap: ", front]);
     tell_files(err, command);
     tell(err, &[back]);
+}
+
+/// Tells what is wrong with the words, where they are no command.
+pub(crate) fn explain_words<E: Sink>(err: &mut E, words: &[String], wrong: WrongWords) {
+    match wrong {
+        WrongWords::NoCommand => explain_name(err, words),
+        WrongWords::Count => explain_count(err, words),
+        WrongWords::Word(place, form) => explain_word(err, words, place, form),
+        WrongWords::OutOfMemory => {}
+    }
 }

@@ -4,10 +4,10 @@ ghost use Rattle.outside.specs.Outside.{Told};
 ghost use Rattle.serving.specs.ServiceEnds.{HaveServedJust};
 ghost use Rattle.gnap_objects.specs.Setups.{IsSetup};
 ghost use Rattle.command_inputs.specs.Ends.{CountsWrites};
-ghost use Rattle.world_uses.specs.Uses.{UsesWorld};
+ghost use Rattle.world_uses.specs.Uses.{UsesWorld, ended_service};
 ghost use Rattle.command_words.specs.Commands.{AreFewWorkers};
 ghost use Rattle.gnap_tool.specs.Openings.{service_openings};
-ghost use Rattle.gnap_tool.specs.Runs.{CarriesOut, ServesBy, ended_service};
+ghost use Rattle.gnap_tool.specs.Runs.{CarriesOut, ServesBy};
 ghost use Rattle.command_words.specs.declared.command.Service.TheVariants.{Derivations};
 
 use crate::config::PairsReader;
@@ -61,7 +61,10 @@ fn serve_deriving<R: Threads + Wait + Sync, W: World>(
             served.workers,
             served.quota,
         )),
-        Err(ended) => ended,
+        Err(ended) => {
+            drop(setup);
+            ended
+        }
     }
 }
 

@@ -388,14 +388,3 @@ code_left moment number f old new changes stays = ap (open_code moment) (ap (λ 
     by : (b : Bool) → (if b then f old.row.value else old.row.value).round ≡ old.row.value.round
     by true = stays old.row.value
     by false = refl
-
--- lists with the same codes
-pub relisted : (moment : ℕ) (codes more : OpenCodes) (places : List GrantPlace) → AreCodesListed moment codes places
-    → ((i : ℕ) → get_or more.lists.items i [] ≡ get_or codes.lists.items i []) → more.complete ≡ codes.complete
-    → AreCodesListed moment more places
-relisted moment codes more places are lists complete = record {
-  open_under = λ code number h. are.open_under code number (subst (λ (os : List Listed). HasItem os (under code number)) (lists (code / 20 ^ 7)) h);
-  listed = λ all p h. if_more (IsCodeListed codes p.number) (IsCodeListed more p.number) (code_at moment p)
-      (λ text l. (l.0, l.1, subst (λ (os : List Listed). HasItem os (under l.0 p.number)) (sym (lists (l.0 / 20 ^ 7))) l.2))
-      (are.listed (sym complete ∙ all) p h);
-}

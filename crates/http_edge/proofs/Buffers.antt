@@ -9,6 +9,9 @@ use Rattle.http_edge.proofs.Fronts.{nat_split}
 pub length_between : (xs : List ℕ) (i j : ℕ) → i ≤ j → j ≤ length xs → length (slice_range xs i j) ≡ j - i
 length_between xs i j order within = omega (arith, length-take (j - i) (drop i xs), length-drop i xs)
 
+pub few_between : (xs : List ℕ) (i j most : ℕ) → length xs ≤ most → length (slice_range xs i j) ≤ most
+few_between xs i j most few = omega (arith, few, length-take (j - i) (drop i xs), length-drop i xs)
+
 -- what stands before a place depends on the bytes before it alone
 pub between_same : (xs ys : List ℕ) (i j n : ℕ) → j ≤ n → take n xs ≡ take n ys → slice_range xs i j ≡ slice_range ys i j
 between_same xs ys i j n within e =
@@ -44,9 +47,23 @@ read_behind c d s end count order front =
     between_more d s end count order ∙ ap (λ (t : List ℕ). t ++ take count (drop end d)) (between_same d c s end end (omega arith) front)
 
 -- there is room within the limit, whether the bytes were moved to the front or not
-pub room_left : (len start end s room : ℕ) → s ≤ start → start ≤ end → end ≤ len → len ≤ 81920 → (end - start) + room ≤ 81920
+room_left : (len start end s room : ℕ) → s ≤ start → start ≤ end → end ≤ len → len ≤ 81920 → (end - start) + room ≤ 81920
     → (len < end + room → s ≡ 0) → end - (start - s) + room ≤ 81920
 room_left len start end s room before order within bound fits moves = elim (nat_split (end + room) len) [
   | inl le ↦ omega arith
   | inr lt ↦ let front : s ≡ 0 = moves lt in omega arith
 ]
+
+-- the bytes were moved to s, the buffer was made longer, and it was read into: they stand within it, and it is within the limit
+pub stays_within : (b c d e held : List ℕ) (start end s room : ℕ) → (start ≤ end) × (end ≤ length b) × (length b ≤ 81920)
+    → slice_range b start end ≡ held → length held + room ≤ 81920 → s ≤ start → length c ≡ length b → (length b < end + room → s ≡ 0)
+    → take (length c) d ≡ c → ((n : ℕ) → end - (start - s) + room ≤ n → length c ≤ n → length d ≤ n) → length e ≡ length d
+    → (s ≤ end - (start - s)) × (end - (start - s) ≤ length e) × (length e ≤ 81920)
+stays_within b c d e held start end s room inside view fits before moved_len moves longer bound len =
+    let view_len = length_between b start end inside.0 inside.1 in
+    let room_fits = room_left (length b) start end s room before inside.0 inside.1 inside.2 (omega (arith, view_len, ap length view, fits)) moves in
+    let few = bound 81920 room_fits (omega (arith, moved_len, inside.2)) in (
+      omega (arith, before, inside.0),
+      omega (arith, before, inside.0, inside.1, moved_len, ap length longer, length-take (length c) d, len),
+      omega (arith, few, len),
+    )

@@ -2,10 +2,12 @@
 use Rattle.std.proofs.Common.{◌≡◌, ℕ, ◌+◌, ◌-◌, ◌<◌, ◌≤◌, ◌⊎◌, List, [], ◌++◌, length, take, drop, sym, ap, ◌∙◌, subst, arith, append_assoc, append-nil, length-append, inl, inr, Bool, true}
 use Rattle.std.specs.Prelude.{Some, None, Ok, Err}
 use Rattle.bytes_and_lists.specs.declared.message.Message.{Message}
-use Rattle.outside.specs.Outside.{Told, Takes, Reads, IsAtEnd}
+use Rattle.outside.specs.Outside.{Told, Takes, Reads, IsAtEnd, Rose}
 use Rattle.outside.proofs.Devices.{takes_none, takes_then}
 use Rattle.http_edge.specs.declared.fault.EdgeFault.{EdgeFault}
 use Rattle.http_edge.specs.declared.fault.EdgeFault.TheVariants as faults
+use Rattle.http_edge.specs.declared.held.Arrival.{Arrival}
+use Rattle.http_edge.specs.declared.held.Arrival.TheVariants as arrival
 use Rattle.http_edge.specs.declared.places.LinePlace.{LinePlace}
 use Rattle.http_edge.specs.declared.places.LinePlace.TheVariants.{BlankLines}
 use Rattle.http_edge.specs.Limits.{message_limit}
@@ -14,7 +16,7 @@ use Rattle.http_edge.specs.Reads.{HasFault, IsNextMessage, CountsReadFault}
 use Rattle.std.proofs.lemmas.List.{nil_from_length, length-take, take_rest, drop_at}
 use Rattle.std.specs.List.{fold}
 use Rattle.std.proofs.lemmas.List.Sums.{fold-append}
-use Rattle.http_edge.specs.Steps.{next_line_place, Grows, IsProgressFault, IsProgress}
+use Rattle.http_edge.specs.Steps.{next_line_place, Grows, HasArrived, IsProgressFault, IsProgress}
 
 pub grows_none : (held : List ℕ) (told : Told) → Grows held held told told
 grows_none held told = record { came = []; takes = takes_none told; behind = sym (append-nil held) }
@@ -46,6 +48,16 @@ grows_by held new rest a b count e reads some within = (
   record { came = take count rest; takes = reads.takes; behind = e },
   omega (arith, ap length e, length-append held (take count rest), length-take count rest),
 )
+
+-- what the last of several reads did is what they did together
+pub arrived_then : (how : Arrival) (held mid new : List ℕ) (a m b : Told) (was kept now : ℕ) → Grows held mid a m → length held ≤ length mid → kept ≡ was
+    → HasArrived how mid new m b kept now → HasArrived how held new a b was now
+arrived_then arrival.More held mid new a m b was kept now grows longer same more =
+    (grows_then held mid new a m b grows more.0, omega (arith, longer, more.1), more.2 ∙ same)
+arrived_then arrival.End held mid new a m b was kept now grows longer same end = (grows_then held mid new a m b grows end.0, end.1, end.2 ∙ same)
+arrived_then arrival.Failed held mid new a m b was kept now grows longer same failed =
+    (grows_then held mid new a m b grows failed.0, subst (λ (n : ℕ). Rose n now) same failed.1)
+arrived_then arrival.Memory held mid new a m b was kept now grows longer same none = (grows_then held mid new a m b grows none.0, none.1 ∙ same)
 
 -- nothing was taken, so nothing came
 pub none_came : (held new : List ℕ) (told : Told) → Grows held new told told → new ≡ held

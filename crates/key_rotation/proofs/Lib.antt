@@ -1,4 +1,1 @@
-mod RotationLines
-mod Told
-pub mod Members
 pub mod SecondBase

@@ -22,10 +22,10 @@ use Rattle.message_signature.specs.Verified.{has_body, has_field, signature_fiel
 use Rattle.message_signature.specs.Signed.{with_fields, component_item, params_of, label}
 use Rattle.message_signature.proofs.SignedFields.{names, params_range, params_distinct}
 use Rattle.message_signature.proofs.SignedBase.{there_is}
-use Rattle.key_rotation.specs.RotationBase.{rotation_lines, base_with, rotation_base}
-use Rattle.key_rotation.specs.SecondSignature.{second_tag}
+use Rattle.rotation_checks.specs.RotationBase.{rotation_lines, base_with, rotation_base}
+use Rattle.rotation_checks.specs.SecondSignature.{second_tag}
 use Rattle.key_rotation.specs.SignedRotation.{is_inner, has_only_first, are_first_alone, is_signed, member_item, rotation_input, second_lines, signed_rotation}
-use Rattle.key_rotation.proofs.Members.{members_are}
+use Rattle.rotation_checks.proofs.Members.{members_are}
 
 -- ---- what it covers: the digest of a body, an access token, and the first signature
 

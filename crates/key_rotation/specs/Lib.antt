@@ -1,5 +1,1 @@
-pub mod RotationBase
-pub mod Faults
-pub mod SecondSignature
-pub mod Rotated
 pub mod SignedRotation

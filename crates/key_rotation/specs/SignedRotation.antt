@@ -14,8 +14,8 @@ use Rattle.message_signature.specs.declared.fault.SigFault.{SigFault}
 use Rattle.message_signature.specs.declared.tags.SignatureFields.{SignatureFields}
 use Rattle.message_signature.specs.Verified.{has_body, has_field, signature_fields}
 use Rattle.message_signature.specs.Signed.{with_fields, covered, component_item, params_of, lines_under, label}
-use Rattle.key_rotation.specs.RotationBase.{rotation_base}
-use Rattle.key_rotation.specs.SecondSignature.{second_tag}
+use Rattle.rotation_checks.specs.RotationBase.{rotation_base}
+use Rattle.rotation_checks.specs.SecondSignature.{second_tag}
 
 -- ---- what can be signed again
 

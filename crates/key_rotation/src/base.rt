@@ -1,23 +1,15 @@
-//! The base of a signature that covers another one (RFC 9421, section 2.5).
-ghost use Rattle.std.specs.Prelude.{◌≡◌, ◌++◌, Some, Ok, IfOk, option_map};
-ghost use Rattle.structured_fields.specs.Canonical.{item_text};
+//! The base of a signature that covers another one (RFC 9421, section 2.5), by what the two fields of the message have.
+ghost use Rattle.std.specs.Prelude.{◌≡◌, IfOk};
 ghost use Rattle.message_signature.specs.Faults.{GivesBase};
-ghost use Rattle.message_signature.specs.Verified.{signature_fields};
-ghost use Rattle.key_rotation.specs.RotationBase.{members_of, signature_members, value_of, line_with, rotation_line, rotation_lines, base_with, rotation_base};
+ghost use Rattle.rotation_checks.specs.RotationBase.{members_of, signature_members, rotation_base};
 
-use crate::components::{append_value, is_among, label_in, string_of};
 use bytes_and_lists::bytes::Bytes;
 use bytes_and_lists::memory::Mem;
 use bytes_and_lists::message::Message;
-use message_signature::{
-    BaseFault, SignatureFields, append_bytes, append_params_line, field_value, others_behind,
-};
+use message_signature::{BaseFault, SignatureFields, field_value};
+use rotation_checks::base_with;
 use std::alloc::Global;
-use structured_fields::{
-    Dictionary, FieldFault, InnerList, Item, Items, append_item, read_dictionary,
-};
-
-// ---- the members of the two fields
+use structured_fields::{Dictionary, FieldFault, InnerList, read_dictionary};
 
 fn members_of(alloc: Global, message: &Message, name: &[u8]) -> Result<Dictionary, Mem>
     ensures { IfOk result (λ members. members ≡ members_of message.now name.now) }
@@ -39,108 +31,6 @@ fn signature_members(alloc: Global, message: &Message) -> Result<SignatureFields
         inputs: members_of(alloc, message, b"signature-input")?,
         signatures: members_of(alloc, message, b"signature")?,
     })
-}
-
-// ---- the lines
-
-// The text with the canonical text of the item behind it.
-fn append_name(alloc: Global, text: Bytes, item: &Item) -> Result<Bytes, BaseFault>
-    ensures { GivesBase (λ b. b) result (Some (text ++ item_text item.now)) }
-{
-    Ok(append_item(alloc, text, item)?)
-}
-
-// The text with the line of a component of this name behind it. Unsupported exactly where it has no value.
-fn append_valued(
-    alloc: Global,
-    text: Bytes,
-    message: &Message,
-    base: &Bytes,
-    fields: &SignatureFields,
-    name: &[u8],
-    item: &Item,
-) -> Result<Bytes, BaseFault>
-    ensures { GivesBase (λ b. b) result
-        (option_map (λ line. text ++ line) (line_with item.now (value_of message.now base.now fields.now name.now item.now.params))) }
-{
-    let named = append_name(alloc, text, item)?;
-    let parted = append_bytes(named, b": ")?;
-    let valued = append_value(alloc, parted, message, base, fields, name, &item.params)?;
-    append_bytes(valued, b"\n")
-}
-
-fn append_line(
-    alloc: Global,
-    text: Bytes,
-    message: &Message,
-    base: &Bytes,
-    fields: &SignatureFields,
-    item: &Item,
-    others: &[Item],
-) -> Result<Bytes, BaseFault>
-    ensures { GivesBase (λ b. b) result (option_map (λ line. text ++ line) (rotation_line message.now base.now fields.now item.now others.now)) }
-{
-    let Some(name) = string_of(&item.bare) else {
-        return Err(BaseFault::Unsupported);
-    };
-    let name = name.as_slice();
-    if is_among(name, label_in(name, &item.params), others) {
-        return Err(BaseFault::Unsupported);
-    }
-    append_valued(alloc, text, message, base, fields, name, item)
-}
-
-fn lines_of(
-    alloc: Global,
-    message: &Message,
-    base: &Bytes,
-    fields: &SignatureFields,
-    items: &Items,
-) -> Result<Bytes, BaseFault>
-    ensures { GivesBase (λ b. b) result (rotation_lines message.now base.now fields.now items.now) }
-{
-    let mut text = Bytes::new(alloc);
-    for i in 0..items.len() {
-        text = append_line(
-            alloc,
-            text,
-            message,
-            base,
-            fields,
-            items.at(i),
-            others_behind(items, i),
-        )?;
-    }
-    Ok(text)
-}
-
-// The base where the two fields of signatures have these members.
-#[tactic(auto, unfolding(crate::specs::RotationBase::base_with))]
-fn base_with(
-    alloc: Global,
-    message: &Message,
-    base: &Bytes,
-    fields: &SignatureFields,
-    list: &InnerList,
-) -> Result<Bytes, BaseFault>
-    ensures { GivesBase (λ b. b) result (base_with message.now base.now fields.now list.now) }
-{
-    let lines = lines_of(alloc, message, base, fields, &list.items)?;
-    append_params_line(alloc, lines, list)
-}
-
-/// `rotation_base` of a message whose two fields were read.
-pub(crate) fn base_over(
-    alloc: Global,
-    message: &Message,
-    base: &Bytes,
-    fields: &SignatureFields,
-    list: &InnerList,
-) -> Result<Bytes, BaseFault>
-    requires { signature_fields message.now ≡ Ok fields.now }
-    ensures { GivesBase (λ b. b) result (rotation_base message.now base.now list.now) }
-{
-    base_with(alloc, message, base, fields, list)
 }
 
 /// The signature base of a message to the server with this base, under a list of covered components (RFC 9421, section 2.5), where `signature` and

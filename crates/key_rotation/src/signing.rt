@@ -5,11 +5,10 @@ ghost use Rattle.std.specs.Option.{option_copied};
 ghost use Rattle.structured_fields.specs.Letters.{is_string_byte};
 ghost use Rattle.hmac_key.specs.Hmac.{hmac_sha256};
 ghost use Rattle.message_signature.specs.Verified.{has_body, has_field, signature_fields};
-ghost use Rattle.key_rotation.specs.RotationBase.{rotation_base};
+ghost use Rattle.rotation_checks.specs.RotationBase.{rotation_base};
 ghost use Rattle.key_rotation.specs.declared.fault.RotationSignFault.TheVariants.{NotSigned};
 ghost use Rattle.key_rotation.specs.SignedRotation.{is_inner, has_only_first, is_signed, member_item, rotation_input, signed_rotation};
 
-use crate::base::base_over;
 use crate::fault::RotationSignFault;
 use bytes_and_lists::bytes::Bytes;
 use bytes_and_lists::memory::Mem;
@@ -19,6 +18,7 @@ use message_signature::{
     BaseFault, SigFault, SignatureFields, covered_items, has_field, signature_fields,
     signature_lines, signature_params,
 };
+use rotation_checks::base_over;
 use std::alloc::Global;
 use structured_fields::{Bare, InnerList, Item, Items, Member, Params};
 

@@ -20,7 +20,8 @@ use Rattle.message_signature.specs.Components.{field_value}
 use Rattle.message_signature.specs.Faults.{◌>>=◌, need, Fails}
 use Rattle.message_signature.specs.Lone.{read_tagged, bytes_in, formed}
 use Rattle.message_signature.specs.Verified.{Signature, is_well_formed, with_tag, signature_under, signature_fields, tagged_in, tagged, judged, verified}
-use Rattle.message_signature.specs.Marked.{id_and_mark, judged_with_mark}
+use Rattle.message_signature.specs.Marked.{judged_with_mark, id_and_mark, verified_marked}
+use Rattle.message_signature.proofs.VerifiedParts.{id_and_mark_is}
 
 abbrev Entry : Type 0
 Entry = List ℕ × Member
@@ -126,6 +127,11 @@ no_bytes label (Some d) h = absurd cc
 
 -- ---- the chain
 
+-- the fault of the first step is the answer
+pub fails_first : {A B : Type 0} (r : Result A SigFault) (f : A → Result B SigFault) (e : SigFault) → Fails e r → Fails e (r >>= f)
+fails_first r f OutOfMemory h = tt
+fails_first {A = A} r f e h = ap (λ (x : Result A SigFault). x >>= f) h
+
 -- a step that fails, whatever is made of its value
 fails_behind : {A B C : Type 0} (f : SigFault) (g : A → B) (o : Option A) (k : A → Result C SigFault) (e : SigFault) → need f (option_map g o) ≡ Err e
     → (need f o >>= k) ≡ Err e
@@ -141,8 +147,7 @@ module _ (input signature tag : List ℕ) where
   rest inputs = need NotAField (dictionary_of signature) >>= λ signatures. tagged_in tag (record { inputs = inputs; signatures = signatures })
 
   pub input_fails : (e : SigFault) → Fails e (need NotAField (dictionary_of input)) → Fails e (read_tagged input signature tag)
-  input_fails OutOfMemory h = tt
-  input_fails e h = ap (λ (r : Result (List Entry) SigFault). r >>= rest) h
+  input_fails e h = fails_first (need NotAField (dictionary_of input)) rest e h
 
   module _ (d : List Entry) (reads : dictionary_of input ≡ Some d) where
     pub signature_fails : (label : List ℕ) (e : SigFault) → Fails e (need NotAField (option_map (signature_under label) (dictionary_of signature)))
@@ -179,16 +184,16 @@ module _ (input signature tag : List ℕ) where
 -- ---- by the fields of a message
 
 module _ (m : Message) (tag : List ℕ) where
-  pub no_input : (e : SigFault) → Fails e (need NoField (field_value (codes "signature-input") m.fields)) → Fails e (tagged m tag)
+  pub no_fields : (e : SigFault) → Fails e (signature_fields m) → Fails e (tagged m tag)
   unfolding tagged
-  no_input OutOfMemory h = tt
-  no_input e h = rw h refl
+  no_fields e h = fails_first (signature_fields m) (tagged_in tag) e h
+
+  pub no_input : (e : SigFault) → Fails e (need NoField (field_value (codes "signature-input") m.fields)) → Fails e (tagged m tag)
+  no_input e h = no_fields e (fails_first (need NoField (field_value (codes "signature-input") m.fields)) _ e h)
 
   module _ (input : List ℕ) (input_is : need NoField (field_value (codes "signature-input") m.fields) ≡ Ok input) where
     pub no_signature : (e : SigFault) → Fails e (need NoField (field_value (codes "signature") m.fields)) → Fails e (tagged m tag)
-    unfolding tagged
-    no_signature OutOfMemory h = tt
-    no_signature e h = rw (input_is, h) refl
+    no_signature e h = no_fields e (rw input_is (fails_first (need NoField (field_value (codes "signature") m.fields)) _ e h))
 
     pub by_texts : (signature : List ℕ) → need NoField (field_value (codes "signature") m.fields) ≡ Ok signature
         → tagged m tag ≡ read_tagged input signature tag
@@ -204,11 +209,6 @@ module _ (m : Message) (tag : List ℕ) where
         by (Some a) (Some b) = refl
 
   -- by both dictionaries
-  pub no_fields : (e : SigFault) → Fails e (signature_fields m) → Fails e (tagged m tag)
-  unfolding tagged
-  no_fields OutOfMemory h = tt
-  no_fields e h = rw h refl
-
   pub by_fields : (fields : SignatureFields) → signature_fields m ≡ Ok fields → tagged m tag ≡ tagged_in tag fields
   unfolding tagged
   by_fields fields is = rw is refl
@@ -216,20 +216,19 @@ module _ (m : Message) (tag : List ℕ) where
 -- ---- what is verified by it
 
 module _ (m : Message) (base : List ℕ) (ring : List (List ℕ × List ℕ)) (now : ℕ) (tag : List ℕ) where
-  pub verified_by : (one : Signature) → tagged m tag ≡ Ok one → verified m base ring now tag ≡ judged m base ring now one
+  pub verified_by : (found : Result Signature SigFault) → tagged m tag ≡ found → verified m base ring now tag ≡ (found >>= judged m base ring now)
   unfolding verified
-  verified_by one e = rw e refl
+  verified_by found e = ap (λ (r : Result Signature SigFault). r >>= judged m base ring now) e
 
   pub verified_fails : (e : SigFault) → Fails e (tagged m tag) → Fails e (verified m base ring now tag)
   unfolding verified
-  verified_fails OutOfMemory h = tt
-  verified_fails e h = rw h refl
+  verified_fails e h = fails_first (tagged m tag) (judged m base ring now) e h
 
-  pub marked_by : (one : Signature) → tagged m tag ≡ Ok one → id_and_mark m base ring now tag ≡ judged_with_mark m base ring now one
+  pub marked_by : (found : Result Signature SigFault) → tagged m tag ≡ found
+      → verified_marked m base ring now tag ≡ (found >>= judged_with_mark m base ring now)
   unfolding id_and_mark
-  marked_by one e = rw e refl
+  marked_by found e = sym (id_and_mark_is m base ring now tag) ∙ ap (λ (r : Result Signature SigFault). r >>= judged_with_mark m base ring now) e
 
-  pub marked_fails : (e : SigFault) → Fails e (tagged m tag) → Fails e (id_and_mark m base ring now tag)
+  pub marked_fails : (e : SigFault) → Fails e (tagged m tag) → Fails e (verified_marked m base ring now tag)
   unfolding id_and_mark
-  marked_fails OutOfMemory h = tt
-  marked_fails e h = rw h refl
+  marked_fails e h = subst (Fails e) (id_and_mark_is m base ring now tag) (fails_first (tagged m tag) (judged_with_mark m base ring now) e h)

@@ -11,6 +11,10 @@ abbrev pub ◌>>=◌ : {A B : Type 0} → Result A SigFault → (A → Result B 
 (Ok x) >>= f = f x
 (Err e) >>= f = Err e
 
+-- the same by its name
+abbrev pub and_then : {A B : Type 0} → (A → Result B SigFault) → Result A SigFault → Result B SigFault
+and_then f r = r >>= f
+
 -- what is there, or the fault
 abbrev pub need : {A : Type 0} → SigFault → Option A → Result A SigFault
 need fault (Some x) = Ok x

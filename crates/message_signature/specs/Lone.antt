@@ -7,6 +7,8 @@ use Rattle.content_digest.specs.Digest.{binary_of}
 use Rattle.message_signature.specs.declared.fault.SigFault.{SigFault}
 use Rattle.message_signature.specs.declared.fault.SigFault.TheVariants.{NotAField, Malformed}
 use Rattle.message_signature.specs.declared.lone.LoneSignature.{LoneSignature}
+use Rattle.message_signature.specs.declared.reading.ReadSignature.{ReadSignature}
+use Rattle.message_signature.specs.declared.reading.ReadSignature.TheVariants.{Alone, Among}
 use Rattle.message_signature.specs.Faults.{◌>>=◌, need, must}
 use Rattle.message_signature.specs.Verified.{Signature, is_well_formed, tagged_in}
 
@@ -32,3 +34,8 @@ formed label list o = do
 -- a signature as the code holds it, which stands under a label
 abbrev pub lone_seen : List ℕ → LoneSignature → Signature
 lone_seen label one = record { label = label; list = one.list; bytes = one.bytes }
+
+-- the signature with the tag by what was read of the two fields: one that was read by itself stands under some label
+abbrev pub tagged_read : List ℕ → List ℕ → ReadSignature → Result Signature SigFault
+tagged_read label tag (Alone one) = Ok (lone_seen label one)
+tagged_read label tag (Among fields) = tagged_in tag fields

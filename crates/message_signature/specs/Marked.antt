@@ -16,15 +16,14 @@ with_mark mark (Err fault) = Err fault
 abbrev pub verified_marked : Message → List ℕ → List (List ℕ × List ℕ) → ℕ → List ℕ → Result (List ℕ × Option SignatureMark) SigFault
 verified_marked m base ring now tag = with_mark (mark_of m tag) (verified m base ring now tag)
 
--- the same, as it is worked out: the mark is that of the list whose signature is judged
-unfoldable pub id_and_mark : Message → List ℕ → List (List ℕ × List ℕ) → ℕ → List ℕ → Result (List ℕ × Option SignatureMark) SigFault
-id_and_mark m base ring now tag = do
-  one ← tagged m tag
-  id ← judged m base ring now one
-  Ok (id, mark_in one.list)
-
 -- the id of the key of a signature that was found, with the mark of its list
 abbrev pub judged_with_mark : Message → List ℕ → List (List ℕ × List ℕ) → ℕ → Signature → Result (List ℕ × Option SignatureMark) SigFault
 judged_with_mark m base ring now one = do
   id ← judged m base ring now one
   Ok (id, mark_in one.list)
+
+-- what `verified_marked` gives, as it is worked out: the mark is that of the list whose signature is judged
+unfoldable pub id_and_mark : Message → List ℕ → List (List ℕ × List ℕ) → ℕ → List ℕ → Result (List ℕ × Option SignatureMark) SigFault
+id_and_mark m base ring now tag = do
+  one ← tagged m tag
+  judged_with_mark m base ring now one

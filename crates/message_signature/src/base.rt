@@ -1,8 +1,6 @@
 //! The signature base (RFC 9421, section 2.5).
 ghost use Rattle.std.specs.Prelude.{◌≡◌, ◌+◌, ◌<◌, ◌++◌, [], length, drop, Some, IfOk};
 ghost use Rattle.std.specs.Option.{option_copied, option_map};
-ghost use Rattle.structured_fields.specs.Canonical.{bare_text};
-ghost use Rattle.structured_fields.specs.declared.bare.Bare.TheVariants.{Str};
 ghost use Rattle.message_signature.specs.Faults.{GivesBase};
 ghost use Rattle.message_signature.specs.Base.{is_named, name_of, line_of, base_lines, params_line, signature_base};
 
@@ -32,16 +30,6 @@ fn name_of(item: &Item) -> Option<&Bytes>
     }
 }
 
-// The text with the name of the item behind it.
-fn append_name(alloc: Global, text: Bytes, item: &Item) -> Result<Bytes, BaseFault>
-    ensures { GivesBase (λ b. b) result (option_map (λ name. text ++ bare_text (Str name)) (name_of item.now)) }
-{
-    if name_of(item).is_none() {
-        return Err(BaseFault::Unsupported);
-    }
-    Ok(append_item(alloc, text, item)?)
-}
-
 fn append_line(
     alloc: Global,
     text: Bytes,
@@ -58,7 +46,7 @@ fn append_line(
     if is_named(name.as_slice(), others) {
         return Err(BaseFault::Unsupported);
     }
-    let text = append_name(alloc, text, item)?;
+    let text = append_item(alloc, text, item)?;
     let text = append_bytes(text, b": ")?;
     let text = append_component(alloc, text, message, base, name.as_slice())?;
     append_bytes(text, b"\n")

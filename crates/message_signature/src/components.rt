@@ -32,6 +32,17 @@ impl FieldValue<'_> {
     }
 }
 
+// The text with both behind it.
+#[tactic(auto, using(std::proofs::Common::append_assoc))]
+fn with_both(text: Bytes, front: &[u8], back: &[u8]) -> Result<Bytes, Mem>
+    ensures { IfOk result (λ b. b ≡ text ++ (front.now ++ back.now)) }
+{
+    let mut out = text;
+    out.extend(front)?;
+    out.extend(back)?;
+    Ok(out)
+}
+
 // What is joined so far, and one more value behind it.
 fn with_next<'a>(
     alloc: Global,
@@ -40,14 +51,12 @@ fn with_next<'a>(
 ) -> Result<FieldValue<'a>, Mem>
     ensures { IfOk result (λ v. text_of v ≡ with_next (option_map text_of so_far.entry) value.now) }
 {
-    let mut text = match so_far {
+    let text = match so_far {
         None => return Ok(FieldValue::Line(value)),
         Some(FieldValue::Line(line)) => Bytes::from_slice(alloc, line)?,
         Some(FieldValue::Joined(text)) => text,
     };
-    text.extend(b", ")?;
-    text.extend(value)?;
-    Ok(FieldValue::Joined(text))
+    Ok(FieldValue::Joined(with_both(text, b", ", value)?))
 }
 
 /// The value of a field (section 2.1): those of its lines without outer blanks, with `, ` between them. None exactly where no line has the name.
@@ -67,22 +76,7 @@ pub fn field_value<'a>(
     Ok(found)
 }
 
-// The text with the value of a field behind it. Unsupported exactly where no line has the name.
-fn append_field(
-    alloc: Global,
-    text: Bytes,
-    fields: &Fields,
-    name: &[u8],
-) -> Result<Bytes, BaseFault>
-    ensures { GivesBase (λ b. b) result (option_map (λ v. text ++ v) (field_value name.now fields.now)) }
-{
-    match field_value(alloc, fields, name)? {
-        Some(value) => append_bytes(text, value.as_slice()),
-        None => Err(BaseFault::Unsupported),
-    }
-}
-
-// The same of a component that isn't derived.
+// The text with the value of a component behind it that isn't derived. Unsupported exactly where no line has the name, or it can be no field's.
 fn append_other(
     alloc: Global,
     text: Bytes,
@@ -94,7 +88,10 @@ fn append_other(
     if begins_with_at(name) || has_upper(name) {
         return Err(BaseFault::Unsupported);
     }
-    append_field(alloc, text, fields, name)
+    match field_value(alloc, fields, name)? {
+        Some(value) => append_bytes(text, value.as_slice()),
+        None => Err(BaseFault::Unsupported),
+    }
 }
 
 fn has_line(fields: &Fields, name: &[u8]) -> bool
@@ -193,14 +190,10 @@ pub fn append_bytes(text: Bytes, value: &[u8]) -> Result<Bytes, BaseFault>
     Ok(out)
 }
 
-#[tactic(auto, using(std::proofs::Common::append_assoc))]
-fn append_both(text: Bytes, front: &[u8], back: &[u8]) -> Result<Bytes, BaseFault>
-    ensures { GivesBase (λ b. b) result (Some (text ++ (front.now ++ back.now))) }
+fn is(name: &[u8], other: &[u8]) -> bool
+    ensures { result ≡ bytes_eq name.now other.now }
 {
-    let mut out = text;
-    out.extend(front)?;
-    out.extend(back)?;
-    Ok(out)
+    name == other
 }
 
 // The value of a derived component (section 2.2), in two parts. None where the name is none's.
@@ -210,17 +203,17 @@ fn derived<'a>(message: &'a Message, base: &'a Bytes, name: &[u8]) -> Option<(&'
 {
     let base = base.as_slice();
     let target = message.target.as_slice();
-    if name == b"@method".as_slice() {
+    if is(name, b"@method") {
         Some((message.method.as_slice(), b""))
-    } else if name == b"@target-uri".as_slice() {
+    } else if is(name, b"@target-uri") {
         Some((base, target))
-    } else if name == b"@authority".as_slice() {
+    } else if is(name, b"@authority") {
         Some((authority_of(base), b""))
-    } else if name == b"@scheme".as_slice() {
+    } else if is(name, b"@scheme") {
         Some((scheme_of(base), b""))
-    } else if name == b"@path".as_slice() {
+    } else if is(name, b"@path") {
         Some((path_of(target), b""))
-    } else if name == b"@query".as_slice() {
+    } else if is(name, b"@query") {
         Some((query_of(target), b""))
     } else {
         None
@@ -239,7 +232,7 @@ pub fn append_component(
     ensures { GivesBase (λ b. b) result (option_map (λ v. text ++ v) (component message.now base.now name.now)) }
 {
     match derived(message, base, name) {
-        Some((front, back)) => append_both(text, front, back),
+        Some((front, back)) => Ok(with_both(text, front, back)?),
         None => append_other(alloc, text, &message.fields, name),
     }
 }

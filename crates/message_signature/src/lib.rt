@@ -14,6 +14,7 @@ mod components;
 mod fault;
 mod lone;
 mod marks;
+mod reading;
 mod signing;
 mod tags;
 mod verifying;

@@ -9,16 +9,16 @@ ghost use Rattle.hmac_key.specs.Hmac.{hmac_sha256};
 ghost use Rattle.message_signature.specs.declared.fault.SigFault.TheVariants.{Unsupported, UnknownKey};
 ghost use Rattle.message_signature.specs.Base.{signature_base};
 ghost use Rattle.message_signature.specs.Components.{field_value};
-ghost use Rattle.message_signature.specs.Faults.{Gives, need};
-ghost use Rattle.message_signature.specs.Marked.{id_and_mark, judged_with_mark, verified_marked};
+ghost use Rattle.message_signature.specs.Faults.{Gives, and_then, need};
+ghost use Rattle.message_signature.specs.Lone.{tagged_read};
+ghost use Rattle.message_signature.specs.Marked.{judged_with_mark, verified_marked};
 ghost use Rattle.message_signature.specs.Verified.{absent_or, covers_enough, is_in_window, is_not_expired, key_in, has_right_digest, admitted, made_under, judged_over, judged, verified};
 
 use crate::base::{base_of, is_named};
 use crate::components::{field_value, has_body, has_field};
 use crate::fault::{BaseFault, SigFault};
-use crate::lone::lone_signature;
 use crate::marks::{SignatureMark, mark_in};
-use crate::tags::{signature_fields, tagged};
+use crate::reading::{ReadSignature, list_and_bytes, read_signature};
 use bytes_and_lists::bytes::Bytes;
 use bytes_and_lists::memory::{Duplicate, Mem};
 use bytes_and_lists::message::Message;
@@ -217,20 +217,38 @@ pub fn judged_list(
     check_tagged(alloc, message, &text, ring, now, list, bytes)
 }
 
-// What `verify` answers, by all members of the two fields.
-fn verified_among(
+// The id of the key of the signature with the tag, by what was read of the two fields.
+fn judged_read(
     alloc: Global,
     message: &Message,
     base: &Bytes,
     ring: &Keyring,
     now: u64,
+    read: &ReadSignature,
     tag: &Bytes,
 ) -> Result<Bytes, SigFault>
-    ensures { Gives (λ id. id) result (verified message.now base.now ring.now now tag.now) }
+    ensures { (label : List ℕ) → Gives (λ id. id) result (and_then (judged message.now base.now ring.now now) (tagged_read label tag.now read.now)) }
 {
-    let fields = signature_fields(alloc, message)?;
-    let one = tagged(&fields, tag.as_slice())?;
-    judged_list(alloc, message, base, ring, now, one.list, one.bytes)
+    let (list, bytes) = list_and_bytes(read, tag.as_slice())?;
+    judged_list(alloc, message, base, ring, now, list, bytes)
+}
+
+// The same with the mark of its list.
+fn id_and_mark(
+    alloc: Global,
+    message: &Message,
+    base: &Bytes,
+    ring: &Keyring,
+    now: u64,
+    read: &ReadSignature,
+    tag: &Bytes,
+) -> Result<(Bytes, Option<SignatureMark>), SigFault>
+    ensures { (label : List ℕ) → Gives (λ x. x) result
+        (and_then (judged_with_mark message.now base.now ring.now now) (tagged_read label tag.now read.now)) }
+{
+    let (list, bytes) = list_and_bytes(read, tag.as_slice())?;
+    let id = judged_list(alloc, message, base, ring, now, list, bytes)?;
+    Ok((id, mark_in(list)?))
 }
 
 /// The id of the key that signed a message which came to the server with this base (RFC 9421, section 3.2). The signature is the one whose parameter `tag` is
@@ -249,60 +267,10 @@ pub fn verify(
 ) -> Result<Bytes, SigFault>
     ensures { Gives (λ id. id) result (verified message.now base.now ring.now now tag.now) }
 {
-    let lone = lone_signature(alloc, message, tag.as_slice())?;
-    match lone {
-        Some(one) => judged_list(alloc, message, base, ring, now, &one.list, &one.bytes),
-        None => verified_among(alloc, message, base, ring, now, tag),
-    }
-}
-
-fn id_and_mark_of(
-    alloc: Global,
-    message: &Message,
-    base: &Bytes,
-    ring: &Keyring,
-    now: u64,
-    list: &InnerList,
-    bytes: &Bytes,
-) -> Result<(Bytes, Option<SignatureMark>), SigFault>
-    ensures { (label : List ℕ) → Gives (λ x. x) result
-        (judged_with_mark message.now base.now ring.now now (record { label = label; list = list.now; bytes = bytes.now })) }
-{
-    let id = judged_list(alloc, message, base, ring, now, list, bytes)?;
-    Ok((id, mark_in(list)?))
-}
-
-// What `id_and_mark` answers, by all members of the two fields.
-fn marked_among(
-    alloc: Global,
-    message: &Message,
-    base: &Bytes,
-    ring: &Keyring,
-    now: u64,
-    tag: &Bytes,
-) -> Result<(Bytes, Option<SignatureMark>), SigFault>
-    ensures { Gives (λ x. x) result (id_and_mark message.now base.now ring.now now tag.now) }
-{
-    let fields = signature_fields(alloc, message)?;
-    let one = tagged(&fields, tag.as_slice())?;
-    id_and_mark_of(alloc, message, base, ring, now, one.list, one.bytes)
-}
-
-fn id_and_mark(
-    alloc: Global,
-    message: &Message,
-    base: &Bytes,
-    ring: &Keyring,
-    now: u64,
-    tag: &Bytes,
-) -> Result<(Bytes, Option<SignatureMark>), SigFault>
-    ensures { Gives (λ x. x) result (id_and_mark message.now base.now ring.now now tag.now) }
-{
-    let lone = lone_signature(alloc, message, tag.as_slice())?;
-    match lone {
-        Some(one) => id_and_mark_of(alloc, message, base, ring, now, &one.list, &one.bytes),
-        None => marked_among(alloc, message, base, ring, now, tag),
-    }
+    let read = read_signature(alloc, message, tag.as_slice())?;
+    let id = judged_read(alloc, message, base, ring, now, &read, tag);
+    drop(read);
+    id
 }
 
 /// What `verify` answers, with the mark of the signature that it verified (`mark_of`): the fields are read once.
@@ -318,5 +286,8 @@ pub fn verify_marked(
 ) -> Result<(Bytes, Option<SignatureMark>), SigFault>
     ensures { Gives (λ x. x) result (verified_marked message.now base.now ring.now now tag.now) }
 {
-    id_and_mark(alloc, message, base, ring, now, tag)
+    let read = read_signature(alloc, message, tag.as_slice())?;
+    let both = id_and_mark(alloc, message, base, ring, now, &read, tag);
+    drop(read);
+    both
 }

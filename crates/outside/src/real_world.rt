@@ -150,11 +150,12 @@ impl<
             ≡ with_gears (map ⟦<RealGear<'a, R> as Counted>⟧.state gears.entry.items) (⟦<RealWorld<'a, R> as World>⟧.state self.old) }
     {
         let mut taken_back = Log::new();
+        let mut failed = 0;
         for gear in &gears {
             taken_back = taken_back.and(gear, &());
+            failed += usize::from(gear.has_failed());
         }
         self.gears = taken_back;
-        let failed = gears.iter().filter(|gear| gear.has_failed()).count();
         let _ = eprintln!(self.rt;
             "gnap: all {} workers have ended, {failed} of them by a fault",
             gears.len()

@@ -50,7 +50,7 @@ pub enum GrantReply {
 }
 
 /// Which replies a request may get. Any of them may get Refused.
-#[derive(Clone, Copy, Debug, PartialEq, Eq)]
+#[derive(Clone, Copy)]
 pub enum ReplyKind {
     /// A grant request or a modification: Granted or Pending.
     Asking,

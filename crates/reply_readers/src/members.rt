@@ -17,7 +17,7 @@ use serde_json::Value;
 use std::alloc::Global;
 
 /// Why a value isn't read.
-#[derive(Clone, Copy, Debug, PartialEq, Eq)]
+#[derive(Clone, Copy)]
 pub(crate) enum FormFault {
     NotOfForm,
     OutOfMemory,

@@ -12,9 +12,9 @@ use Rattle.message_signature.specs.declared.marks.SignatureMark.{SignatureMark}
 use Rattle.message_signature.specs.Marks.{mark_of}
 use Rattle.message_signature.specs.Marked.{with_mark}
 use Rattle.message_signature.specs.Verified.{verified}
-use Rattle.key_rotation.specs.declared.fault.RotationFault.{RotationFault}
-use Rattle.key_rotation.specs.declared.verifying.RotatedKeys.{RotatedKeys}
-use Rattle.key_rotation.specs.Rotated.{rotated_keys}
+use Rattle.rotation_checks.specs.declared.fault.RotationFault.{RotationFault}
+use Rattle.rotation_checks.specs.declared.verifying.RotatedKeys.{RotatedKeys}
+use Rattle.rotation_checks.specs.Rotated.{rotated_keys}
 use Rattle.signature_laws.specs.Rotation.{AreKeysOf, RotatedIsByBoth}
 use Rattle.gnap_model.specs.Common.{Text, is_text, same_text}
 use Rattle.gnap_model.specs.Keys.{key_of}

@@ -25,8 +25,9 @@ pub fn wanted_of(alloc: Global, route: &Route) -> Result<Rights, Mem>
     ensures value { IfOk result (λ r. r ≡ route.now.right ∷ []) }
     ensures fits { IfOk result (AllByRecursion Fits) }
 {
+    let right = route.right.copy()?;
     let mut wanted = Seq::new(alloc);
-    wanted.push(route.right.copy()?)?;
+    wanted.push(right)?;
     Ok(wanted)
 }
 

@@ -1,5 +1,5 @@
 //! The route and the token of a request.
-ghost use Rattle.std.specs.Prelude.{◌≡◌, ◌<◌, Ok, Err, IfOk, IfErr, IfSome, IsUtf8, length, filter, position, option_map, codes};
+ghost use Rattle.std.specs.Prelude.{◌≡◌, ◌<◌, Ok, Err, IfOk, IfErr, IfSome, IsUtf8, length, filter, position, option_map};
 ghost use Rattle.std.specs.List.{list_any};
 ghost use Rattle.resource_server.specs.declared.setup.RsSetup.{RsSetup};
 ghost use Rattle.resource_server.specs.Guarding.{IsAnswer};
@@ -82,23 +82,13 @@ fn with_scheme(scheme: Scheme, value: &[u8]) -> Option<(Scheme, &[u8])>
     }
 }
 
-fn behind_gnap(text: &[u8]) -> Option<&[u8]>
-    ensures { option_map (λ v. v.now) result ≡ behind_word 5 (codes "GNAP ") text.now }
+// What stands behind the word, in any case.
+fn behind_word<'t>(word: &[u8], text: &'t [u8]) -> Option<&'t [u8]>
+    ensures { option_map (λ v. v.now) result ≡ behind_word (length word.now) word.now text.now }
 {
-    let (scheme, value) = text.split_at(text.len().min(5));
-    if scheme.eq_ignore_ascii_case(b"GNAP ") {
-        Some(value)
-    } else {
-        None
-    }
-}
-
-fn behind_bearer(text: &[u8]) -> Option<&[u8]>
-    ensures { option_map (λ v. v.now) result ≡ behind_word 7 (codes "Bearer ") text.now }
-{
-    let (scheme, value) = text.split_at(text.len().min(7));
-    if scheme.eq_ignore_ascii_case(b"Bearer ") {
-        Some(value)
+    let (front, rest) = text.split_at(word.len().min(text.len()));
+    if front.eq_ignore_ascii_case(word) {
+        Some(rest)
     } else {
         None
     }
@@ -117,7 +107,7 @@ fn presented_by<'t>(gnap: Option<&'t [u8]>, bearer: Option<&'t [u8]>) -> Option<
 fn presented_in(text: &[u8]) -> Option<(Scheme, &[u8])>
     ensures { option_map (λ p. (p.0, p.1.now)) result ≡ presented_in text.now }
 {
-    presented_by(behind_gnap(text), behind_bearer(text))
+    presented_by(behind_word(b"GNAP ", text), behind_word(b"Bearer ", text))
 }
 
 /// The token that is presented, and how.

@@ -13,20 +13,19 @@ use bytes_and_lists::bytes::Bytes;
 use bytes_and_lists::memory::Mem;
 use bytes_and_lists::message::Message;
 use http_edge::HttpReply;
-use json_objects::{compact_text, put, text_value};
+use json_objects::{Draft, compact_text, text_value};
 use message_signature::target_path;
 use resource_server::{Guarded, Route, Routes, RsSetup, Why};
-use serde_json::{Map, Value};
+use serde_json::Value;
 use std::alloc::Global;
 
 fn shown_value(alloc: Global, text: &[u8]) -> Result<Value, Mem>
     requires { IsUtf8 text.now }
     ensures { IfOk result (λ v. view v ≡ object_of (shown_fields text.now)) }
 {
-    let mut map = Map::new(alloc);
-    let text = text_value(alloc, text)?;
-    put(&mut map, alloc, "text", Some(text))?;
-    Ok(Value::Object(map))
+    Draft::new(alloc)
+        .with("text", text_value(alloc, text))
+        .value()
 }
 
 fn shown_text(alloc: Global, text: &[u8]) -> Result<Bytes, Mem>

@@ -1,7 +1,7 @@
 -- Workers that are made one after another, and taken apart again.
 use Rattle.std.proofs.Common.{◌≡◌, ◌∙◌, ◌⊎◌, inl, inr, ⊎_elim, ℕ, zero, suc, ◌+◌, ◌<◌, List, [], ◌∷◌, ◌++◌, map, length, slice_index_or, refl, ap, sym, subst, arith, length-append, append_assoc}
 use Rattle.std.specs.List.{remove}
-use Rattle.std.proofs.lemmas.List.{map-append}
+use Rattle.std.proofs.lemmas.List.{map-append, length-map}
 use mathlib.Core.Option.{some, some-injective, some-ne-none}
 use lib.ListN.{get_elem?}
 use Rattle.outside.specs.Outside.{Served}
@@ -11,7 +11,8 @@ use Rattle.serving.specs.Logs.{IsAccount}
 use Rattle.histories.specs.Turns.{Turn}
 use Rattle.histories.specs.Whole.{own_of, AllKeep}
 use Rattle.histories.proofs.WholeLemmas.{keep-append}
-use Rattle.serving.specs.Workers.{accounts_of}
+use Rattle.shared_server.specs.Passes.{Sharing}
+use Rattle.serving.specs.Workers.{ArePlaced, accounts_of}
 
 module _ {X : Type 0} where
   pub at_middle : (xs : List X) (x : X) (ys : List X) → get_elem? (xs ++ x ∷ ys) (length xs) ≡ some x
@@ -50,6 +51,9 @@ module _ {X : Type 0} where
   pub size-next : (done : List X) (x : X) → length (done ++ x ∷ []) ≡ length done + 1
   size-next done x = length-append done (x ∷ [])
 
+pub none-placed : {Front Rules E : Type 0} (core : Sharing Rules) (front : Front) → ArePlaced {E = E} core front []
+none-placed core front k w e = absurd (some-ne-none w (sym e))
+
 pub made-next : {W G S : Type 0} (gear : W → S) (state : G → S) (workers : List W) (worker : W) (rest rest_now : List G) (g : G) (gears : List S)
     → map gear workers ++ map state rest ≡ gears → rest ≡ g ∷ rest_now → gear worker ≡ state g
     → map gear (workers ++ worker ∷ []) ++ map state rest_now ≡ gears
@@ -83,3 +87,17 @@ account_as session front front' log log' n n' seen same_front same_log same acco
 
 pub map-next : {X Y : Type 0} (f : X → Y) (xs ys : List X) (x : X) → ys ≡ xs ++ x ∷ [] → map f ys ≡ map f xs ++ f x ∷ []
 map-next f xs ys x is = ap (map f) is ∙ map-append f xs (x ∷ [])
+
+-- one more gear and its pass
+pub accounts-next : {Message Call Reply Note Gear Pass : Type 0} (account : Served → List (Turn Message (Entry Call Reply Note)) → Type 0)
+    (state : Gear → GearState) (seen : Pass → List (Entry Call Reply Note)) (gears gears_now : List Gear) (gear : Gear)
+    (passes passes_now : List Pass) (pass : Pass) → gears_now ≡ gears ++ gear ∷ [] → passes_now ≡ passes ++ pass ∷ []
+    → AllKeep 0 (accounts_of account (map state gears)) (map seen passes)
+    → IsAccount account (state gear).log (own_of (length passes) (seen pass))
+    → AllKeep 0 (accounts_of account (map state gears_now)) (map seen passes_now)
+accounts-next account state seen gears gears_now gear passes passes_now pass more_gears more_passes keeps whole =
+    let place : length passes ≡ 0 + length (map seen passes) = (let size = length-map passes seen in omega (arith, size)) in
+    subst (λ l. AllKeep 0 (accounts_of account l) (map seen passes_now)) (sym (map-next state gears gears_now gear more_gears))
+    (subst (AllKeep 0 (accounts_of account (map state gears ++ state gear ∷ []))) (sym (map-next seen passes passes_now pass more_passes))
+    (one-more-account account (map state gears) (state gear) (map seen passes) (seen pass) 0 keeps
+    (subst (λ n. IsAccount account (state gear).log (own_of n (seen pass))) place whole)))

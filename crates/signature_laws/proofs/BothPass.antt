@@ -26,10 +26,10 @@ use Rattle.message_signature.proofs.CheckSteps.{step_ok, need_ok, must_ok}
 use Rattle.message_signature.proofs.Appended.{value_beside, value_added}
 use Rattle.message_signature.proofs.SignedFields.{names, params_range, params_distinct}
 use Rattle.message_signature.proofs.SignedBase.{there_is, none_is, always_based}
-use Rattle.key_rotation.specs.RotationBase.{base_with, rotation_base}
-use Rattle.key_rotation.specs.SecondSignature.{first_tag, second_tag, judged_again, verified_again, is_chained}
+use Rattle.rotation_checks.specs.RotationBase.{base_with, rotation_base}
+use Rattle.rotation_checks.specs.SecondSignature.{first_tag, second_tag, judged_again, verified_again, is_chained}
 use Rattle.key_rotation.specs.SignedRotation.{second_label, are_first_alone, is_signed, rotation_input, second_lines, signed_rotation}
-use Rattle.key_rotation.proofs.Members.{members_are}
+use Rattle.rotation_checks.proofs.Members.{members_are}
 use Rattle.key_rotation.proofs.SecondBase.{items_of, based, input_range}
 use Rattle.signature_laws.specs.Rotation.{AreKeysOf, SignedIsSigned, CanPassAgain, BothPass}
 use Rattle.signature_laws.proofs.FieldsAgain.{input, input_trimmed, input_again, signature, signature_trimmed, signature_again, names_range}

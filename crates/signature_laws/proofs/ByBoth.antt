@@ -5,9 +5,9 @@ use Rattle.message_signature.specs.declared.tags.SignatureFields.{SignatureField
 use Rattle.message_signature.specs.Faults.{◌>>=◌}
 use Rattle.message_signature.specs.Verified.{Signature, signature_fields, tagged_in, tagged, judged, verified}
 use Rattle.message_signature.proofs.CheckSteps.{step_ok}
-use Rattle.key_rotation.specs.declared.verifying.RotatedKeys.{RotatedKeys}
-use Rattle.key_rotation.specs.SecondSignature.{first_tag, second_tag, judged_again, verified_again, is_chained}
-use Rattle.key_rotation.specs.Rotated.{rotated_keys}
+use Rattle.rotation_checks.specs.declared.verifying.RotatedKeys.{RotatedKeys}
+use Rattle.rotation_checks.specs.SecondSignature.{first_tag, second_tag, judged_again, verified_again, is_chained}
+use Rattle.rotation_checks.specs.Rotated.{rotated_keys}
 use Rattle.signature_laws.specs.Rotation.{AreKeysOf, RotatedIsByBoth, ByBothIsRotated}
 use Rattle.signature_laws.proofs.RotationSteps.{first_ok, second_ok, chain_ok, first_step, second_step, chain_step}
 

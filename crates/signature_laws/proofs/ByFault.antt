@@ -5,8 +5,8 @@ use Rattle.message_signature.specs.declared.tags.SignatureFields.{SignatureField
 use Rattle.message_signature.specs.Faults.{◌>>=◌}
 use Rattle.message_signature.specs.Verified.{signature_fields, tagged_in, tagged, judged, verified}
 use Rattle.message_signature.proofs.CheckSteps.{step_ok}
-use Rattle.key_rotation.specs.SecondSignature.{first_tag, second_tag, judged_again, verified_again, is_chained}
-use Rattle.key_rotation.specs.Rotated.{rotated_keys}
+use Rattle.rotation_checks.specs.SecondSignature.{first_tag, second_tag, judged_again, verified_again, is_chained}
+use Rattle.rotation_checks.specs.Rotated.{rotated_keys}
 use Rattle.signature_laws.specs.Rotation.{FirstIsTold, SecondIsTold, NotChainedIsTold}
 use Rattle.signature_laws.proofs.RotationSteps.{first_step, second_step, first_failed, second_failed, chain_failed}
 use Rattle.signature_laws.proofs.ByBoth.{same_value}

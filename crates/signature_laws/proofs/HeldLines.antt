@@ -19,8 +19,8 @@ use Rattle.structured_fields.proofs.Fronts.{some_is}
 use Rattle.structured_fields.specs.Strings.{string_in}
 use Rattle.message_signature.specs.declared.tags.SignatureFields.{SignatureFields}
 use Rattle.message_signature.specs.Base.{params_line}
-use Rattle.key_rotation.specs.RotationBase.{key_in, label_in, is_same_label, is_component, value_of, line_with, rotation_line, rotation_lines, base_with, signature_members, members_of}
-use Rattle.key_rotation.specs.SecondSignature.{covers_member}
+use Rattle.rotation_checks.specs.RotationBase.{key_in, label_in, is_same_label, is_component, value_of, line_with, rotation_line, rotation_lines, base_with, signature_members, members_of}
+use Rattle.rotation_checks.specs.SecondSignature.{covers_member}
 use Rattle.signature_laws.specs.Rotation.{member_line, AreLines, HoldsMember, CoveredIsHeld}
 
 -- ---- steps that give a value

@@ -13,7 +13,7 @@ use Rattle.structured_fields.specs.Strings.{is_string}
 use Rattle.message_signature.specs.declared.tags.SignatureFields.{SignatureFields}
 use Rattle.message_signature.specs.Base.{is_named, line_of, base_lines, base_line, params_line, signature_base}
 use Rattle.message_signature.specs.Components.{component}
-use Rattle.key_rotation.specs.RotationBase.{label_in, is_same_label, is_component, line_with, rotation_line, rotation_lines, base_with, signature_members}
+use Rattle.rotation_checks.specs.RotationBase.{label_in, is_same_label, is_component, line_with, rotation_line, rotation_lines, base_with, signature_members}
 use Rattle.signature_laws.specs.Rotation.{PlainBaseIsSame}
 
 abbrev IsPlain : Item → Type 0

@@ -10,8 +10,8 @@ use Rattle.structured_fields.specs.declared.item.InnerList.{InnerList}
 use Rattle.structured_fields.specs.Reading.{key_at, decimal_at, unsigned_at, number_at, string_rest, decoded, binary_rest, bare_at, value_of, parameter_at, params_from, params_at, item_at, items_from, items_at, inner_at, member_at, entry_value_at, entry_at, next_at, members_from, members_of, dictionary_of}
 use Rattle.message_signature.specs.Components.{component, field_value}
 use Rattle.message_signature.specs.Signed.{component_item, covered}
-use Rattle.key_rotation.specs.RotationBase.{rotation_lines, base_with, rotation_base}
-use Rattle.key_rotation.specs.SecondSignature.{is_chained}
+use Rattle.rotation_checks.specs.RotationBase.{rotation_lines, base_with, rotation_base}
+use Rattle.rotation_checks.specs.SecondSignature.{is_chained}
 use Rattle.key_rotation.specs.SignedRotation.{member_item, rotation_input}
 
 abbrev field : List ℕ → List ℕ → Field

@@ -1,9 +1,9 @@
 -- What it takes that a chain of checks of both signatures gives a value.
 use Rattle.std.proofs.Common.{◌≡◌, Bool, true, false, Result, Ok, Err, refl, ap}
 use Rattle.message_signature.specs.declared.fault.SigFault.{SigFault}
-use Rattle.key_rotation.specs.declared.fault.RotationFault.{RotationFault}
-use Rattle.key_rotation.specs.declared.fault.RotationFault.TheVariants.{First, Second, NotChained}
-use Rattle.key_rotation.specs.Faults.{◌>>=◌, in_first, in_second, must_chain}
+use Rattle.rotation_checks.specs.declared.fault.RotationFault.{RotationFault}
+use Rattle.rotation_checks.specs.declared.fault.RotationFault.TheVariants.{First, Second, NotChained}
+use Rattle.rotation_checks.specs.Faults.{◌>>=◌, in_first, in_second, must_chain}
 
 -- the value that a step gives, and that what follows gives y
 pub record IsBehind {A B : Type 0} (r : Result A SigFault) (f : A → Result B RotationFault) (y : B) : Type 0 where

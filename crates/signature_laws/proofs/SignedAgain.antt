@@ -11,7 +11,7 @@ use Rattle.message_signature.specs.declared.tags.SignatureFields.{SignatureField
 use Rattle.message_signature.specs.Components.{component, field_value}
 use Rattle.message_signature.specs.Signed.{with_fields, label}
 use Rattle.message_signature.proofs.SignedBase.{there_is}
-use Rattle.key_rotation.specs.RotationBase.{rotation_lines, base_with, rotation_base}
+use Rattle.rotation_checks.specs.RotationBase.{rotation_lines, base_with, rotation_base}
 use Rattle.key_rotation.specs.SignedRotation.{rotation_input, second_lines, signed_rotation}
 use Rattle.key_rotation.proofs.SecondBase.{list_of, based, signed_with}
 use Rattle.signature_laws.specs.Rotation.{IsAlwaysSignedAgain}

@@ -20,7 +20,7 @@ use Rattle.message_signature.specs.Components.{values_of, joined, field_value}
 use Rattle.message_signature.specs.Signed.{under_label, label}
 use Rattle.message_signature.proofs.Appended.{trimmed_same}
 use Rattle.message_signature.proofs.SignedFields.{hmac_range}
-use Rattle.key_rotation.specs.SecondSignature.{second_tag}
+use Rattle.rotation_checks.specs.SecondSignature.{second_tag}
 use Rattle.key_rotation.specs.SignedRotation.{second_label, rotation_input, covered_again}
 use Rattle.signature_laws.proofs.FieldsAgain.{ends_more, ends_nil, inner_ends}
 

@@ -12,11 +12,11 @@ use Rattle.message_signature.specs.declared.fault.SigFault.{SigFault}
 use Rattle.message_signature.specs.Base.{signature_base}
 use Rattle.message_signature.specs.Verified.{Signature, tagged, verified}
 use Rattle.message_signature.specs.Signed.{has_signature, params_of, signed_under}
-use Rattle.key_rotation.specs.declared.fault.RotationFault.TheVariants.{First, Second, NotChained}
-use Rattle.key_rotation.specs.declared.verifying.RotatedKeys.{RotatedKeys}
-use Rattle.key_rotation.specs.RotationBase.{members_of, rotation_base}
-use Rattle.key_rotation.specs.SecondSignature.{first_tag, second_tag, verified_again, is_chained}
-use Rattle.key_rotation.specs.Rotated.{rotated_keys}
+use Rattle.rotation_checks.specs.declared.fault.RotationFault.TheVariants.{First, Second, NotChained}
+use Rattle.rotation_checks.specs.declared.verifying.RotatedKeys.{RotatedKeys}
+use Rattle.rotation_checks.specs.RotationBase.{members_of, rotation_base}
+use Rattle.rotation_checks.specs.SecondSignature.{first_tag, second_tag, verified_again, is_chained}
+use Rattle.rotation_checks.specs.Rotated.{rotated_keys}
 use Rattle.key_rotation.specs.SignedRotation.{is_signed, signed_rotation}
 use Rattle.signature_laws.specs.Signing.{CanPass}
 

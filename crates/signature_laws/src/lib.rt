@@ -1,4 +1,4 @@
-//! What follows from the definitions of `message_signature` and `key_rotation`.
+//! What follows from the definitions of `message_signature`, `rotation_checks` and `key_rotation`.
 //!
 //! A message is accepted for a key's id exactly where its signature is that key's, in time, and covers what it must (`acceptance`), and one that was
 //! signed is accepted (`signing`). Of two signatures (`rotation`): both keys are the answer exactly where each signature is its key's and the second

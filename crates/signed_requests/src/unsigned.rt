@@ -15,7 +15,7 @@ use message_signature::{SignFault, sign, sign_marked};
 use std::alloc::Global;
 
 /// How a token is presented (RFC 9635, section 7.2).
-#[derive(Clone, Copy, Debug, PartialEq, Eq)]
+#[derive(Clone, Copy)]
 pub enum Scheme {
     /// With a signature under the key that it is bound to.
     Gnap,

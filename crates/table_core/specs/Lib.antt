@@ -1,5 +1,6 @@
 pub mod CallEffects
 pub mod Frugal
+pub mod Rooms
 pub mod StandsInTables
 pub mod Choices
 pub mod Entries

@@ -5,6 +5,7 @@ ghost use Rattle.gnap_tables.specs.declared.rows.TokenRow.{TokenRow};
 ghost use Rattle.grant_states.specs.Grants.{BeginsWith};
 ghost use Rattle.table_core.specs.CallEffects.{HasRoom, tables_in};
 ghost use Rattle.table_core.specs.Plans.{rows_in, RiseFrom, retermed, approved, unretired, carried, opened_by, renewed, pended, CanCarry};
+ghost use Rattle.table_core.specs.Rooms.{issued_by, HasRoomFor};
 
 use crate::answered::Answered;
 use crate::entering::{NewTokens, Plan, Renewal, TableChange};
@@ -118,16 +119,36 @@ fn pend(
     grants.pend(number, round);
 }
 
-// Takes memory for a continuation value and a row or a round of a grant, and for so many rows of tokens.
-fn take_room(grants: &mut GrantTable, tokens: &mut TokenTable, more: usize) -> Result<(), Mem>
+// How many rows of tokens the change issues, where it gives a continuation value.
+fn rows_wanted(change: &TableChange) -> Option<usize>
+    ensures { result ≡ issued_by change.now }
+{
+    match change {
+        TableChange::Open { tokens, .. } => Some(tokens.len()),
+        TableChange::Renew(renewal) => Some(renewal.tokens.len()),
+        TableChange::Pend { .. } => Some(0),
+        TableChange::Nothing | TableChange::End { .. } | TableChange::Alter { .. } => None,
+    }
+}
+
+// Takes the memory for the change: for a continuation value and a row or a round of a grant, and for rows of tokens.
+fn take_room(
+    grants: &mut GrantTable,
+    tokens: &mut TokenTable,
+    change: &TableChange,
+) -> Result<(), Mem>
     ensures grants { grants.new.rows ≡ grants.old.rows }
     ensures doors { grants.new.doors_below ≡ grants.old.doors_below }
     ensures tokens { tokens.new.rows ≡ tokens.old.rows }
-    ensures room { OnOk result (2 ≤ grants.new.spare) }
-    ensures token_room { OnOk result (more ≤ tokens.new.spare) }
+    ensures room { OnOk result (HasRoomFor change.now grants.new.spare tokens.new.spare) }
 {
-    tokens.reserve(more)?;
-    grants.reserve()
+    match rows_wanted(change) {
+        Some(more) => {
+            tokens.reserve(more)?;
+            grants.reserve()
+        }
+        None => Ok(()),
+    }
 }
 
 // The change is made. It answers how many grants were opened.
@@ -138,43 +159,39 @@ fn carry(
     first: u64,
     drawn: u64,
     change: TableChange,
-) -> Result<u64, Mem>
-    requires room { HasRoom next first grants.old tokens.old }
+) -> u64
+    requires numbers { HasRoom next first grants.old tokens.old }
     requires few { drawn ≤ 17 }
     requires can { CanCarry next first drawn change }
-    ensures opened { IfOk result (λ opened. opened ≡ opened_by change) }
-    ensures tables { OnOk result (tables_in grants.new.rows tokens.new.rows ≡ carried change (tables_in grants.old.rows tokens.old.rows)) }
-    ensures doors { OnOk result (grants.new.doors_below ≤ first + drawn) }
-    ensures grants { OnErr result (grants.new.rows ≡ grants.old.rows) }
-    ensures tokens { OnErr result (tokens.new.rows ≡ tokens.old.rows) }
-    ensures same_doors { OnErr result (grants.new.doors_below ≡ grants.old.doors_below) }
+    requires room { HasRoomFor change grants.old.spare tokens.old.spare }
+    ensures opened { result ≡ opened_by change }
+    ensures tables { tables_in grants.new.rows tokens.new.rows ≡ carried change (tables_in grants.old.rows tokens.old.rows) }
+    ensures doors { grants.new.doors_below ≤ first + drawn }
 {
     let _numbers = (next, drawn);
     match change {
-        TableChange::Nothing => Ok(0),
+        TableChange::Nothing => 0,
         TableChange::Open {
             row,
             serial,
             tokens: rows,
         } => {
-            take_room(grants, tokens, rows.len())?;
             grants.insert(row, serial);
             issue_all(tokens, rows, first);
-            Ok(1)
+            1
         }
         TableChange::End { number } => {
             grants.finalize(number);
             tokens.retire_all(number);
-            Ok(0)
+            0
         }
         TableChange::Alter { number, change } => {
             grants.change(number, change);
-            Ok(0)
+            0
         }
         TableChange::Renew(renewal) => {
-            take_room(grants, tokens, renewal.tokens.len())?;
             renew(grants, tokens, first, renewal);
-            Ok(0)
+            0
         }
         TableChange::Pend {
             terms,
@@ -183,10 +200,9 @@ fn carry(
             serial,
             earliest,
         } => {
-            take_room(grants, tokens, 0)?;
             tokens.retire_all(terms.grant);
             pend(grants, terms, round, door, serial, earliest);
-            Ok(0)
+            0
         }
     }
 }
@@ -209,21 +225,19 @@ pub fn carry_out(
     ensures tokens { OnErr result (tokens.new.rows ≡ tokens.old.rows) }
     ensures same_doors { OnErr result (grants.new.doors_below ≡ grants.old.doors_below) }
 {
+    if take_room(grants, tokens, &plan.change).is_err() {
+        // By a call, since else the drop of each kind of reply and change is written out here.
+        drop(plan);
+        return Err(Mem);
+    }
     let Plan {
         reply,
         drawn,
         change,
     } = plan;
-    match carry(grants, tokens, next, first, drawn, change) {
-        Ok(opened) => Ok(Answered {
-            reply,
-            opened,
-            drawn,
-        }),
-        Err(e) => {
-            // By a call, since else the drop of each kind of reply is written out here.
-            drop(reply);
-            Err(e)
-        }
-    }
+    Ok(Answered {
+        reply,
+        opened: carry(grants, tokens, next, first, drawn, change),
+        drawn,
+    })
 }

@@ -1,5 +1,5 @@
 //! The tokens of a grant, as they are issued and handed out (RFC 9635, section 3.2).
-ghost use Rattle.std.specs.Prelude.{◌≡◌, ◌≤◌, ◌<◌, ◌*◌, length, map, IfOk};
+ghost use Rattle.std.specs.Prelude.{◌≡◌, ◌≤◌, ◌<◌, ◌*◌, [], ◌∷◌, ◌++◌, length, map, IfOk, OnOk};
 ghost use Rattle.gnap_model.specs.Actions.{token_for, tokens_for, token_out as token_shown, drawn_value};
 ghost use Rattle.gnap_model.specs.declared.calls.Reply.TheVariants.{Granted};
 ghost use Rattle.gnap_tables.specs.RowSearches.{opening_of};
@@ -13,14 +13,35 @@ use crate::stored::stored_token;
 use bytes_and_lists::bytes::Bytes;
 use bytes_and_lists::memory::{Duplicate, Mem};
 use bytes_and_lists::seq::Seq;
-use gnap_model::calls::{Reply, Tokens};
+use gnap_model::calls::{Reply, TokenOut, Tokens};
 use gnap_model::notes::TokenNote;
 use gnap_model::objects::Ask;
-use gnap_tables::rows::GrantRow;
+use gnap_tables::rows::{GrantRow, TokenRow};
 use grant_rules::limits::WAIT;
 use grant_rules::tokens::token_out;
 use kept_rights::KeptRights;
 use std::alloc::Global;
+
+/// A new token, as its row and as it is handed out.
+#[derive(Drop)]
+pub struct IssuedToken {
+    /// Its row.
+    pub row: TokenRow,
+    /// What the client is told of it.
+    pub told: TokenOut,
+}
+
+/// The token, handed out at this moment.
+pub fn issued(alloc: Global, token: TokenNote, now: u64) -> Result<IssuedToken, Mem>
+    ensures row { IfOk result (λ issued. issued.row ≡ new_token token) }
+    ensures told { IfOk result (λ issued. issued.told ≡ token_shown now token) }
+{
+    let told = token_out(&token, now)?;
+    Ok(IssuedToken {
+        row: stored_token(alloc, token)?,
+        told,
+    })
+}
 
 /// New tokens of a grant, as rows and as they are handed out.
 #[derive(Drop)]
@@ -43,6 +64,29 @@ fn token(entering: &Entering, row: &GrantRow, ask: &Ask, index: usize) -> Result
     )
 }
 
+impl IssuedTokens {
+    // One more token, for an ask. An `Err` may leave a part of it there.
+    fn push(
+        &mut self,
+        alloc: Global,
+        entering: &Entering,
+        row: &GrantRow,
+        ask: &Ask,
+        index: usize,
+    ) -> Result<(), Mem>
+        requires { index < 23 }
+        ensures rows { OnOk result (rows_in self.new.rows
+            ≡ rows_in self.old.rows ++ new_token (token_for (supply entering.now) (opening_of row.now) ask.now index) ∷ []) }
+        ensures told { OnOk result (self.new.told
+            ≡ self.old.told ++ token_shown entering.now.supply.moment (token_for (supply entering.now) (opening_of row.now) ask.now index) ∷ []) }
+    {
+        let token = token(entering, row, ask, index)?;
+        let issued = issued(alloc, token, entering.supply.moment)?;
+        self.told.push(issued.told)?;
+        self.rows.push(Box::new(alloc, issued.row)?)
+    }
+}
+
 /// A token for each ask, the values in turn, for the grant of the row.
 pub fn issue(
     alloc: Global,
@@ -55,16 +99,16 @@ pub fn issue(
     ensures told { IfOk result (λ issue. issue.told
         ≡ map (token_shown entering.now.supply.moment) (tokens_for (supply entering.now) (opening_of row.now) asks.now 0)) }
 {
-    let mut rows = Seq::new(alloc);
-    let mut told = Seq::new(alloc);
+    let mut tokens = IssuedTokens {
+        rows: Seq::new(alloc),
+        told: Seq::new(alloc),
+    };
     let mut index = 0;
     for ask in asks {
-        let issued = token(entering, row, ask, index)?;
-        told.push(token_out(&issued, entering.supply.moment)?)?;
-        rows.push(Box::new(alloc, stored_token(alloc, issued)?)?)?;
+        tokens.push(alloc, entering, row, ask, index)?;
         index += 2;
     }
-    Ok(IssuedTokens { rows, told })
+    Ok(tokens)
 }
 
 /// What comes of asks that are granted.

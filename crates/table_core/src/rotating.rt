@@ -8,7 +8,7 @@ ghost use Rattle.table_core.specs.CallEffects.{HasRoom, AnswersCall, tables_in};
 ghost use Rattle.table_core.specs.Choices.{rotated_to, rotation_to_key, rotation_for, rotation_of};
 
 use crate::answered::{Answered, undrawn};
-use crate::stored::stored_token;
+use crate::issuing::issued;
 use bytes_and_lists::bytes::Bytes;
 use bytes_and_lists::memory::{Duplicate, Mem};
 use gnap_model::calls::{Reply, TokenOut};
@@ -16,7 +16,6 @@ use gnap_model::objects::{ErrorCode, Setup};
 use gnap_tables::rows::{GrantRow, TokenRow};
 use grant_rules::drawing::Supply;
 use grant_rules::keys::can_bind;
-use grant_rules::tokens::token_out;
 use grant_states::GrantTable;
 use std::alloc::Global;
 use token_manager::TokenTable;
@@ -63,11 +62,11 @@ fn succeed(
         token.bearer,
         0,
     )?;
-    let out = token_out(&successor, supply.moment)?;
+    let issued = issued(alloc, successor, supply.moment)?;
     Ok(Rotation::Succeeded {
         serial: token.serial,
-        row: stored_token(alloc, successor)?,
-        out,
+        row: issued.row,
+        out: issued.told,
     })
 }
 

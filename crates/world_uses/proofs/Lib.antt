@@ -1,3 +1,4 @@
 pub mod AfterConfig
 pub mod Linked
+pub mod ServedGears
 pub mod Uses

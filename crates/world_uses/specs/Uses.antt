@@ -1,5 +1,5 @@
 -- What a command does to the world with files, links and gears that it opens and gives back.
-use Rattle.std.specs.Prelude.{◌≡◌, ◌≢◌, ◌≤◌, ◌⊎◌, ℕ, List, [], ◌∷◌, ◌++◌, Any, All, length, drop, slice_get, Option, Some, None, IsSome, Result, Err}
+use Rattle.std.specs.Prelude.{◌≡◌, ◌≢◌, ◌≤◌, ◌⊎◌, ℕ, List, [], ◌∷◌, ◌++◌, Any, All, length, drop, slice_get, Option, Some, None, IsSome, Result, Ok, Err}
 use Rattle.outside.specs.Outside.{Told, Served, Leaves, IsAtEnd, IsRest, Rose}
 use Rattle.outside.specs.declared.world.Opening.{Opening}
 use Rattle.outside.specs.declared.world.WorldFault.{WorldFault}
@@ -16,6 +16,11 @@ use Rattle.command_inputs.specs.Configs.{setup_limit}
 abbrev pub ended_by_fault : WorldFault → Ended
 ended_by_fault faults.Failed = Failed
 ended_by_fault faults.OutOfMemory = Memory
+
+-- how one ends by what serving at an address answered
+abbrev pub ended_service : Result (Unit {0}) WorldFault → Ended
+ended_service (Ok done) = Done
+ended_service (Err fault) = ended_by_fault fault
 
 -- ---- a file
 

@@ -1,27 +1,19 @@
-use Rattle.std.proofs.Common.{◌≡◌, ◌∙◌, ◌||◌, ℕ, List, [], ◌∷◌, ◌++◌, Ok, refl, sym, ap, subst}
-use Rattle.std.proofs.Math.Bool.{or_comm, or-false}
-use Rattle.std.proofs.lemmas.List.Folds.{list_any-append}
+use Rattle.std.proofs.Common.{◌≡◌, ◌∙◌, ◌||◌, List, [], ◌∷◌, ◌++◌, Ok, refl, sym, ap, subst}
 use Rattle.std.specs.List.{AllByRecursion, list_any}
 use Rattle.serde_json.specs.Data.{Data, Items, item}
 use Rattle.json_objects.specs.Bodies.{AreBodies}
 use Rattle.json_objects.proofs.Items.{items_view-drop}
 use Rattle.gnap_model.specs.declared.objects.KeyRow.{KeyRow}
+use Rattle.access_rights.proofs.OneMore.{all_more}
 use Rattle.gnap_objects.specs.Fits.{KeyFits}
 use Rattle.gnap_objects.specs.Setups.{has_id, key_row_of, keys_from}
+use Rattle.gnap_objects.proofs.OneMore.{any_more}
 use Rattle.gnap_objects.proofs.setups.keys_from.Goals as goal
 
 -- one key more was read
 next : (keys more : List KeyRow) (d : Data) (ds : Items) (key : KeyRow) → key_row_of keys d ≡ Ok key → more ≡ keys ++ key ∷ []
     → keys_from more ds ≡ keys_from keys (item d ds)
 next keys more d ds key read is = rw (is, read) refl
-
-has_id-last : (id : List ℕ) (key : KeyRow) (keys : List KeyRow) → (has_id id key || list_any (has_id id) keys) ≡ list_any (has_id id) (keys ++ key ∷ [])
-has_id-last id key keys = or_comm (has_id id key) (list_any (has_id id) keys)
-    ∙ ap (λ b. list_any (has_id id) keys || b) (sym (or-false (has_id id key))) ∙ sym (list_any-append (has_id id) keys (key ∷ []))
-
-fits_more : (keys : List KeyRow) (key : KeyRow) → AllByRecursion KeyFits keys → KeyFits key → AllByRecursion KeyFits (keys ++ key ∷ [])
-fits_more [] key fits one = (one, tt)
-fits_more (first ∷ keys) key fits one = (fits.0, fits_more keys key fits.1 one)
 
 pub loop-item-preserved : goal.loop-item-preserved
 loop-item-preserved c =
@@ -33,8 +25,8 @@ loop-item-preserved c =
       read = next keys _ _ _ key c.in-Ok.ensures.value added ∙ ap (keys_from keys) (sym first) ∙ c.loop-item.invariant.read;
       ids = λ id. c.in-Ok.ensures.ids id
           ∙ ap (λ b. has_id id key || b) (c.loop-item.invariant.ids id)
-          ∙ has_id-last id key keys
+          ∙ any_more (has_id id) keys key
           ∙ ap (list_any (has_id id)) (sym added);
       bodies = (subst AreBodies first c.loop-item.invariant.bodies).1;
-      fits = subst (AllByRecursion KeyFits) (sym added) (fits_more keys key c.loop-item.invariant.fits c.in-Ok.ensures.fits);
+      fits = subst (AllByRecursion KeyFits) (sym added) (all_more KeyFits keys key c.loop-item.invariant.fits c.in-Ok.ensures.fits);
     }

@@ -1,17 +1,13 @@
-use Rattle.std.proofs.Common.{◌≡◌, ◌||◌, ℕ, Bool, not, List, [], ◌∷◌, ◌++◌, Some, sym, ap, ◌∙◌}
-use Rattle.std.proofs.Math.Bool.{not-not, or_comm, or-false}
-use Rattle.std.proofs.lemmas.List.Folds.{list_any-append}
+use Rattle.std.proofs.Common.{◌≡◌, ◌||◌, ℕ, Bool, not, List, [], ◌∷◌, ◌++◌, Some, codes, sym, ap, ◌∙◌}
+use Rattle.std.proofs.Math.Bool.{not-not, or_comm}
 use Rattle.std.specs.Str.{bytes_eq}
 use Rattle.serde_json.specs.Data.{Data, Items, item}
 use Rattle.serde_json.specs.Find.{as_str}
 use Rattle.json_objects.proofs.Items.{items_view-drop}
 use Rattle.gnap_objects.specs.Reading.{text_of}
 use Rattle.gnap_objects.specs.TokenRequests.{has_flag, flags_from}
+use Rattle.gnap_objects.proofs.OneMore.{any_more}
 use Rattle.gnap_objects.proofs.token_requests.flags_from.Goals as goal
-
-has_flag-last : (flag other : List ℕ) (before : List (List ℕ)) → has_flag flag (before ++ other ∷ []) ≡ (bytes_eq other flag || has_flag flag before)
-has_flag-last flag other before = list_any-append (λ f. bytes_eq f flag) before (other ∷ [])
-    ∙ ap (λ b. has_flag flag before || b) (or-false (bytes_eq other flag)) ∙ or_comm (has_flag flag before) (bytes_eq other flag)
 
 next : (before : List (List ℕ)) (repeated new : Bool) (d : Data) (ds : Items) (flag : List ℕ) → Some flag ≡ as_str d → new ≡ not (has_flag flag before)
     → flags_from (before ++ flag ∷ []) (repeated || not new) ds ≡ flags_from before repeated (item d ds)
@@ -27,6 +23,8 @@ loop-item-preserved c =
           ∙ ap (flags_from before c.loop-item.repeated)
           (sym (items_view-drop c.deref-item-items.result.now c.loop-item.item-index c.item-item.result c.loop-item-test.true c.item-item.is))
           ∙ c.loop-item.invariant.1,
-      λ other. c.in_ok-new.ensures.added other ∙ ap (λ b. bytes_eq flag other || b) (c.loop-item.invariant.2 other) ∙ sym (has_flag-last other flag before),
-      or_comm c.loop-item.bearer c.eq-bearer.result ∙ rw (c.eq-bearer.ensures, c.loop-item.invariant.3) (sym (has_flag-last _ flag before)),
+      λ other. c.in_ok-new.ensures.added other ∙ ap (λ b. bytes_eq flag other || b) (c.loop-item.invariant.2 other)
+          ∙ any_more (λ f. bytes_eq f other) before flag,
+      or_comm c.loop-item.bearer c.eq-bearer.result
+          ∙ rw (c.eq-bearer.ensures, c.loop-item.invariant.3) (any_more (λ f. bytes_eq f (codes "bearer")) before flag),
     )

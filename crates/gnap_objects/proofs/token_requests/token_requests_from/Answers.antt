@@ -1,29 +1,20 @@
-use Rattle.std.proofs.Common.{◌≡◌, ◌∙◌, ◌||◌, ℕ, Bool, true, List, [], ◌∷◌, ◌++◌, Ok, refl, sym, ap, subst}
-use Rattle.std.proofs.Math.Bool.{or_comm, or-false}
-use Rattle.std.proofs.lemmas.List.Folds.{list_any-append}
+use Rattle.std.proofs.Common.{◌≡◌, ◌∙◌, ◌||◌, Bool, true, List, [], ◌∷◌, ◌++◌, Ok, refl, sym, ap, subst}
 use Rattle.std.specs.List.{AllByRecursion, list_any}
 use Rattle.serde_json.specs.Data.{Data, Items, item}
 use Rattle.json_objects.specs.Bodies.{AreBodies}
 use Rattle.json_objects.proofs.Items.{items_view-drop}
 use Rattle.gnap_model.specs.declared.objects.Ask.{Ask}
+use Rattle.access_rights.proofs.OneMore.{all_more}
 use Rattle.gnap_objects.specs.Fits.{AskFits}
 use Rattle.gnap_objects.specs.declared.token_requests.TokenRequest.{TokenRequest}
 use Rattle.gnap_objects.specs.TokenRequests.{has_label, token_request_of, token_requests_from}
+use Rattle.gnap_objects.proofs.OneMore.{any_more}
 use Rattle.gnap_objects.proofs.token_requests.token_requests_from.Goals as goal
 
 -- one request more was read
 next : (asks more : List Ask) (repeats : Bool) (d : Data) (ds : Items) (t : TokenRequest) → token_request_of true asks d ≡ Ok t → more ≡ asks ++ t.ask ∷ []
     → token_requests_from more (repeats || t.repeats_flag) ds ≡ token_requests_from asks repeats (item d ds)
 next asks more repeats d ds t read is = rw (is, read) refl
-
-has_label-last : (label : List ℕ) (ask : Ask) (asks : List Ask)
-    → (has_label label ask || list_any (has_label label) asks) ≡ list_any (has_label label) (asks ++ ask ∷ [])
-has_label-last label ask asks = or_comm (has_label label ask) (list_any (has_label label) asks)
-    ∙ ap (λ b. list_any (has_label label) asks || b) (sym (or-false (has_label label ask))) ∙ sym (list_any-append (has_label label) asks (ask ∷ []))
-
-fits_more : (asks : List Ask) (ask : Ask) → AllByRecursion AskFits asks → AskFits ask → AllByRecursion AskFits (asks ++ ask ∷ [])
-fits_more [] ask fits one = (one, tt)
-fits_more (first ∷ asks) ask fits one = (fits.0, fits_more asks ask fits.1 one)
 
 pub loop-item-preserved : goal.loop-item-preserved
 loop-item-preserved c =
@@ -37,8 +28,8 @@ loop-item-preserved c =
           ∙ c.loop-item.invariant.read;
       labels = λ label. c.in_ok-request.ensures.labels label
           ∙ ap (λ b. has_label label t.ask || b) (c.loop-item.invariant.labels label)
-          ∙ has_label-last label t.ask asks
+          ∙ any_more (has_label label) asks t.ask
           ∙ ap (list_any (has_label label)) (sym added);
       bodies = (subst AreBodies first c.loop-item.invariant.bodies).1;
-      fits = subst (AllByRecursion AskFits) (sym added) (fits_more asks t.ask c.loop-item.invariant.fits c.in_ok-request.ensures.fits);
+      fits = subst (AllByRecursion AskFits) (sym added) (all_more AskFits asks t.ask c.loop-item.invariant.fits c.in_ok-request.ensures.fits);
     }

@@ -34,13 +34,13 @@ pub returns-in-Err-clause-reads : goal.returns-in-Err-clause-reads
 returns-in-Err-clause-reads g c = λ is.
     let ended = c.carry_out_with_workers-ended.result in
     let uses = used_first _ _ _ _ _ ended (ap g.W.World.state c.in-Err.ensures.untouched.0) c.carry_out_with_workers-ended.ensures.world in
-    failed_at_4 _ _ _ _ ended uses (sym c.status_of.ensures ∙ is)
+    failed_at_4 _ _ _ _ ended uses (sym c.finish.ensures ∙ is)
 
 pub returns-in-Err-clause-no_reads : goal.returns-in-Err-clause-no_reads
 returns-in-Err-clause-no_reads g c = λ isnt.
     let ended = c.carry_out_with_workers-ended.result in
     let uses = used_first _ _ _ _ _ ended (ap g.W.World.state c.in-Err.ensures.untouched.0) c.carry_out_with_workers-ended.ensures.world in
-    uses.sound (λ failed. isnt (c.status_of.ensures ∙ ap status_of failed))
+    uses.sound (λ failed. isnt (c.finish.ensures ∙ ap status_of failed))
 
 pub returns-in-Err-clause-full : goal.returns-in-Err-clause-full
 returns-in-Err-clause-full g c = λ is command found.
@@ -50,7 +50,7 @@ returns-in-Err-clause-full g c = λ is command found.
     let same : c.in-Err.command ≡ command = cc in
     let P : Command → Type 0 = λ k.
     IsSome (input_place k) × InputTook TooLong (input_place k) (g.W.World.state c.args.world.now) (g.W.World.state c.carry_out_with_workers-ended.new.world) in
-    subst P same (full_at_8 _ _ _ _ ended uses (sym c.status_of.ensures ∙ is))
+    subst P same (full_at_8 _ _ _ _ ended uses (sym c.finish.ensures ∙ is))
 
 pub returns-in-Err-clause-all : goal.returns-in-Err-clause-all
 returns-in-Err-clause-all g c = λ is command found.
@@ -60,7 +60,7 @@ returns-in-Err-clause-all g c = λ is command found.
     let same : c.in-Err.command ≡ command = cc in
     let P : Command → Type 0 = λ k. Gives (openings_of k) (g.W.World.state c.args.world.now) (g.W.World.state c.carry_out_with_workers-ended.new.world) in
     subst P same (all_at_0 _ _ _ _ ended uses
-    (elim is [ inl zero ↦ inl (sym c.status_of.ensures ∙ zero) | inr seven ↦ inr (sym c.status_of.ensures ∙ seven) ]))
+    (elim is [ inl zero ↦ inl (sym c.finish.ensures ∙ zero) | inr seven ↦ inr (sym c.finish.ensures ∙ seven) ]))
 
 pub returns-in-Err-clause-whole : goal.returns-in-Err-clause-whole
 returns-in-Err-clause-whole g c = λ is command found.
@@ -71,7 +71,7 @@ returns-in-Err-clause-whole g c = λ is command found.
     let P : Command → Type 0 = λ k.
     InputTook Done (input_place k) (g.W.World.state c.args.world.now) (g.W.World.state c.carry_out_with_workers-ended.new.world) in
     subst P same (whole_at_0 _ _ _ _ ended uses
-    (elim is [ inl zero ↦ inl (sym c.status_of.ensures ∙ zero) | inr seven ↦ inr (sym c.status_of.ensures ∙ seven) ]))
+    (elim is [ inl zero ↦ inl (sym c.finish.ensures ∙ zero) | inr seven ↦ inr (sym c.finish.ensures ∙ seven) ]))
 
 pub returns-in-Err-clause-short : goal.returns-in-Err-clause-short
 returns-in-Err-clause-short g c = λ is command found.
@@ -81,19 +81,19 @@ returns-in-Err-clause-short g c = λ is command found.
     let same : c.in-Err.command ≡ command = cc in
     let P : Command → Type 0 = λ k.
     InputTook Failed (input_place k) (g.W.World.state c.args.world.now) (g.W.World.state c.carry_out_with_workers-ended.new.world) in
-    subst P same (short_at_4 _ _ _ _ ended uses (sym c.status_of.ensures ∙ is))
+    subst P same (short_at_4 _ _ _ _ ended uses (sym c.finish.ensures ∙ is))
 
 pub returns-in-Err-clause-configs : goal.returns-in-Err-clause-configs
 returns-in-Err-clause-configs g c = λ is.
     let ended = c.carry_out_with_workers-ended.result in
     let uses = used_first _ _ _ _ _ ended (ap g.W.World.state c.in-Err.ensures.untouched.0) c.carry_out_with_workers-ended.ensures.world in
-    configs_at_7 _ _ _ _ ended uses (sym c.status_of.ensures ∙ is)
+    configs_at_7 _ _ _ _ ended uses (sym c.finish.ensures ∙ is)
 
 pub returns-in-Err-clause-to_end : goal.returns-in-Err-clause-to_end
 returns-in-Err-clause-to_end g c = λ is.
     let ended = c.carry_out_with_workers-ended.result in
     let uses = used_first _ _ _ _ _ ended (ap g.W.World.state c.in-Err.ensures.untouched.0) c.carry_out_with_workers-ended.ensures.world in
-    to_end_at_0 _ _ _ _ ended uses (sym c.status_of.ensures ∙ is)
+    to_end_at_0 _ _ _ _ ended uses (sym c.finish.ensures ∙ is)
 
 pub returns-in-Err-clause-complete : goal.returns-in-Err-clause-complete
 returns-in-Err-clause-complete g c = λ command found right.
@@ -102,7 +102,7 @@ returns-in-Err-clause-complete g c = λ command found right.
     let same : c.in-Err.command ≡ command = cc in
     let was = ap g.W.World.state c.in-Err.ensures.untouched.0 in
     let counted = ap g.O.Device.faults c.in-Err.ensures.untouched.1 in
-    subst IsCompleted (sym c.status_of.ensures)
+    subst IsCompleted (sym c.finish.ensures)
     (completes _ _ _ _ _ _ _ _ ended c.carry_out_with_workers-ended.ensures.carried c.carry_out_with_workers-ended.ensures.world
     c.carry_out_with_workers-ended.ensures.writes (right_at _ _ _ _ _ _ _ _ (sym same) (sym was) (sym counted) right))
 
@@ -117,4 +117,4 @@ returns-in-Err-clause-quota g c = λ gives is command found.
     let both : Some c.in-Err.command ≡ Some command = sym c.in-Err.ensures.left.0 ∙ found in
     let same : c.in-Err.command ≡ command = cc in
     let P : Command → Type 0 = λ k. IfSome (quota_of k) (λ quota. HaveServedJust quota (g.W.World.state c.carry_out_with_workers-ended.new.world).gears) in
-    subst P same (c.carry_out_with_workers-ended.ensures.quota gives (done_at_0 c.carry_out_with_workers-ended.result (sym c.status_of.ensures ∙ is)))
+    subst P same (c.carry_out_with_workers-ended.ensures.quota gives (done_at_0 c.carry_out_with_workers-ended.result (sym c.finish.ensures ∙ is)))

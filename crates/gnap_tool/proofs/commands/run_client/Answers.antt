@@ -12,7 +12,8 @@ use Rattle.gnap_tool.proofs.commands.run_client.Goals as goal
 
 pub returns-in-Ok-clause-world : goal.returns-in-Ok-clause-world
 returns-in-Ok-clause-world g c =
-    uses_then c.args.config.now _ _ _ c.in-Ok.ensures.world (Link c.args.address.now ∷ File c.args.script.now ∷ []) (Some 0) _ c.script_linked.ensures.world
+    uses_then c.args.config.now _ _ _ c.in-Ok.ensures.world (Link c.args.address.now ∷ File c.args.script.now ∷ []) (Some 0) _
+    c.script_linked-ended.ensures.world
 
 pub returns-in-Err-clause-world : goal.returns-in-Err-clause-world
 returns-in-Err-clause-world g c =
@@ -31,10 +32,10 @@ returns-in-Ok-clause-carried g c =
     let text = g.W.World.text c.args.world.now in
     let before = g.W.World.state c.args.world.now in
     let between = g.W.World.state c.open_config.new.world in
-    let after = g.W.World.state c.script_linked.new.world in
+    let after = g.W.World.state c.script_linked-ended.new.world in
     let out = g.O.Device.told c.args.out.now in
-    let out_now = g.O.Device.told c.script_linked.new.out in
-    let ended = c.script_linked.result in
+    let out_now = g.O.Device.told c.script_linked-ended.new.out in
+    let ended = c.script_linked-ended.result in
     let client = c.new-client.result in
     let new : IsNewClient (parts_of c.in-Ok.config) client = record {
       config = ap parts_of c.new-client.ensures.config;
@@ -49,7 +50,7 @@ returns-in-Ok-clause-carried g c =
     (λ taken rest. RunsScript client taken rest link.asked out out_now ended)) in
     by_setup_on parts_of client_config_in (text c.args.config.now) before between Then c.in-Ok.config after out out_now ended c.in-Ok.ensures.config
     (client_carried (parts_of c.in-Ok.config) client new (text c.args.script.now) after out out_now ended between
-    (subst T c.in-Ok.ensures.text c.script_linked.ensures.linked))
+    (subst T c.in-Ok.ensures.text c.script_linked-ended.ensures.linked))
 
 pub returns-in-Err-clause-carried : goal.returns-in-Err-clause-carried
 returns-in-Err-clause-carried g c =

@@ -13,19 +13,10 @@ use Rattle.gnap_tool.proofs.EachCommand.{starved_carries}
 use Rattle.gnap_tool.proofs.commands.run_without_workers.Goals as goal
 
 pub returns-in-Some-clause-reads : goal.returns-in-Some-clause-reads
-returns-in-Some-clause-reads g c = λ is. failed_at_4 _ _ _ _ c.in-Some.ended c.in-Some.ensures.world (sym c.status_of.ensures ∙ is)
+returns-in-Some-clause-reads g c = λ is. failed_at_4 _ _ _ _ c.in-Some.ended c.in-Some.ensures.world (sym c.finish.ensures ∙ is)
 
 pub returns-in-Some-clause-no_reads : goal.returns-in-Some-clause-no_reads
-returns-in-Some-clause-no_reads g c = λ isnt. c.in-Some.ensures.world.sound (λ failed. isnt (c.status_of.ensures ∙ ap status_of failed))
-
-pub returns-in-Err-NoCommand-clause-no_reads : goal.returns-in-Err-NoCommand-clause-no_reads
-returns-in-Err-NoCommand-clause-no_reads g c = λ isnt. unopened_sound _ _ refl refl
-
-pub returns-in-Err-Count-clause-no_reads : goal.returns-in-Err-Count-clause-no_reads
-returns-in-Err-Count-clause-no_reads g c = λ isnt. unopened_sound _ _ refl refl
-
-pub returns-in-Err-Word-clause-no_reads : goal.returns-in-Err-Word-clause-no_reads
-returns-in-Err-Word-clause-no_reads g c = λ isnt. unopened_sound _ _ refl refl
+returns-in-Some-clause-no_reads g c = λ isnt. c.in-Some.ensures.world.sound (λ failed. isnt (c.finish.ensures ∙ ap status_of failed))
 
 pub returns-in-Err-OutOfMemory-clause-no_reads : goal.returns-in-Err-OutOfMemory-clause-no_reads
 returns-in-Err-OutOfMemory-clause-no_reads g c = λ isnt. unopened_sound _ _ refl refl
@@ -36,7 +27,7 @@ returns-in-Some-clause-full g c = λ is command found.
     let same : c.in-Ok.command ≡ command = cc in
     let P : Command → Type 0 = λ k.
     IsSome (input_place k) × InputTook TooLong (input_place k) (g.W.World.state c.args.world.now) (g.W.World.state c.carry_out.new.world) in
-    subst P same (full_at_8 _ _ _ _ c.in-Some.ended c.in-Some.ensures.world (sym c.status_of.ensures ∙ is))
+    subst P same (full_at_8 _ _ _ _ c.in-Some.ended c.in-Some.ensures.world (sym c.finish.ensures ∙ is))
 
 pub returns-in-Some-clause-whole : goal.returns-in-Some-clause-whole
 returns-in-Some-clause-whole g c = λ is command found.
@@ -45,7 +36,7 @@ returns-in-Some-clause-whole g c = λ is command found.
     let P : Command → Type 0 = λ k.
     InputTook Done (input_place k) (g.W.World.state c.args.world.now) (g.W.World.state c.carry_out.new.world) in
     subst P same (whole_at_0 _ _ _ _ c.in-Some.ended c.in-Some.ensures.world
-    (elim is [ inl zero ↦ inl (sym c.status_of.ensures ∙ zero) | inr seven ↦ inr (sym c.status_of.ensures ∙ seven) ]))
+    (elim is [ inl zero ↦ inl (sym c.finish.ensures ∙ zero) | inr seven ↦ inr (sym c.finish.ensures ∙ seven) ]))
 
 pub returns-in-Err-OutOfMemory-clause-carries : goal.returns-in-Err-OutOfMemory-clause-carries
 returns-in-Err-OutOfMemory-clause-carries g c = λ command found. record { ended = Memory; status_is = refl; carried = starved_carries command _ _ _ }
@@ -59,13 +50,13 @@ returns-in-Some-clause-short g c = λ is command found.
     let same : c.in-Ok.command ≡ command = cc in
     let P : Command → Type 0 = λ k.
     InputTook Failed (input_place k) (g.W.World.state c.args.world.now) (g.W.World.state c.carry_out.new.world) in
-    subst P same (short_at_4 _ _ _ _ c.in-Some.ended c.in-Some.ensures.world (sym c.status_of.ensures ∙ is))
+    subst P same (short_at_4 _ _ _ _ c.in-Some.ended c.in-Some.ensures.world (sym c.finish.ensures ∙ is))
 
 pub returns-in-Some-clause-configs : goal.returns-in-Some-clause-configs
-returns-in-Some-clause-configs g c = λ is. configs_at_7 _ _ _ _ c.in-Some.ended c.in-Some.ensures.world (sym c.status_of.ensures ∙ is)
+returns-in-Some-clause-configs g c = λ is. configs_at_7 _ _ _ _ c.in-Some.ended c.in-Some.ensures.world (sym c.finish.ensures ∙ is)
 
 pub returns-in-Some-clause-to_end : goal.returns-in-Some-clause-to_end
-returns-in-Some-clause-to_end g c = λ is. to_end_at_0 _ _ _ _ c.in-Some.ended c.in-Some.ensures.world (sym c.status_of.ensures ∙ is)
+returns-in-Some-clause-to_end g c = λ is. to_end_at_0 _ _ _ _ c.in-Some.ended c.in-Some.ensures.world (sym c.finish.ensures ∙ is)
 
 pub returns-in-Some-clause-complete : goal.returns-in-Some-clause-complete
 returns-in-Some-clause-complete g c = λ command found right.
@@ -74,7 +65,7 @@ returns-in-Some-clause-complete g c = λ command found right.
     let P : Command → Type 0 = λ k.
     NothingWentWrong k (g.W.World.state c.args.world.now) (g.W.World.state c.carry_out.new.world) (g.O.Device.faults c.args.out.now)
     (g.O.Device.faults c.carry_out.new.out) in
-    subst IsCompleted (sym c.status_of.ensures)
+    subst IsCompleted (sym c.finish.ensures)
     (completes _ _ _ _ _ _ _ _ c.in-Some.ended c.in-Some.ensures.carried c.in-Some.ensures.world c.in-Some.ensures.writes (subst P (sym same) right))
 
 pub returns-in-Err-OutOfMemory-clause-complete : goal.returns-in-Err-OutOfMemory-clause-complete
@@ -85,4 +76,4 @@ returns-in-Some-clause-quota g c = λ gives is command found.
     let both : Some c.in-Ok.command ≡ Some command = sym c.in-Ok.ensures.read ∙ found in
     let same : c.in-Ok.command ≡ command = cc in
     let P : Command → Type 0 = λ k. IfSome (quota_of k) (λ quota. HaveServedJust quota (g.W.World.state c.carry_out.new.world).gears) in
-    subst P same (c.in-Some.ensures.quota gives (done_at_0 c.in-Some.ended (sym c.status_of.ensures ∙ is)))
+    subst P same (c.in-Some.ensures.quota gives (done_at_0 c.in-Some.ended (sym c.finish.ensures ∙ is)))

@@ -3,7 +3,7 @@ use Rattle.std.specs.Prelude.{None}
 use Rattle.outside.specs.declared.world.Opening.TheVariants.{Gears, Link}
 use Rattle.command_inputs.specs.declared.ended.Ended.{Ended}
 use Rattle.world_uses.specs.Uses.{UsesWorld}
-use Rattle.gnap_tool.proofs.ServedGears.{done_by}
+use Rattle.world_uses.proofs.ServedGears.{done_by}
 use Rattle.gnap_tool.proofs.ServedResources.{resources_used}
 use Rattle.gnap_tool.proofs.commands.serve_guarded.Goals as goal
 

@@ -14,12 +14,12 @@ returns-in-Ok-clause-carried g c out =
     let text = g.W.World.text c.args.world.now in
     let before = g.W.World.state c.args.world.now in
     let between = g.W.World.state c.open_config.new.world in
-    let after = g.W.World.state c.serve_cached.new.world in
-    let ended = c.serve_cached.result in
+    let after = g.W.World.state c.serve_cached-ended.new.world in
+    let ended = c.serve_cached-ended.result in
     let Then : WorldState → RsSetup
     → Type 0 = λ b setup. (out ≡ out) × ServesRs setup c.args.listen.now c.args.server.now c.args.quota c.args.cache b after ended in
     by_setup_on (λ (setup : RsSetup). setup) rs_setup_in (text c.args.config.now) before between Then c.in-Ok.setup after out out ended c.in-Ok.ensures.config
-    (refl, c.serve_cached.ensures.served)
+    (refl, c.serve_cached-ended.ensures.served)
 
 pub returns-in-Err-clause-carried : goal.returns-in-Err-clause-carried
 returns-in-Err-clause-carried g c out =
@@ -35,9 +35,9 @@ pub returns-in-Ok-clause-world : goal.returns-in-Ok-clause-world
 returns-in-Ok-clause-world g c =
     let before = g.W.World.state c.args.world.now in
     let between = g.W.World.state c.open_config.new.world in
-    let after = g.W.World.state c.serve_cached.new.world in
+    let after = g.W.World.state c.serve_cached-ended.new.world in
     uses_then c.args.config.now before between after c.in-Ok.ensures.world (Link c.args.server.now ∷ Gears c.args.listen.now 1 c.args.quota ∷ []) None
-    c.serve_cached.result c.serve_cached.ensures.world
+    c.serve_cached-ended.result c.serve_cached-ended.ensures.world
 
 pub returns-in-Err-clause-world : goal.returns-in-Err-clause-world
 returns-in-Err-clause-world g c =

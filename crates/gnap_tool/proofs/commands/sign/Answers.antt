@@ -11,14 +11,14 @@ use Rattle.gnap_tool.proofs.commands.sign.Goals as goal
 
 pub returns-in-Ok-clause-carried : goal.returns-in-Ok-clause-carried
 returns-in-Ok-clause-carried g c =
-    let out_now = g.O.Device.told c.carry_out_over.new.out in
-    let ended = c.carry_out_over.result in
+    let out_now = g.O.Device.told c.carry_out_over-ended.new.out in
+    let ended = c.carry_out_over-ended.result in
     file_on (λ (setup : Setup). setup) setup_in (g.W.World.text c.args.world.now) c.args.config.now c.args.file.now (g.W.World.state c.args.world.now)
     (g.W.World.state c.open_config.new.world) (g.O.Device.told c.args.out.now) (g.W.World.text c.open_config.new.world) c.in-Ok.setup
-    (g.W.World.state c.carry_out_over.new.world) out_now ended
+    (g.W.World.state c.carry_out_over-ended.new.world) out_now ended
     (λ setup taken rest. PrintsFor (SignsFile setup c.args.key.now c.args.created (option_copied c.args.nonce) (taken ++ rest)) (g.O.Device.told c.args.out.now)
     out_now ended)
-    c.in-Ok.ensures.text c.in-Ok.ensures.config c.carry_out_over.ensures.over
+    c.in-Ok.ensures.text c.in-Ok.ensures.config c.carry_out_over-ended.ensures.over
 
 pub returns-in-Err-clause-carried : goal.returns-in-Err-clause-carried
 returns-in-Err-clause-carried g c =
@@ -29,7 +29,7 @@ returns-in-Err-clause-carried g c =
     c.in-Err.ensures.config
 
 pub returns-in-Ok-clause-world : goal.returns-in-Ok-clause-world
-returns-in-Ok-clause-world g c = uses_then c.args.config.now _ _ _ c.in-Ok.ensures.world (File c.args.file.now ∷ []) None _ c.carry_out_over.ensures.world
+returns-in-Ok-clause-world g c = uses_then c.args.config.now _ _ _ c.in-Ok.ensures.world (File c.args.file.now ∷ []) None _ c.carry_out_over-ended.ensures.world
 
 pub returns-in-Err-clause-world : goal.returns-in-Err-clause-world
 returns-in-Err-clause-world g c =

@@ -1,4 +1,4 @@
-use Rattle.std.proofs.Common.{◌≡◌, ℕ, List, ◌∷◌, [], subst}
+use Rattle.std.proofs.Common.{ℕ, List, ◌∷◌, [], subst}
 use Rattle.std.specs.Prelude.{Option, None}
 use Rattle.outside.specs.Worlds.{WorldState}
 use Rattle.outside.specs.declared.world.Opening.TheVariants.{File}

@@ -8,7 +8,7 @@ use Rattle.gnap_tool.specs.Configs.{pairs_in}
 use Rattle.gnap_tool.specs.Runs.{ServesDeriving}
 use Rattle.world_uses.specs.Uses.{UsesWorld}
 use Rattle.world_uses.proofs.AfterConfig.{by_setup_on, by_setup_off, unread_used, unread_isnt_done, unread_writes, uses_then}
-use Rattle.gnap_tool.proofs.ServedGears.{done_by}
+use Rattle.world_uses.proofs.ServedGears.{done_by}
 use Rattle.gnap_tool.proofs.ServedSetups.{derivations_used}
 use Rattle.gnap_tool.proofs.services.serve_deriving.Goals as goal
 

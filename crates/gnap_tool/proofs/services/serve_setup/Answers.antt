@@ -1,10 +1,10 @@
-use Rattle.std.proofs.Common.{◌≡◌, ◌∷◌, [], sym, subst, inr, refl}
+use Rattle.std.proofs.Common.{◌∷◌, [], sym, subst, inr, refl}
 use Rattle.std.specs.Prelude.{None}
 use Rattle.outside.specs.declared.world.Opening.TheVariants.{Gears}
 use Rattle.command_inputs.specs.declared.ended.Ended.{Ended}
 use Rattle.command_words.specs.declared.command.Service.TheVariants.{Grants, Derivations, Sets}
 use Rattle.world_uses.specs.Uses.{UsesWorld}
-use Rattle.gnap_tool.proofs.ServedGears.{done_by}
+use Rattle.world_uses.proofs.ServedGears.{done_by}
 use Rattle.gnap_tool.proofs.ServedSetups.{grants_used, sets_used, serves_as, service_used}
 use Rattle.gnap_tool.proofs.services.serve_setup.Goals as goal
 

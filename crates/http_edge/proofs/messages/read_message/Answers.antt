@@ -1,4 +1,4 @@
-use Rattle.std.proofs.Common.{ℕ, List, length, take, drop, map, ◌≡◌, ◌∙◌, sym, ap, arith}
+use Rattle.std.proofs.Common.{ℕ, List, take, drop, map, ◌≡◌, ◌∙◌, sym, ap, arith}
 use Rattle.std.specs.Prelude.{◌==◌, ◌||◌}
 use Rattle.httparse.specs.Spans.{header_bytes}
 use Rattle.http1.specs.Fields.{Header}

@@ -1,8 +1,9 @@
 use Rattle.std.proofs.Common.{◌≡◌, ◌∙◌, refl, sym, ap, arith}
 use Rattle.std.specs.List.{fold}
+use Rattle.http_edge.specs.declared.held.Arrival.TheVariants.{More, End, Failed, Memory}
 use Rattle.http_edge.specs.declared.places.LinePlace.TheVariants.{BlankLines}
 use Rattle.http_edge.specs.Steps.{next_line_place}
-use Rattle.http_edge.proofs.Growing.{grows_none, grows_then, place_more}
+use Rattle.http_edge.proofs.Growing.{grows_none, grows_then, arrived_then, place_more}
 use Rattle.http_edge.proofs.HeadLines.{no_message_yet, not_behind}
 use Rattle.http_edge.proofs.Outcomes.{open_no_message}
 use Rattle.http_edge.proofs.reading.read_head.Goals as goal
@@ -38,3 +39,23 @@ loop-held-preserved g c =
       short = omega (arith, c.if-len-enough.false, c.len-else-is_behind_head.ensures.value, before.enough);
       enough = before.enough;
     }
+
+pub returns-in-End-clause-arrived : goal.returns-in-End-clause-arrived
+returns-in-End-clause-arrived g c =
+    let before = c.loop-held.invariant in
+    arrived_then End _ _ _ _ _ _ _ _ _ before.grows before.longer before.kept c.in-End.ensures.arrived
+
+pub returns-in-Failed-clause-arrived : goal.returns-in-Failed-clause-arrived
+returns-in-Failed-clause-arrived g c =
+    let before = c.loop-held.invariant in
+    arrived_then Failed _ _ _ _ _ _ _ _ _ before.grows before.longer before.kept c.in-Failed.ensures.arrived
+
+pub returns-in-Memory-clause-arrived : goal.returns-in-Memory-clause-arrived
+returns-in-Memory-clause-arrived g c =
+    let before = c.loop-held.invariant in
+    arrived_then Memory _ _ _ _ _ _ _ _ _ before.grows before.longer before.kept c.in-Memory.ensures.arrived
+
+pub returns-then-is_behind_head-clause-arrived : goal.returns-then-is_behind_head-clause-arrived
+returns-then-is_behind_head-clause-arrived g c =
+    let before = c.loop-held.invariant in
+    arrived_then More _ _ _ _ _ _ _ _ _ before.grows before.longer before.kept c.in-More.ensures.arrived

@@ -1,10 +1,24 @@
-use Rattle.std.proofs.Common.{◌≡◌, ℕ, List, take, drop, suc, sym, subst}
+use Rattle.std.proofs.Common.{◌≡◌, ◌∙◌, ℕ, List, take, drop, suc, sym, subst}
 use Rattle.std.proofs.lemmas.Result.{err_from_is_err_and}
 use Rattle.std.specs.Borrow.{Bor}
 use Rattle.std.proofs.lemmas.List.{take_all}
+use Rattle.http1.proofs.TextLemmas.{flat_map-take_more}
 use Rattle.http_edge.specs.Writes.{bytes_of_pieces, IsUnderWay}
-use Rattle.http_edge.proofs.Sending.{Began, began_more, under_way_fails, under_way_ends, pieces_split}
+use Rattle.http_edge.proofs.Sending.{Began, began_more, under_way_more, under_way_fails, under_way_ends, pieces_split}
 use Rattle.http_edge.proofs.writing.write_pieces.Goals as goal
+
+pub loop-piece-preserved : goal.loop-piece-preserved
+loop-piece-preserved g c =
+    let i = c.loop-piece.piece-index in
+    let pieces = c.args.pieces.now in
+    let told = g.S.Device.told in
+    let before = c.loop-piece.invariant in
+    let more = under_way_more (bytes_of_pieces (take i pieces)) c.loop-piece.outgoing _ _ _ _ _ before.way c.in_ok-put.ensures.put in
+    record {
+      way = subst (λ (t : List ℕ). IsUnderWay t c.put.new.self (told c.args.sink.now) (told c.put.new.sink))
+          (sym (flat_map-take_more (λ (piece : Bor (List ℕ)). piece.now) pieces i _ c.loop-piece-test.true)) more;
+      kept = c.in_ok-put.ensures.cause.same ∙ before.kept;
+    }
 
 pub returns-in_err-put-clause-sent : goal.returns-in_err-put-clause-sent
 returns-in_err-put-clause-sent g c =

@@ -1,15 +1,15 @@
 use Rattle.std.proofs.lemmas.Result.{err_from_is_err_and}
-use Rattle.message_signature.specs.Lone.{lone_seen}
+use Rattle.message_signature.specs.Lone.{tagged_read}
 use Rattle.message_signature.proofs.LoneSteps.{verified_by, verified_fails}
 use Rattle.message_signature.proofs.verifying.verify.Goals as goal
 
-pub returns-in_err-lone : goal.returns-in_err-lone
-returns-in_err-lone c = let p = err_from_is_err_and c.from_residual.result c.from_residual.ensures.1 in rw (p.1, p.2)
-    (verified_fails c.args.message.now c.args.base.now c.args.ring.now c.args.now c.args.tag.now c.in_err-lone.field-0.0
-    (rw c.as_slice.ensures.value at c.in_err-lone.ensures.err))
+pub returns-in_err-read : goal.returns-in_err-read
+returns-in_err-read c = let p = err_from_is_err_and c.from_residual.result c.from_residual.ensures.1 in rw (p.1, p.2)
+    (verified_fails c.args.message.now c.args.base.now c.args.ring.now c.args.now c.args.tag.now c.in_err-read.field-0.0
+    (rw c.as_slice.ensures.value at c.in_err-read.ensures.err))
 
-pub returns-in-Some : goal.returns-in-Some
-returns-in-Some c =
-    let there = rw (c.in-Some.is, c.as_slice.ensures.value) at c.in_ok-lone.ensures.ok in
-    rw (verified_by c.args.message.now c.args.base.now c.args.ring.now c.args.now c.args.tag.now (lone_seen there.0 c.in-Some.one) there.1)
-    (c.judged_list.ensures there.0)
+pub returns : goal.returns
+returns c =
+    let there = rw c.as_slice.ensures.value at c.in_ok-read.ensures.ok in
+    rw (verified_by c.args.message.now c.args.base.now c.args.ring.now c.args.now c.args.tag.now (tagged_read there.0 c.args.tag.now c.in_ok-read.read) there.1)
+    (c.judged_read-id.ensures there.0)

@@ -1,12 +1,15 @@
-use Rattle.std.proofs.Common.{ℕ, List, Option, subst}
-use Rattle.std.specs.Prelude.{Result}
-use Rattle.message_signature.specs.declared.fault.SigFault.{SigFault}
-use Rattle.message_signature.specs.declared.marks.SignatureMark.{SignatureMark}
-use Rattle.message_signature.specs.Faults.{Gives}
-use Rattle.message_signature.proofs.VerifiedParts.{id_and_mark_is}
+use Rattle.std.proofs.lemmas.Result.{err_from_is_err_and}
+use Rattle.message_signature.specs.Lone.{tagged_read}
+use Rattle.message_signature.proofs.LoneSteps.{marked_by, marked_fails}
 use Rattle.message_signature.proofs.verifying.verify_marked.Goals as goal
+
+pub returns-in_err-read : goal.returns-in_err-read
+returns-in_err-read c = let p = err_from_is_err_and c.from_residual.result c.from_residual.ensures.1 in rw (p.1, p.2)
+    (marked_fails c.args.message.now c.args.base.now c.args.ring.now c.args.now c.args.tag.now c.in_err-read.field-0.0
+    (rw c.as_slice.ensures.value at c.in_err-read.ensures.err))
 
 pub returns : goal.returns
 returns c =
-    subst (λ (read : Result (List ℕ × Option SignatureMark) SigFault). Gives (λ x. x) c.id_and_mark.result read)
-    (id_and_mark_is c.args.message.now c.args.base.now c.args.ring.now c.args.now c.args.tag.now) c.id_and_mark.ensures
+    let there = rw c.as_slice.ensures.value at c.in_ok-read.ensures.ok in
+    rw (marked_by c.args.message.now c.args.base.now c.args.ring.now c.args.now c.args.tag.now (tagged_read there.0 c.args.tag.now c.in_ok-read.read) there.1)
+    (c.id_and_mark-both.ensures there.0)

@@ -1,13 +1,11 @@
-use Rattle.std.proofs.Common.{◌≡◌, ◌∙◌, ◌+◌, ℕ, [], ◌∷◌, ◌++◌, length, map, ap, sym, subst, arith, All}
+use Rattle.std.proofs.Common.{◌≡◌, ◌∙◌, ℕ, [], ◌∷◌, ◌++◌, length, map, ap, sym, subst, arith, All, length-append}
 use mathlib.Core.Option.{some}
 use lib.ListN.{get_elem?}
 use Rattle.std.specs.Vec.Iter.{into_iter_items}
 use Rattle.std.proofs.lemmas.List.{nil_from_length, map-append, append-nil, length-map}
 use Rattle.std.proofs.lemmas.List.Elements.{All-push}
-use Rattle.histories.specs.Whole.{AllKeep}
 use Rattle.shared_server.specs.Passes.{IsPassOf}
-use Rattle.serving.specs.Workers.{accounts_of}
-use Rattle.serving.proofs.Starting.{next_at, parts-next, size-next, each-next, one-more-account, account_as, map-next}
+use Rattle.serving.proofs.Starting.{next_at, parts-next, size-next, each-next, accounts-next, account_as, map-next}
 use Rattle.serving.proofs.threads.end_workers.Goals as goal
 
 pub loop-worker-preserved : goal.loop-worker-preserved
@@ -26,11 +24,8 @@ loop-worker-preserved g c =
     let place : pass.number ≡ length c.loop-worker.passes.items = c.leave-pass.ensures.number ∙ placed.1 ∙ sym i.4 in
     let session = g.F.Front.session in
     let made = map-next state c.loop-worker.gears.items c.push_reserved-in-loop-worker.new.self.items gear gears in
-    let all_seen = map-next (λ p. p.seen) c.loop-worker.passes.items c.push_reserved.new.self.items pass pushed in
-    let account = account_as session w.front c.args.front.now w.gear.log (state gear).log w.station.number
-    (0 + length (map (λ p. p.seen) c.loop-worker.passes.items)) pass.seen
-    placed.2 (sym (ap (λ s. s.log) c.leave-pass.ensures.gear))
-    (let a = placed.1 in let b = i.4 in let d = length-map c.loop-worker.passes.items (λ p. p.seen) in omega (arith, a, b, d)) c.leave-pass.ensures.account in (
+    let account = account_as session w.front c.args.front.now w.gear.log (state gear).log w.station.number (length c.loop-worker.passes.items) pass.seen
+    placed.2 (sym (ap (λ s. s.log) c.leave-pass.ensures.gear)) (placed.1 ∙ sym i.4) c.leave-pass.ensures.account in (
       tt,
       tt,
       parts-next c.loop-worker.yielded _ _ _ w i.2 c.in-Some.ensures.steps.0,
@@ -44,12 +39,41 @@ loop-worker-preserved g c =
           (subst (λ h. IsPassOf h pass) placed.0 c.leave-pass.ensures.of, place)),
       subst (All (λ g'. (state g').out ≡ 0)) (sym gears)
           (All-push (λ g'. (state g').out ≡ 0) c.loop-worker.gears.items gear i.8 (ap (λ s. s.out) c.leave-pass.ensures.gear ∙ c.leave-pass.ensures.out)),
-      subst (λ l. AllKeep 0 (accounts_of (session c.args.front.now) l) (map (λ p. p.seen) c.push_reserved.new.self.items)) (sym made)
-          (subst (λ l. AllKeep 0 (accounts_of (session c.args.front.now) (map state c.loop-worker.gears.items ++ state gear ∷ [])) l) (sym all_seen)
-          (one-more-account (session c.args.front.now) (map state c.loop-worker.gears.items) (state gear) (map (λ p. p.seen) c.loop-worker.passes.items)
-          pass.seen 0 i.9 account)),
+      accounts-next (session c.args.front.now) state (λ p. p.seen) c.loop-worker.gears.items _ gear c.loop-worker.passes.items _ pass gears pushed i.9 account,
       (let a = c.in-Some.ensures.steps.1 in let b = ap length c.in-Some.ensures.steps.0 in let d = i.10 in omega (arith, a, b, d)),
     )
+
+pub push_reserved-requires : goal.push_reserved-requires
+push_reserved-requires g c =
+    let i = c.loop-worker.invariant in
+    let long = c.loop-worker.passes.ok in
+    let left = ap length c.in-Some.ensures.steps.0 in
+    let many = i.4 in
+    let room = i.5 in
+    omega (arith, long, left, many, room)
+
+pub push_reserved-requires-in-loop-worker : goal.push_reserved-requires-in-loop-worker
+push_reserved-requires-in-loop-worker g c =
+    let i = c.loop-worker.invariant in
+    let long = c.loop-worker.gears.ok in
+    let left = ap length c.in-Some.ensures.steps.0 in
+    let many = sym (length-map c.loop-worker.gears.items g.G.Counted.state) ∙ ap length i.3 ∙ length-map c.loop-worker.yielded (λ worker. worker.gear) in
+    let room = i.6 in
+    omega (arith, long, left, many, room)
+
+pub returns-clause-passes : goal.returns-clause-passes
+returns-clause-passes g c =
+    let i = c.loop-worker.invariant in
+    record {
+      count = (
+          let none = sym i.10 ∙ c.in-None.ensures.steps.0 in
+          let all = ap length i.2 in
+          let parts = length-append c.loop-worker.yielded (into_iter_items c.loop-worker.worker-iterator) in
+          let many = i.4 in
+          let count = c.requires.workers.count in
+          omega (arith, none, all, parts, many, count));
+      each = i.7;
+    }
 
 pub returns-clause-gears : goal.returns-clause-gears
 returns-clause-gears g c =
@@ -57,3 +81,9 @@ returns-clause-gears g c =
     let none : into_iter_items c.loop-worker.worker-iterator
     ≡ [] = nil_from_length (into_iter_items c.loop-worker.worker-iterator) (sym i.10 ∙ c.in-None.ensures.steps.0) in
     i.3 ∙ ap (map (λ worker. worker.gear)) (sym (append-nil c.loop-worker.yielded) ∙ ap (λ l. c.loop-worker.yielded ++ l) (sym none) ∙ i.2)
+
+pub returns-clause-out : goal.returns-clause-out
+returns-clause-out g c = c.loop-worker.invariant.8
+
+pub returns-clause-accounts : goal.returns-clause-accounts
+returns-clause-accounts g c = c.loop-worker.invariant.9

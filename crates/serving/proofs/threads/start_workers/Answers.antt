@@ -4,7 +4,7 @@ use Rattle.std.proofs.lemmas.List.{nil_from_length, append-nil}
 use Rattle.std.proofs.lemmas.List.Elements.{All-same, All-head, All-rest}
 use Rattle.outside.specs.Gears.{IsUnused}
 use Rattle.serving.specs.Workers.{ArePlaced}
-use Rattle.serving.proofs.Starting.{first-taken, size-next, made-next, each-next}
+use Rattle.serving.proofs.Starting.{none-placed, first-taken, size-next, made-next, each-next}
 use Rattle.serving.proofs.threads.start_workers.Goals as goal
 
 pub loop-alloc-init : goal.loop-alloc-init
@@ -18,7 +18,7 @@ loop-alloc-init g c =
       many = c.requires.many;
       count = omega (arith, size, count);
       room = (let room = c.requires.room.1 in omega (arith, size, room));
-      placed = subst (ArePlaced c.args.shared.now c.args.front.now) (sym none) (λ k w e. absurd cc);
+      placed = subst (ArePlaced c.args.shared.now c.args.front.now) (sym none) (none-placed c.args.shared.now c.args.front.now);
       waiting = λ k p e.
           let pass = c.requires.passes.all.each k p e in
           (pass.0, pass.1 ∙ omega (arith, size), c.requires.passes.unseen k p e);

@@ -11,6 +11,6 @@ invariant-loop-ask l =
     let issued = tokens_for (supply l.entering) (opening_of l.row) (take l.ask-index l.asks) 0 in
     record {
       next : l.index ≡ 2 * l.ask-index;
-      handed : l.told ≡ map (token_out l.entering.supply.moment) issued;
-      stored : rows_in l.rows ≡ map new_token issued;
+      handed : l.tokens.told ≡ map (token_out l.entering.supply.moment) issued;
+      stored : rows_in l.tokens.rows ≡ map new_token issued;
     }

@@ -1,24 +1,34 @@
-use Rattle.std.proofs.Common.{◌≡◌, ◌≤◌, ◌+◌, ◌-◌, ◌∙◌, ◌++◌, List, ℕ, ap, take, drop, length, arith, rules, refl, length-drop, length-take}
+use Rattle.std.proofs.Common.{◌≡◌, ◌≤◌, ◌+◌, ◌-◌, ◌∙◌, ◌++◌, List, ℕ, ap, take, drop, length, arith, rules, refl, length-drop}
 use Rattle.std.specs.Prelude.{slice_range}
-use Rattle.http_edge.proofs.Buffers.{length_between, room_left, moved, between_same, read_behind}
+use Rattle.http_edge.proofs.Buffers.{few_between, stays_within, moved, between_same, read_behind}
 use Rattle.http_edge.proofs.Growing.{grows_same, grows_end, grows_by}
 use Rattle.http_edge.proofs.held.Held.fill.Goals as goal
 
 pub invariant_of-self : goal.invariant_of-self
 invariant_of-self g c =
-    let h = c.self.inside in
-    let len = length_between h.buffer.items h.start h.end c.self.invariant.0 c.self.invariant.1 in
     let start = c.start_with_room-start.ensures in
-    let view = ap length c.self.view_is in
-    let longer = ap length c.lengthen.ensures.bytes in
-    let taken = length-take (length c.start_with_room-start.new.buffer.items) c.lengthen.new.buffer.items in (
-      omega (arith, start.start, c.self.invariant.0),
-      omega (arith, start.start, c.self.invariant.0, c.self.invariant.1, start.len, longer, taken),
-      c.lengthen.ensures.bound 81920
-          (room_left _ h.start h.end c.start_with_room-start.result c.args.room start.start c.self.invariant.0 c.self.invariant.1 c.self.invariant.2
-          (omega (arith, len, view, c.requires.room.1)) start.room)
-          (omega (arith, start.len, c.self.invariant.2)),
-    )
+    stays_within _ _ _ _ _ c.self.inside.start c.self.inside.end _ c.args.room c.self.invariant c.self.view_is c.requires.room.1 start.start start.len
+    start.room c.lengthen.ensures.bytes c.lengthen.ensures.bound refl
+
+pub invariant_of-self-in-Err : goal.invariant_of-self-in-Err
+invariant_of-self-in-Err g c =
+    let start = c.start_with_room-start.ensures in
+    stays_within _ _ _ _ _ c.self.inside.start c.self.inside.end _ c.args.room c.self.invariant c.self.view_is c.requires.room.1 start.start start.len
+    start.room c.lengthen.ensures.bytes c.lengthen.ensures.bound c.in-Err.ensures.len
+
+pub invariant_of-self-in-Ok-eq0 : goal.invariant_of-self-in-Ok-eq0
+invariant_of-self-in-Ok-eq0 g c =
+    let start = c.start_with_room-start.ensures in
+    stays_within _ _ _ _ _ c.self.inside.start c.self.inside.end _ c.args.room c.self.invariant c.self.view_is c.requires.room.1 start.start start.len
+    start.room c.lengthen.ensures.bytes c.lengthen.ensures.bound c.in-Ok-eq0.ensures.len
+
+pub invariant_of-self-in-Ok : goal.invariant_of-self-in-Ok
+invariant_of-self-in-Ok g c =
+    let start = c.start_with_room-start.ensures in
+    let within = stays_within _ _ _ _ _ c.self.inside.start c.self.inside.end _ c.args.room c.self.invariant c.self.view_is c.requires.room.1 start.start
+    start.len start.room c.lengthen.ensures.bytes c.lengthen.ensures.bound c.in-Ok.ensures.len in
+    let long : c.self.inside.end - (c.self.inside.start - c.start_with_room-start.result) + c.args.room ≤ length c.lengthen.new.buffer.items = search rules in
+    (omega (arith, within.0), omega (arith, long, c.in-Ok.ensures.bound, c.in-Ok.ensures.len), within.2)
 
 pub returns-then-is_err-clause-arrived : goal.returns-then-is_err-clause-arrived
 returns-then-is_err-clause-arrived g c =
@@ -71,3 +81,15 @@ returns-in-Ok-clause-arrived g c =
     (omega arith)
     (omega (arith, length-drop end c.read_at.new.buffer.items, c.in-Ok.ensures.len, c.in-Ok.ensures.bound)) in
     (grows.0, grows.1, c.in-Ok.ensures.cause.same)
+
+pub returns-then-is_err-clause-bound : goal.returns-then-is_err-clause-bound
+returns-then-is_err-clause-bound g c = few_between _ _ _ _ (invariant_of-self g c).2
+
+pub returns-in-Err-clause-bound : goal.returns-in-Err-clause-bound
+returns-in-Err-clause-bound g c = few_between _ _ _ _ (invariant_of-self-in-Err g c).2
+
+pub returns-in-Ok-eq0-clause-bound : goal.returns-in-Ok-eq0-clause-bound
+returns-in-Ok-eq0-clause-bound g c = few_between _ _ _ _ (invariant_of-self-in-Ok-eq0 g c).2
+
+pub returns-in-Ok-clause-bound : goal.returns-in-Ok-clause-bound
+returns-in-Ok-clause-bound g c = few_between _ _ _ _ (invariant_of-self-in-Ok g c).2

@@ -1,9 +1,0 @@
-use Rattle.message_signature.specs.Seen.{signature_seen}
-use Rattle.key_rotation.proofs.Told.{first_gives, first_told}
-use Rattle.key_rotation.proofs.verifying.first_signature.Goals as goal
-
-pub returns-clause-gives : goal.returns-clause-gives
-returns-clause-gives c = rw c.in_first.ensures (first_gives signature_seen c.tagged.result _ c.tagged.ensures)
-
-pub returns-clause-told : goal.returns-clause-told
-returns-clause-told c = rw c.in_first.ensures (first_told c.tagged.result)

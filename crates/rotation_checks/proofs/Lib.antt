@@ -1,0 +1,3 @@
+mod RotationLines
+mod Told
+pub mod Members

@@ -1,0 +1,4 @@
+pub mod RotationBase
+pub mod Faults
+pub mod SecondSignature
+pub mod Rotated
