@@ -69,8 +69,11 @@ fn read_head<S: Source>(source: &mut S, held: &mut Held) -> Arrival
             Arrival::Failed => return Arrival::Failed,
             Arrival::Memory => return Arrival::Memory,
         }
+        if held.len() >= enough {
+            return Arrival::More;
+        }
         place = line_place(place, &held.as_slice()[seen..]);
-        if is_behind_head(place) || held.len() >= enough {
+        if is_behind_head(place) {
             return Arrival::More;
         }
     }

@@ -36,7 +36,7 @@ loop-held-preserved g c =
       kept = arrived.2 ∙ before.kept;
       waiting = no_message_yet c.fill.new.self (λ e. not_behind _ (sym c.is_behind_head.ensures ∙ c.if-is_behind_head.false) (place ∙ e));
       place = place;
-      short = omega (arith, c.if-len-enough.false, c.len-else-is_behind_head.ensures.value, before.enough);
+      short = omega (arith, c.if-len-enough.false, c.len-in-loop-held.ensures.value, before.enough);
       enough = before.enough;
     }
 
