@@ -1,6 +1,7 @@
 //! The authorization server, as `serving` serves it.
 use crate::replies::{http_reply, print_direct};
 use as_requests::{Edge, RequestStep, desk_call};
+use body_reading::BodyReader;
 use bytes_and_lists::memory::Mem;
 use bytes_and_lists::message::Message;
 use gnap_model::calls::Reply;
@@ -30,6 +31,8 @@ impl Server for AuthorizationServer {
 
     type Response = ReadyReply;
 
+    type Scratch = BodyReader;
+
     ghost rules = { λ server. server.edge };
 
     ghost face = { edge_face };
@@ -40,14 +43,19 @@ impl Server for AuthorizationServer {
 
     ghost says_all = { says_all };
 
+    fn scratch(&self, alloc: Global) -> BodyReader {
+        BodyReader::new(alloc)
+    }
+
     fn step(
         &self,
         alloc: Global,
+        bodies: &mut BodyReader,
         message: &Message,
         moment: u64,
         last: bool,
     ) -> Result<MessageStep<ReadyReply, Signed>, Mem> {
-        match desk_call(alloc, message, &self.edge, moment)? {
+        match desk_call(alloc, bodies, message, &self.edge, moment)? {
             RequestStep::Direct(answer) => {
                 let said = print_direct(alloc, self.edge.setup(), answer, last)?;
                 Ok(MessageStep::Say(said))

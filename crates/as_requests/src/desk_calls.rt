@@ -11,10 +11,11 @@ use crate::edge::Edge;
 use crate::key_rotations::is_signed_by_named;
 use crate::routes::{Purpose, Route};
 use crate::signers::{Signer, find_signer, needs_mark};
+use body_reading::BodyReader;
 use bytes_and_lists::memory::Mem;
 use bytes_and_lists::message::Message;
 use gnap_objects::{BodyForm, CallKind, CallOrRefusal, ErrorCode, read_call, stranger};
-use json_objects::{BodyFault, read_body};
+use json_objects::BodyFault;
 use message_signature::target_path;
 use signed_calls::signed::{Mark, Signed};
 use std::alloc::Global;
@@ -59,6 +60,7 @@ fn step_of(mark: Option<Mark>, answer: CallOrRefusal) -> RequestStep
 // The call that the message makes under this key.
 fn call_by(
     alloc: Global,
+    bodies: &mut BodyReader,
     edge: &Edge,
     kind: CallKind,
     key: &[u8],
@@ -72,7 +74,7 @@ fn call_by(
     if message.body.len() == 0 {
         return read_call(alloc, edge.setup(), kind, key, value, BodyForm::Absent);
     }
-    match read_body(alloc, message.body.as_slice()) {
+    match bodies.read(alloc, message.body.as_slice()) {
         Ok(object) => {
             let body = BodyForm::Object(&object);
             read_call(alloc, edge.setup(), kind, key, value, body)
@@ -87,6 +89,7 @@ fn call_by(
 // The call that the message makes, where its signer may make it.
 fn signed_step(
     alloc: Global,
+    bodies: &mut BodyReader,
     edge: &Edge,
     kind: CallKind,
     message: &Message,
@@ -98,7 +101,7 @@ fn signed_step(
     match find_signer(alloc, edge, needs_mark(kind), message, moment)? {
         None => Ok(step_of(None, stranger(kind))),
         Some(Signer { key, mark }) => {
-            let call = call_by(alloc, edge, kind, key.as_slice(), message)?;
+            let call = call_by(alloc, bodies, edge, kind, key.as_slice(), message)?;
             Ok(step_of(mark, call))
         }
     }
@@ -139,6 +142,7 @@ fn rotation_step(
 // What the message asks of the route.
 fn route_step(
     alloc: Global,
+    bodies: &mut BodyReader,
     edge: &Edge,
     route: Route,
     message: &Message,
@@ -152,7 +156,7 @@ fn route_step(
         Some(Purpose::Discovery) => Ok(RequestStep::Direct(DirectAnswer::Discovery)),
         Some(Purpose::RsDiscovery) => Ok(RequestStep::Direct(DirectAnswer::RsDiscovery)),
         Some(Purpose::Calls(kind)) => {
-            let step = signed_step(alloc, edge, kind, message, moment)?;
+            let step = signed_step(alloc, bodies, edge, kind, message, moment)?;
             rotation_step(alloc, edge, message, moment, step)
         }
     }
@@ -166,10 +170,11 @@ fn route_step(
 /// `rotation_checks::verify_rotation` doesn't answer that key as the one that made the second signature (RFC 9635, section 6.1.1); and else the call that was
 /// read. A call other than an introspection has the signature's mark.
 ///
-/// A body goes through unread until the signature passed. Err only where memory ran out, and nothing is changed then.
+/// A body goes through unread until the signature passed, and is read by `bodies`. Err only where memory ran out, and nothing is changed then.
 #[tactic(auto, unfolding(crate::specs::DeskCalls::desk_call))]
 pub fn desk_call(
     alloc: Global,
+    bodies: &mut BodyReader,
     message: &Message,
     edge: &Edge,
     moment: u64,
@@ -179,6 +184,6 @@ pub fn desk_call(
 {
     match Route::at(target_path(message.target.as_slice())) {
         None => Ok(RequestStep::Direct(DirectAnswer::NotFound)),
-        Some(route) => route_step(alloc, edge, route, message, moment),
+        Some(route) => route_step(alloc, bodies, edge, route, message, moment),
     }
 }

@@ -10,12 +10,13 @@ ghost use Rattle.derivation_requests.specs.Deriving.{parent_in, parent_of, serve
 
 use crate::pairs::Pairs;
 use as_requests::{DirectAnswer, Edge, RequestStep, desk_call};
+use body_reading::BodyReader;
 use bytes_and_lists::bytes::Bytes;
 use bytes_and_lists::memory::{Duplicate, Mem};
 use bytes_and_lists::message::Message;
 use gnap_model::calls::Call;
 use gnap_model::objects::ErrorCode;
-use json_objects::{BodyFault, member, read_body};
+use json_objects::{BodyFault, member};
 use serde_json::Value;
 use signed_calls::signed::Signed;
 use std::alloc::Global;
@@ -55,10 +56,10 @@ fn parent_in(alloc: Global, body: &Value) -> Result<Option<Bytes>, Mem>
     Ok(Some(Bytes::from_slice(alloc, parent.as_bytes())?))
 }
 
-fn parent_of(alloc: Global, body: &[u8]) -> Result<Option<Bytes>, Mem>
+fn parent_of(alloc: Global, bodies: &mut BodyReader, body: &[u8]) -> Result<Option<Bytes>, Mem>
     ensures { IfOk result (λ parent. parent ≡ parent_of body.now) }
 {
-    match read_body(alloc, body) {
+    match bodies.read(alloc, body) {
         Ok(object) => parent_in(alloc, &object),
         Err(BodyFault::OutOfMemory) => Err(Mem),
         Err(BodyFault::NotAnObject | BodyFault::Number) => Ok(None),
@@ -78,19 +79,26 @@ fn beginner(call: &Call) -> Option<&Bytes>
 // The parent that the body names, and the server's id.
 fn parent_and_server(
     alloc: Global,
+    bodies: &mut BodyReader,
     body: &[u8],
     server: &Bytes,
 ) -> Result<Option<(Bytes, Bytes)>, Mem>
     ensures { IfOk result (λ found. found ≡ option_map (λ parent. (parent, server.now)) (parent_of body.now)) }
 {
-    match parent_of(alloc, body)? {
+    match parent_of(alloc, bodies, body)? {
         Some(parent) => Ok(Some((parent, server.copy()?))),
         None => Ok(None),
     }
 }
 
 // A grant request of the client that this server uses.
-fn by_parent(alloc: Global, body: &[u8], server: &Bytes, begin: Signed) -> Result<DeriveStep, Mem>
+fn by_parent(
+    alloc: Global,
+    bodies: &mut BodyReader,
+    body: &[u8],
+    server: &Bytes,
+    begin: Signed,
+) -> Result<DeriveStep, Mem>
     requires server { IsUtf8 server.now }
     requires fits { SignedFits begin }
     requires begins { IsBegin begin.call }
@@ -98,7 +106,7 @@ fn by_parent(alloc: Global, body: &[u8], server: &Bytes, begin: Signed) -> Resul
     ensures derivable { IfOk result IsDerivable }
 {
     // An exit that lets a call go writes its drop out, for each kind of call: `drop` is one call.
-    match parent_and_server(alloc, body, server) {
+    match parent_and_server(alloc, bodies, body, server) {
         Ok(Some((parent, server))) => Ok(DeriveStep::Derive {
             parent,
             server,
@@ -127,14 +135,13 @@ fn server_of<'p>(pairs: &'p Pairs, call: &Call) -> Option<&'p Bytes>
     pairs.server_of(beginner(call)?.as_slice())
 }
 
-/// What the message asks at this moment, in seconds since 1970, where these pairs are known: what `as_requests::desk_call` answers, but for a grant request of
-/// a
-/// pair's client. Where its member `existing_access_token` is a string of at most 64 bytes, it is `Derive` with that string, the pair's server and the request;
-/// else
-/// the answer is `invalid_request`. The body is read a second time then. Err only where memory ran out, and nothing is changed then.
+/// What the message asks at this moment, in seconds since 1970, where these pairs are known: what `as_requests::desk_call` answers, but for a grant request
+/// of a pair's client. Where its member `existing_access_token` is a string of at most 64 bytes, it is `Derive` with that string, the pair's server and the
+/// request; else the answer is `invalid_request`. `bodies` reads the body a second time then. Err only where memory ran out, and nothing is changed then.
 #[tactic(auto, unfolding(crate::specs::Deriving::derive_call))]
 pub fn derive_call(
     alloc: Global,
+    bodies: &mut BodyReader,
     message: &Message,
     edge: &Edge,
     pairs: &Pairs,
@@ -144,11 +151,11 @@ pub fn derive_call(
     ensures step { IfOk result (λ s. s ≡ derive_call pairs.now edge.now message.now moment) }
     ensures derivable { IfOk result IsDerivable }
 {
-    match desk_call(alloc, message, edge, moment)? {
+    match desk_call(alloc, bodies, message, edge, moment)? {
         RequestStep::Direct(answer) => Ok(DeriveStep::Plain(RequestStep::Direct(answer))),
         RequestStep::Ask(call) => match server_of(pairs, &call.call) {
             None => Ok(DeriveStep::Plain(RequestStep::Ask(call))),
-            Some(server) => by_parent(alloc, message.body.as_slice(), server, call),
+            Some(server) => by_parent(alloc, bodies, message.body.as_slice(), server, call),
         },
     }
 }

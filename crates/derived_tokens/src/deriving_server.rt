@@ -20,6 +20,7 @@ ghost use Rattle.derived_tokens.specs.DerivedTurns.{question, active_until, endi
 
 use as_edge::{AuthorizationServer, print_direct};
 use as_requests::{DirectAnswer, Edge, RequestStep};
+use body_reading::BodyReader;
 use bytes_and_lists::bytes::Bytes;
 use bytes_and_lists::memory::Mem;
 use bytes_and_lists::message::Message;
@@ -74,11 +75,24 @@ impl DerivingServer {
     }
 
     // What the message asks.
-    fn step(&self, alloc: Global, message: &Message, moment: u64) -> Result<DeriveStep, Mem>
+    fn step(
+        &self,
+        alloc: Global,
+        bodies: &mut BodyReader,
+        message: &Message,
+        moment: u64,
+    ) -> Result<DeriveStep, Mem>
         ensures step { IfOk result (λ s. s ≡ derive_call self.now.pairs self.now.setup message.now moment) }
         ensures derivable { IfOk result IsDerivable }
     {
-        derive_call(alloc, message, &self.server.edge, &self.pairs, moment)
+        derive_call(
+            alloc,
+            bodies,
+            message,
+            &self.server.edge,
+            &self.pairs,
+            moment,
+        )
     }
 
     // Says what needs no state.
@@ -307,6 +321,8 @@ impl<D: Desk<M = Gnap>, G: Clock + Draws> TurnTaker<D, G> for DerivingServer {
 
     type Message = Message;
 
+    type Scratch = BodyReader;
+
     ghost Entry = { GnapEntry };
 
     ghost Past = { List GnapEntry };
@@ -315,9 +331,14 @@ impl<D: Desk<M = Gnap>, G: Clock + Draws> TurnTaker<D, G> for DerivingServer {
 
     ghost is_turn = { λ server. IsDerivingTurn server.pairs server.setup };
 
+    fn scratch(&self, alloc: Global) -> BodyReader {
+        BodyReader::new(alloc)
+    }
+
     fn turn<S: Source + Sink>(
         &self,
         alloc: Global,
+        bodies: &mut BodyReader,
         desk: &mut D,
         conn: &mut S,
         gear: &mut G,
@@ -325,7 +346,7 @@ impl<D: Desk<M = Gnap>, G: Clock + Draws> TurnTaker<D, G> for DerivingServer {
         last: bool,
     ) -> AfterTurn {
         let moment = gear.now();
-        match self.step(alloc, message, moment) {
+        match self.step(alloc, bodies, message, moment) {
             Ok(DeriveStep::Plain(step)) => {
                 plain_turn(self, alloc, desk, conn, gear, message, last, moment, step)
             }

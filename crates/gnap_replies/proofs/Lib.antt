@@ -1,2 +1,3 @@
-pub mod WholeReplies
+mod Printing
+mod TokenArrays
 mod Examples

@@ -1,4 +1,5 @@
 pub mod Endpoints
+pub mod Printing
 pub mod Tokens
 pub mod Grants
 pub mod Interactions

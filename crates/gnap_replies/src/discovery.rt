@@ -1,81 +1,64 @@
 //! What the authorization server says of itself.
-ghost use Rattle.std.specs.Prelude.{◌≡◌, IfOk, IsUtf8, map};
-ghost use Rattle.serde_json.specs.View.{view};
+ghost use Rattle.std.specs.Prelude.{◌≡◌, IfOk, IsUtf8};
 ghost use Rattle.serde_json.specs.Written.{compact_text};
-ghost use Rattle.json_objects.specs.Objects.{texts_data};
+ghost use Rattle.gnap_replies.specs.Printing.{Printed, then_value, HasPrinted};
 ghost use Rattle.gnap_replies.specs.Discovery.{client_discovery, server_discovery};
 
-use crate::endpoints::place_value;
+use crate::endpoints::print_place;
+use crate::printer::Printer;
 use bytes_and_lists::bytes::Bytes;
 use bytes_and_lists::memory::Mem;
-use json_objects::{Draft, compact_text, word_value};
-use serde_json::Value;
 use std::alloc::Global;
 
-fn words_value(alloc: Global, words: &[&str]) -> Result<Value, Mem>
-    ensures { IfOk result (λ v. view v ≡ texts_data (map (λ w. w.now) words.now)) }
+fn print_for_client(alloc: Global, out: Printer, base: &[u8]) -> Printer
+    requires { IsUtf8 base.now }
+    ensures { (p : Printed) → HasPrinted out p → HasPrinted result (then_value p (compact_text (client_discovery base.now))) }
 {
-    let mut items = Vec::new(alloc);
-    for word in words {
-        items.push(word_value(alloc, *word)?)?;
-    }
-    Ok(Value::Array(items))
+    let out = out.begin(b'{').name("grant_request_endpoint");
+    let out = print_place(alloc, out, base, "/gnap");
+    let out = out
+        .name("interaction_finish_methods_supported")
+        .value(b"[\"redirect\",\"push\"]")
+        .name("interaction_start_modes_supported")
+        .value(b"[\"redirect\",\"user_code\",\"user_code_uri\"]");
+    out.name("key_proofs_supported")
+        .value(b"[\"httpsig\"]")
+        .name("key_rotation_supported")
+        .value(b"true")
+        .name("sub_id_formats_supported")
+        .value(b"[\"opaque\"]")
+        .end(b'}')
 }
 
-#[tactic(auto, unfolding(crate::specs::Discovery::client_discovery))]
-fn client_discovery_value(alloc: Global, base: &[u8]) -> Result<Value, Mem>
+fn print_for_server(alloc: Global, out: Printer, base: &[u8]) -> Printer
     requires { IsUtf8 base.now }
-    ensures { IfOk result (λ v. view v ≡ client_discovery base.now) }
+    ensures { (p : Printed) → HasPrinted out p → HasPrinted result (then_value p (compact_text (server_discovery base.now))) }
 {
-    Draft::new(alloc)
-        .with("sub_id_formats_supported", words_value(alloc, &["opaque"]))
-        .with_bool("key_rotation_supported", true)
-        .with("key_proofs_supported", words_value(alloc, &["httpsig"]))
-        .with(
-            "interaction_start_modes_supported",
-            words_value(alloc, &["redirect", "user_code", "user_code_uri"]),
-        )
-        .with(
-            "interaction_finish_methods_supported",
-            words_value(alloc, &["redirect", "push"]),
-        )
-        .with("grant_request_endpoint", place_value(alloc, base, "/gnap"))
-        .value()
-}
-
-#[tactic(auto, unfolding(crate::specs::Discovery::server_discovery))]
-fn server_discovery_value(alloc: Global, base: &[u8]) -> Result<Value, Mem>
-    requires { IsUtf8 base.now }
-    ensures { IfOk result (λ v. view v ≡ server_discovery base.now) }
-{
-    Draft::new(alloc)
-        .with(
-            "resource_registration_endpoint",
-            place_value(alloc, base, "/resource"),
-        )
-        .with("key_proofs_supported", words_value(alloc, &["httpsig"]))
-        .with(
-            "introspection_endpoint",
-            place_value(alloc, base, "/introspect"),
-        )
-        .with("grant_request_endpoint", place_value(alloc, base, "/gnap"))
-        .value()
+    let out = out.begin(b'{').name("grant_request_endpoint");
+    let out = print_place(alloc, out, base, "/gnap");
+    let out = print_place(
+        alloc,
+        out.name("introspection_endpoint"),
+        base,
+        "/introspect",
+    );
+    let out = out.name("key_proofs_supported").value(b"[\"httpsig\"]");
+    let out = out.name("resource_registration_endpoint");
+    print_place(alloc, out, base, "/resource").end(b'}')
 }
 
 /// The text of the answer to a client that asks what the server can do (RFC 9635, section 9), a compact JSON object.
-#[tactic(auto, unfolding(crate::specs::Discovery::client_discovery))]
 pub fn print_client_discovery(alloc: Global, base: &[u8]) -> Result<Bytes, Mem>
     requires { IsUtf8 base.now }
     ensures { IfOk result (λ text. text ≡ compact_text (client_discovery base.now)) }
 {
-    compact_text(alloc, &client_discovery_value(alloc, base)?)
+    print_for_client(alloc, Printer::new(alloc), base).into_bytes()
 }
 
 /// The same for a resource server (RFC 9767, section 3.1). It names the place where resource sets are registered, whether or not a server is there.
-#[tactic(auto, unfolding(crate::specs::Discovery::server_discovery))]
 pub fn print_server_discovery(alloc: Global, base: &[u8]) -> Result<Bytes, Mem>
     requires { IsUtf8 base.now }
     ensures { IfOk result (λ text. text ≡ compact_text (server_discovery base.now)) }
 {
-    compact_text(alloc, &server_discovery_value(alloc, base)?)
+    print_for_server(alloc, Printer::new(alloc), base).into_bytes()
 }

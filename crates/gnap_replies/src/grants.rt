@@ -1,221 +1,248 @@
 //! The replies to a client as JSON (RFC 9635, section 3).
-ghost use Rattle.std.specs.Prelude.{◌≡◌, IfOk, IsUtf8, option_map};
+ghost use Rattle.std.specs.Prelude.{◌≡◌, IfOk, IsUtf8, codes, string_bytes, option_map};
 ghost use Rattle.std.specs.List.{AllByRecursion};
+ghost use Rattle.json.specs.Print.{quoted};
 ghost use Rattle.serde_json.specs.Data.{string, array, item, no_items};
-ghost use Rattle.serde_json.specs.View.{view};
+ghost use Rattle.serde_json.specs.Written.{compact_text};
 ghost use Rattle.json_objects.specs.Objects.{object_of};
 ghost use Rattle.json_objects.specs.Texts.{IsUtf8Or};
 ghost use Rattle.gnap_objects.specs.CallsFit.{TokenFits};
+ghost use Rattle.gnap_replies.specs.Printing.{Printed, then_value, then_field, HasPrinted};
 ghost use Rattle.gnap_replies.specs.Endpoints.{interaction_page};
-ghost use Rattle.gnap_replies.specs.Grants.{continue_data, sub_id_fields, subject_data, granted_fields, where_offered, code_page_fields, interact_data, pending_fields, continuing_fields, rotated_fields};
+ghost use Rattle.gnap_replies.specs.Grants.{continue_data, sub_id_fields, subject_data, granted_fields, where_offered, code_page_fields};
+ghost use Rattle.gnap_replies.specs.Grants.{interact_data, pending_fields, continuing_fields, rotated_fields};
 
-use crate::endpoints::{interaction_page_value, place_value};
-use crate::tokens::{bare_token_value, token_value, tokens_value};
+use crate::endpoints::{joined, print_place};
+use crate::printer::Printer;
+use crate::tokens::{print_bare_token, print_optional, print_token, print_tokens};
 use bytes_and_lists::bytes::Bytes;
 use bytes_and_lists::memory::Mem;
 use gnap_model::calls::TokenOut;
 use gnap_model::objects::Modes;
-use json_objects::{Draft, lone_value, optional_value, text_value, word_value};
-use serde_json::Value;
 use std::alloc::Global;
 
 // The seconds before the first poll.
 const WAIT: u64 = 5;
 
 #[tactic(auto, unfolding(crate::specs::Grants::continue_data))]
-fn continue_value(alloc: Global, base: &[u8], door: &[u8]) -> Result<Value, Mem>
+fn print_continue(alloc: Global, out: Printer, base: &[u8], door: &[u8]) -> Printer
     requires base { IsUtf8 base.now }
     requires door { IsUtf8 door.now }
-    ensures { IfOk result (λ v. view v ≡ continue_data base.now door.now) }
+    ensures { (p : Printed) → HasPrinted out p → HasPrinted result (then_value p (compact_text (continue_data base.now door.now))) }
 {
-    Draft::new(alloc)
-        .with_number("wait", WAIT)
-        .with("uri", place_value(alloc, base, "/continue"))
-        .with("access_token", bare_token_value(alloc, door))
-        .value()
+    let out = print_bare_token(out.begin(b'{').name("access_token"), door);
+    let out = print_place(alloc, out.name("uri"), base, "/continue");
+    out.name("wait").number(WAIT).end(b'}')
 }
 
-fn sub_id_value(alloc: Global, id: &[u8]) -> Result<Value, Mem>
+fn print_sub_id(out: Printer, id: &[u8]) -> Printer
     requires { IsUtf8 id.now }
-    ensures { IfOk result (λ v. view v ≡ object_of (sub_id_fields id.now)) }
+    ensures { (p : Printed) → HasPrinted out p → HasPrinted result (then_value p (compact_text (object_of (sub_id_fields id.now)))) }
 {
-    Draft::new(alloc)
-        .with("id", text_value(alloc, id))
-        .with("format", word_value(alloc, "opaque"))
-        .value()
+    let out = out.begin(b'{').name("format").value(b"\"opaque\"");
+    out.name("id").string(id).end(b'}')
 }
 
-fn sub_ids_value(alloc: Global, id: &[u8]) -> Result<Value, Mem>
+fn print_sub_ids(out: Printer, id: &[u8]) -> Printer
     requires { IsUtf8 id.now }
-    ensures { IfOk result (λ v. view v ≡ array (item (object_of (sub_id_fields id.now)) no_items)) }
+    ensures { (p : Printed) → HasPrinted out p → HasPrinted result (then_value p (compact_text (array (item (object_of (sub_id_fields id.now)) no_items)))) }
 {
-    lone_value(alloc, sub_id_value(alloc, id)?)
+    print_sub_id(out.begin(b'['), id).end(b']')
 }
 
-fn identified_value(alloc: Global, id: &[u8]) -> Result<Value, Mem>
+fn print_identified(out: Printer, id: &[u8]) -> Printer
     requires { IsUtf8 id.now }
-    ensures { IfOk result (λ v. view v ≡ subject_data id.now) }
+    ensures { (p : Printed) → HasPrinted out p → HasPrinted result (then_value p (compact_text (subject_data id.now))) }
 {
-    Draft::new(alloc)
-        .with("sub_ids", sub_ids_value(alloc, id))
-        .value()
+    print_sub_ids(out.begin(b'{').name("sub_ids"), id).end(b'}')
 }
 
-fn subject_value(alloc: Global, subject: &Option<Bytes>) -> Result<Option<Value>, Mem>
+// The member `subject`, where the user is told of.
+fn print_subject(out: Printer, subject: &Option<Bytes>) -> Printer
     requires { IsUtf8Or subject.now }
-    ensures { IfOk result (λ v. option_map view v ≡ option_map subject_data subject.now) }
+    ensures { (p : Printed) → HasPrinted out p → HasPrinted result (then_field p (codes "subject") (option_map subject_data subject.now)) }
 {
     match subject {
-        None => Ok(None),
-        Some(id) => Ok(Some(identified_value(alloc, id.as_slice())?)),
+        None => out,
+        Some(id) => print_identified(out.name("subject"), id.as_slice()),
     }
 }
 
-pub fn granted_value(
+/// The grant is approved.
+pub fn print_granted(
     alloc: Global,
+    out: Printer,
     base: &[u8],
     door: &[u8],
     tokens: &[TokenOut],
     single: bool,
     subject: &Option<Bytes>,
     instance: &Option<Bytes>,
-) -> Result<Value, Mem>
+) -> Printer
     requires base { IsUtf8 base.now }
     requires door { IsUtf8 door.now }
     requires tokens { AllByRecursion TokenFits tokens.now }
     requires subject { IsUtf8Or subject.now }
     requires instance { IsUtf8Or instance.now }
-    ensures { IfOk result (λ v. view v ≡ object_of (granted_fields base.now door.now tokens.now single subject.now instance.now)) }
+    ensures { (p : Printed) → HasPrinted out p
+        → HasPrinted result (then_value p (compact_text (object_of (granted_fields base.now door.now tokens.now single subject.now instance.now)))) }
 {
-    Draft::new(alloc)
-        .with_optional("subject", subject_value(alloc, subject))
-        .with_optional("instance_id", optional_value(alloc, instance))
-        .with("continue", continue_value(alloc, base, door))
-        .with_optional("access_token", tokens_value(alloc, base, single, tokens))
-        .value()
+    let out = print_tokens(alloc, out.begin(b'{'), base, single, tokens);
+    let out = print_continue(alloc, out.name("continue"), base, door);
+    let out = print_optional(out, "instance_id", instance);
+    print_subject(out, subject).end(b'}')
 }
 
-// The text, where its way to interact was offered.
-fn offered_text(alloc: Global, offered: bool, text: &[u8]) -> Result<Option<Value>, Mem>
+// A member that is a text, where its way to interact was offered.
+fn print_offered(out: Printer, offered: bool, name: &str, text: &[u8]) -> Printer
     requires { IsUtf8 text.now }
-    ensures { IfOk result (λ v. option_map view v ≡ where_offered offered (string text.now)) }
+    ensures { (p : Printed) → HasPrinted out p → HasPrinted result (then_field p name.now (where_offered offered (string text.now))) }
 {
     if !offered {
-        return Ok(None);
+        return out;
     }
-    Ok(Some(text_value(alloc, text)?))
+    out.name(name).string(text)
 }
 
-fn offered_page(
+fn interaction_uri(alloc: Global, front: &[u8], handle: &[u8]) -> Result<String, Mem>
+    requires front { IsUtf8 front.now }
+    requires handle { IsUtf8 handle.now }
+    ensures { IfOk result (λ s. string_bytes s ≡ interaction_page front.now handle.now) }
+{
+    let mut uri = joined(alloc, front, "/i/")?;
+    uri.push_str(unsafe { str::from_utf8_unchecked(handle) })?;
+    Ok(uri)
+}
+
+// Where the user is sent for an interaction.
+fn print_interaction_page(alloc: Global, out: Printer, front: &[u8], handle: &[u8]) -> Printer
+    requires front { IsUtf8 front.now }
+    requires handle { IsUtf8 handle.now }
+    ensures { (p : Printed) → HasPrinted out p → HasPrinted result (then_value p (quoted (interaction_page front.now handle.now))) }
+{
+    match interaction_uri(alloc, front, handle) {
+        Ok(uri) => out.string(uri.as_bytes()),
+        Err(Mem) => out.starved(),
+    }
+}
+
+// The member `redirect`, where that was offered.
+fn print_redirect(
     alloc: Global,
+    out: Printer,
     offered: bool,
     front: &[u8],
     handle: &[u8],
-) -> Result<Option<Value>, Mem>
+) -> Printer
     requires front { IsUtf8 front.now }
     requires handle { IsUtf8 handle.now }
-    ensures { IfOk result (λ v. option_map view v ≡ where_offered offered (string (interaction_page front.now handle.now))) }
+    ensures { (p : Printed) → HasPrinted out p
+        → HasPrinted result (then_field p (codes "redirect") (where_offered offered (string (interaction_page front.now handle.now)))) }
 {
     if !offered {
-        return Ok(None);
+        return out;
     }
-    Ok(Some(interaction_page_value(alloc, front, handle)?))
+    print_interaction_page(alloc, out.name("redirect"), front, handle)
 }
 
-fn code_page_value(alloc: Global, front: &[u8], code: &[u8]) -> Result<Value, Mem>
+fn print_code_page(alloc: Global, out: Printer, front: &[u8], code: &[u8]) -> Printer
     requires front { IsUtf8 front.now }
     requires code { IsUtf8 code.now }
-    ensures { IfOk result (λ v. view v ≡ object_of (code_page_fields front.now code.now)) }
+    ensures { (p : Printed) → HasPrinted out p → HasPrinted result (then_value p (compact_text (object_of (code_page_fields front.now code.now)))) }
 {
-    Draft::new(alloc)
-        .with("uri", place_value(alloc, front, "/code"))
-        .with("code", text_value(alloc, code))
-        .value()
+    let out = out.begin(b'{').name("code").string(code);
+    print_place(alloc, out.name("uri"), front, "/code").end(b'}')
 }
 
-fn offered_code_page(
+// The member `user_code_uri`, where that was offered.
+fn print_user_code_uri(
     alloc: Global,
+    out: Printer,
     offered: bool,
     front: &[u8],
     code: &[u8],
-) -> Result<Option<Value>, Mem>
+) -> Printer
     requires front { IsUtf8 front.now }
     requires code { IsUtf8 code.now }
-    ensures { IfOk result (λ v. option_map view v ≡ where_offered offered (object_of (code_page_fields front.now code.now))) }
+    ensures { (p : Printed) → HasPrinted out p
+        → HasPrinted result (then_field p (codes "user_code_uri") (where_offered offered (object_of (code_page_fields front.now code.now)))) }
 {
     if !offered {
-        return Ok(None);
+        return out;
     }
-    Ok(Some(code_page_value(alloc, front, code)?))
+    print_code_page(alloc, out.name("user_code_uri"), front, code)
 }
 
-/// How the client can interact with the user.
+// How the client can interact with the user.
 #[tactic(auto, unfolding(crate::specs::Grants::interact_data))]
-pub fn interact_value(
+fn print_interact(
     alloc: Global,
+    out: Printer,
     front: &[u8],
     modes: &Modes,
     handle: &[u8],
     code: &[u8],
     nonce: &[u8],
     expires_in: u64,
-) -> Result<Value, Mem>
+) -> Printer
     requires front { IsUtf8 front.now }
     requires handle { IsUtf8 handle.now }
     requires code { IsUtf8 code.now }
     requires nonce { IsUtf8 nonce.now }
-    ensures { IfOk result (λ v. view v ≡ interact_data front.now modes.now handle.now code.now nonce.now expires_in) }
+    ensures { (p : Printed) → HasPrinted out p
+        → HasPrinted result (then_value p (compact_text (interact_data front.now modes.now handle.now code.now nonce.now expires_in))) }
 {
-    Draft::new(alloc)
-        .with_optional(
-            "user_code_uri",
-            offered_code_page(alloc, modes.user_code_uri, front, code),
-        )
-        .with_optional("user_code", offered_text(alloc, modes.user_code, code))
-        .with_optional(
-            "redirect",
-            offered_page(alloc, modes.redirect, front, handle),
-        )
-        .with_optional("finish", offered_text(alloc, modes.finish.is_some(), nonce))
-        .with_number("expires_in", expires_in)
-        .value()
+    let out = out.begin(b'{').name("expires_in").number(expires_in);
+    let out = print_offered(out, modes.finish.is_some(), "finish", nonce);
+    let out = print_redirect(alloc, out, modes.redirect, front, handle);
+    let out = print_offered(out, modes.user_code, "user_code", code);
+    print_user_code_uri(alloc, out, modes.user_code_uri, front, code).end(b'}')
 }
 
-pub fn pending_value(
+/// The user is asked.
+pub fn print_pending(
     alloc: Global,
+    out: Printer,
     base: &[u8],
+    front: &[u8],
     door: &[u8],
-    interact: Value,
+    modes: &Modes,
+    handle: &[u8],
+    code: &[u8],
+    nonce: &[u8],
+    expires_in: u64,
     instance: &Option<Bytes>,
-) -> Result<Value, Mem>
+) -> Printer
     requires base { IsUtf8 base.now }
+    requires front { IsUtf8 front.now }
     requires door { IsUtf8 door.now }
+    requires handle { IsUtf8 handle.now }
+    requires code { IsUtf8 code.now }
+    requires nonce { IsUtf8 nonce.now }
     requires instance { IsUtf8Or instance.now }
-    ensures { IfOk result (λ v. view v ≡ object_of (pending_fields base.now door.now (view interact) instance.now)) }
+    ensures { (p : Printed) → HasPrinted out p
+        → HasPrinted result (then_value p (compact_text (object_of (pending_fields base.now door.now
+        (interact_data front.now modes.now handle.now code.now nonce.now expires_in) instance.now)))) }
 {
-    Draft::new(alloc)
-        .with("interact", Ok(interact))
-        .with_optional("instance_id", optional_value(alloc, instance))
-        .with("continue", continue_value(alloc, base, door))
-        .value()
+    let out = print_continue(alloc, out.begin(b'{').name("continue"), base, door);
+    let out = print_optional(out, "instance_id", instance).name("interact");
+    print_interact(alloc, out, front, modes, handle, code, nonce, expires_in).end(b'}')
 }
 
-pub fn continuing_value(alloc: Global, base: &[u8], door: &[u8]) -> Result<Value, Mem>
+/// Nothing is new.
+pub fn print_continuing(alloc: Global, out: Printer, base: &[u8], door: &[u8]) -> Printer
     requires base { IsUtf8 base.now }
     requires door { IsUtf8 door.now }
-    ensures { IfOk result (λ v. view v ≡ object_of (continuing_fields base.now door.now)) }
+    ensures { (p : Printed) → HasPrinted out p → HasPrinted result (then_value p (compact_text (object_of (continuing_fields base.now door.now)))) }
 {
-    Draft::new(alloc)
-        .with("continue", continue_value(alloc, base, door))
-        .value()
+    print_continue(alloc, out.begin(b'{').name("continue"), base, door).end(b'}')
 }
 
-pub fn rotated_value(alloc: Global, base: &[u8], token: &TokenOut) -> Result<Value, Mem>
+/// A token has a successor.
+pub fn print_rotated(alloc: Global, out: Printer, base: &[u8], token: &TokenOut) -> Printer
     requires base { IsUtf8 base.now }
     requires token { TokenFits token.now }
-    ensures { IfOk result (λ v. view v ≡ object_of (rotated_fields base.now token.now)) }
+    ensures { (p : Printed) → HasPrinted out p → HasPrinted result (then_value p (compact_text (object_of (rotated_fields base.now token.now)))) }
 {
-    Draft::new(alloc)
-        .with("access_token", token_value(alloc, base, token))
-        .value()
+    print_token(alloc, out.begin(b'{').name("access_token"), base, token).end(b'}')
 }

@@ -1,180 +1,219 @@
 //! The replies to the consent front as JSON.
-ghost use Rattle.std.specs.Prelude.{◌≡◌, IfOk, IsUtf8, option_map, map, Some, None, [], true};
+ghost use Rattle.std.specs.Prelude.{◌≡◌, ℕ, List, IfOk, IsUtf8, codes, option_map, map, Some, None, []};
 ghost use Rattle.std.specs.List.{AllByRecursion};
-ghost use Rattle.serde_json.specs.Data.{string, array};
-ghost use Rattle.serde_json.specs.View.{view};
+ghost use Rattle.json.specs.Print.{quoted};
+ghost use Rattle.serde_json.specs.Data.{string, boolean, array};
+ghost use Rattle.serde_json.specs.Written.{compact_text};
 ghost use Rattle.json_objects.specs.Objects.{items, object_of};
 ghost use Rattle.json_objects.specs.Texts.{IsUtf8Or};
 ghost use Rattle.interaction.specs.Pushes.{push_body};
 ghost use Rattle.interaction.specs.Uris.{finish_uri};
 ghost use Rattle.gnap_objects.specs.Fits.{AskFits};
 ghost use Rattle.gnap_objects.specs.CallsFit.{EndingFits};
+ghost use Rattle.gnap_replies.specs.Printing.{Printed, then_value, then_field, then_items, HasPrinted};
 ghost use Rattle.gnap_replies.specs.Interactions.{ask_data, shown_fields, handle_fields, hash_of, pushed_fields, redirected_fields, decided_fields};
 
 use crate::endpoints::joined;
-use crate::tokens::flags_value;
-use access_rights::printing::rights_value;
+use crate::printer::Printer;
+use crate::rights::print_rights;
+use crate::tokens::{print_flags, print_optional};
 use bytes_and_lists::bytes::Bytes;
 use bytes_and_lists::memory::Mem;
 use gnap_model::calls::FinishOut;
 use gnap_model::objects::Ask;
 use interaction::{UriFault, finish_uri, interaction_hash, push_body};
-use json_objects::{Draft, optional_value, text_value, word_value};
-use serde_json::Value;
 use std::alloc::Global;
 
 #[tactic(auto, unfolding(crate::specs::Interactions::ask_data))]
-fn ask_value(alloc: Global, ask: &Ask) -> Result<Value, Mem>
+fn print_ask(alloc: Global, out: Printer, ask: &Ask) -> Printer
     requires { AskFits ask.now }
-    ensures { IfOk result (λ v. view v ≡ ask_data ask.now) }
+    ensures { (p : Printed) → HasPrinted out p → HasPrinted result (then_value p (compact_text (ask_data ask.now))) }
 {
-    Draft::new(alloc)
-        .with_optional("label", optional_value(alloc, &ask.label))
-        .with_optional("flags", flags_value(alloc, ask.bearer))
-        .with("access", rights_value(alloc, &ask.rights))
-        .value()
+    let out = print_rights(alloc, out.begin(b'{').name("access"), &ask.rights);
+    let out = print_flags(out, ask.bearer);
+    print_optional(out, "label", &ask.label).end(b'}')
 }
 
-fn each_ask(alloc: Global, asks: &[Ask]) -> Result<Vec<Value>, Mem>
+// The items of the array.
+fn print_each_ask(alloc: Global, out: Printer, asks: &[Ask]) -> Printer
     requires { AllByRecursion AskFits asks.now }
-    ensures { IfOk result (λ items. map view items.items ≡ map ask_data asks.now) }
+    ensures { (p : Printed) → HasPrinted out p → HasPrinted result (then_items p (map ask_data asks.now)) }
 {
-    let mut items = Vec::new(alloc);
+    let mut out = out;
     for ask in asks {
-        items.push(ask_value(alloc, ask)?)?;
+        out = print_ask(alloc, out, ask);
     }
-    Ok(items)
+    out
 }
 
-fn asks_value(alloc: Global, asks: &[Ask]) -> Result<Value, Mem>
+fn print_asks(alloc: Global, out: Printer, asks: &[Ask]) -> Printer
     requires { AllByRecursion AskFits asks.now }
-    ensures { IfOk result (λ v. view v ≡ array (items (map ask_data asks.now))) }
+    ensures { (p : Printed) → HasPrinted out p → HasPrinted result (then_value p (compact_text (array (items (map ask_data asks.now))))) }
 {
-    Ok(Value::Array(each_ask(alloc, asks)?))
+    print_each_ask(alloc, out.begin(b'['), asks).end(b']')
 }
 
-pub fn shown_value(
+fn print_truth(out: Printer, truth: bool) -> Printer
+    ensures { (p : Printed) → HasPrinted out p → HasPrinted result (then_value p (compact_text (boolean truth))) }
+{
+    if truth {
+        out.value(b"true")
+    } else {
+        out.value(b"false")
+    }
+}
+
+/// What the user is asked.
+pub fn print_shown(
     alloc: Global,
+    out: Printer,
     asks: &[Ask],
     client: &[u8],
     expires_in: u64,
     subject: bool,
     user: &Option<Bytes>,
-) -> Result<Value, Mem>
+) -> Printer
     requires asks { AllByRecursion AskFits asks.now }
     requires client { IsUtf8 client.now }
     requires user { IsUtf8Or user.now }
-    ensures { IfOk result (λ v. view v ≡ object_of (shown_fields asks.now client.now expires_in subject user.now)) }
+    ensures { (p : Printed) → HasPrinted out p
+        → HasPrinted result (then_value p (compact_text (object_of (shown_fields asks.now client.now expires_in subject user.now)))) }
 {
-    Draft::new(alloc)
-        .with_optional("user", optional_value(alloc, user))
-        .with_bool("subject", subject)
-        .with_number("expires_in", expires_in)
-        .with("client", text_value(alloc, client))
-        .with("access_token", asks_value(alloc, asks))
-        .value()
+    let out = print_asks(alloc, out.begin(b'{').name("access_token"), asks);
+    let out = out.name("client").string(client);
+    let out = out.name("expires_in").number(expires_in);
+    let out = print_truth(out.name("subject"), subject);
+    print_optional(out, "user", user).end(b'}')
 }
 
-pub fn handle_value(alloc: Global, handle: &[u8]) -> Result<Value, Mem>
+/// The interaction with the code that the user typed.
+pub fn print_handle(out: Printer, handle: &[u8]) -> Printer
     requires { IsUtf8 handle.now }
-    ensures { IfOk result (λ v. view v ≡ object_of (handle_fields handle.now)) }
+    ensures { (p : Printed) → HasPrinted out p → HasPrinted result (then_value p (compact_text (object_of (handle_fields handle.now)))) }
 {
-    Draft::new(alloc)
-        .with("handle", text_value(alloc, handle))
-        .value()
+    out.begin(b'{').name("handle").string(handle).end(b'}')
 }
 
-fn hash(alloc: Global, base: &[u8], out: &FinishOut) -> Result<Bytes, Mem>
+// The hash by which the client knows that the reference is for it.
+fn hash(alloc: Global, base: &[u8], finish: &FinishOut) -> Result<Bytes, Mem>
     requires { IsUtf8 base.now }
-    ensures value { IfOk result (λ b. b ≡ hash_of base.now out.now) }
+    ensures value { IfOk result (λ b. b ≡ hash_of base.now finish.now) }
     ensures utf8 { IfOk result (λ b. IsUtf8 b) }
 {
     let endpoint = joined(alloc, base, "/gnap")?;
     interaction_hash(
         alloc,
-        out.finish.long,
-        out.finish.nonce.as_slice(),
-        out.server_nonce.as_slice(),
-        out.reference.as_slice(),
+        finish.finish.long,
+        finish.finish.nonce.as_slice(),
+        finish.server_nonce.as_slice(),
+        finish.reference.as_slice(),
         endpoint.as_bytes(),
     )
 }
 
 // What the front sends to the client.
-fn push_body_value(alloc: Global, base: &[u8], out: &FinishOut) -> Result<Value, Mem>
+fn pushed_body(alloc: Global, base: &[u8], finish: &FinishOut) -> Result<Bytes, Mem>
     requires base { IsUtf8 base.now }
-    requires out { EndingFits (Some out.now) }
-    ensures { IfOk result (λ v. view v ≡ string (push_body (hash_of base.now out.now) out.now.reference)) }
+    requires finish { EndingFits (Some finish.now) }
+    ensures body { IfOk result (λ b. b ≡ push_body (hash_of base.now finish.now) finish.now.reference) }
+    ensures utf8 { IfOk result (λ b. IsUtf8 b) }
 {
-    let hash = hash(alloc, base, out)?;
-    let body = push_body(alloc, hash.as_slice(), out.reference.as_slice())?;
-    text_value(alloc, body.as_slice())
+    let hash = hash(alloc, base, finish)?;
+    push_body(alloc, hash.as_slice(), finish.reference.as_slice())
 }
 
-fn pushed_value(alloc: Global, base: &[u8], out: &FinishOut) -> Result<Value, Mem>
-    requires base { IsUtf8 base.now }
-    requires out { EndingFits (Some out.now) }
-    ensures { IfOk result (λ v. view v ≡ object_of (pushed_fields base.now out.now)) }
+// A string, if there was memory for it.
+fn print_made(out: Printer, text: Result<Bytes, Mem>) -> Printer
+    requires { IfOk text (λ t. IsUtf8 t) }
+    ensures { (p : Printed) (s : List ℕ) → IfOk text (λ t. t ≡ s) → HasPrinted out p → HasPrinted result (then_value p (quoted s)) }
 {
-    Draft::new(alloc)
-        .with("uri", text_value(alloc, out.finish.uri.as_slice()))
-        .with("finish", word_value(alloc, "push"))
-        .with("body", push_body_value(alloc, base, out))
-        .value()
+    match text {
+        Ok(text) => out.string(text.as_slice()),
+        Err(Mem) => out.starved(),
+    }
 }
 
-// The URI that the user is sent to.
+fn print_pushed(alloc: Global, out: Printer, base: &[u8], finish: &FinishOut) -> Printer
+    requires base { IsUtf8 base.now }
+    requires finish { EndingFits (Some finish.now) }
+    ensures { (p : Printed) → HasPrinted out p → HasPrinted result (then_value p (compact_text (object_of (pushed_fields base.now finish.now)))) }
+{
+    let body = pushed_body(alloc, base, finish);
+    let out = print_made(out.begin(b'{').name("body"), body);
+    let out = out.name("finish").value(b"\"push\"");
+    out.name("uri")
+        .string(finish.finish.uri.as_slice())
+        .end(b'}')
+}
+
+// Where the user is sent.
 #[tactic(auto, using(interaction::proofs::WebUrls::has_finish_uri))]
-fn finish_uri_value(alloc: Global, base: &[u8], out: &FinishOut) -> Result<Value, Mem>
+fn redirected_uri(alloc: Global, base: &[u8], finish: &FinishOut) -> Result<Bytes, Mem>
     requires base { IsUtf8 base.now }
-    requires out { EndingFits (Some out.now) }
-    ensures { IfOk result (λ v. option_map string (finish_uri out.now.finish.uri (hash_of base.now out.now) out.now.reference)
-        ≡ Some (view v)) }
+    requires finish { EndingFits (Some finish.now) }
+    ensures uri { IfOk result (λ uri. finish_uri finish.now.finish.uri (hash_of base.now finish.now) finish.now.reference ≡ Some uri) }
+    ensures utf8 { IfOk result (λ uri. IsUtf8 uri) }
 {
-    let hash = hash(alloc, base, out)?;
+    let hash = hash(alloc, base, finish)?;
     match finish_uri(
         alloc,
-        out.finish.uri.as_slice(),
+        finish.finish.uri.as_slice(),
         hash.as_slice(),
-        out.reference.as_slice(),
+        finish.reference.as_slice(),
     ) {
-        Ok(uri) => text_value(alloc, uri.as_slice()),
+        Ok(uri) => Ok(uri),
         Err(UriFault::NotAUri) => unreachable!(),
         Err(UriFault::OutOfMemory) => Err(Mem),
     }
 }
 
-fn redirected_value(alloc: Global, base: &[u8], out: &FinishOut) -> Result<Value, Mem>
+fn print_redirected_uri(alloc: Global, out: Printer, base: &[u8], finish: &FinishOut) -> Printer
     requires base { IsUtf8 base.now }
-    requires out { EndingFits (Some out.now) }
-    ensures { IfOk result (λ v. view v ≡ object_of (redirected_fields base.now out.now)) }
+    requires finish { EndingFits (Some finish.now) }
+    ensures { (p : Printed) → HasPrinted out p
+        → HasPrinted result (then_field p (codes "uri")
+        (option_map string (finish_uri finish.now.finish.uri (hash_of base.now finish.now) finish.now.reference))) }
 {
-    let uri = finish_uri_value(alloc, base, out)?;
-    Draft::new(alloc)
-        .with("uri", Ok(uri))
-        .with("finish", word_value(alloc, "redirect"))
-        .value()
+    match redirected_uri(alloc, base, finish) {
+        Ok(uri) => out.name("uri").string(uri.as_slice()),
+        Err(Mem) => out.starved(),
+    }
 }
 
-fn none_value(alloc: Global) -> Result<Value, Mem>
-    ensures { IfOk result (λ v. view v ≡ object_of (decided_fields [] None)) }
+fn print_redirected(alloc: Global, out: Printer, base: &[u8], finish: &FinishOut) -> Printer
+    requires base { IsUtf8 base.now }
+    requires finish { EndingFits (Some finish.now) }
+    ensures { (p : Printed) → HasPrinted out p → HasPrinted result (then_value p (compact_text (object_of (redirected_fields base.now finish.now)))) }
 {
-    Draft::new(alloc)
-        .with("finish", word_value(alloc, "none"))
-        .value()
+    let out = out.begin(b'{').name("finish");
+    let out = out.value(b"\"redirect\"");
+    print_redirected_uri(alloc, out, base, finish).end(b'}')
 }
 
-pub fn decided_value(alloc: Global, base: &[u8], finish: &Option<FinishOut>) -> Result<Value, Mem>
+fn print_none(out: Printer) -> Printer
+    ensures { (p : Printed) → HasPrinted out p → HasPrinted result (then_value p (compact_text (object_of (decided_fields [] None)))) }
+{
+    let out = out.begin(b'{').name("finish");
+    out.value(b"\"none\"").end(b'}')
+}
+
+/// How the front tells the client that the decision was taken.
+pub fn print_decided(
+    alloc: Global,
+    out: Printer,
+    base: &[u8],
+    finish: &Option<FinishOut>,
+) -> Printer
     requires base { IsUtf8 base.now }
     requires finish { EndingFits finish.now }
-    ensures { IfOk result (λ v. view v ≡ object_of (decided_fields base.now finish.now)) }
+    ensures { (p : Printed) → HasPrinted out p → HasPrinted result (then_value p (compact_text (object_of (decided_fields base.now finish.now)))) }
 {
     match finish {
-        None => none_value(alloc),
-        Some(out) => if out.finish.push {
-            pushed_value(alloc, base, out)
+        None => print_none(out),
+        Some(finish) => if finish.finish.push {
+            print_pushed(alloc, out, base, finish)
         } else {
-            redirected_value(alloc, base, out)
+            print_redirected(alloc, out, base, finish)
         },
     }
 }

@@ -1,58 +1,59 @@
 //! The replies to an introspection as JSON (RFC 9767, section 3.3).
-ghost use Rattle.std.specs.Prelude.{◌≡◌, IfOk, IsUtf8, option_map};
+ghost use Rattle.std.specs.Prelude.{◌≡◌, IfOk, IsUtf8, codes};
 ghost use Rattle.std.specs.List.{AllByRecursion};
-ghost use Rattle.serde_json.specs.View.{view};
+ghost use Rattle.serde_json.specs.Written.{compact_text};
 ghost use Rattle.json_objects.specs.Objects.{object_of};
 ghost use Rattle.access_rights.specs.Fits.{Fits};
+ghost use Rattle.gnap_replies.specs.Printing.{Printed, then_value, then_field, HasPrinted};
 ghost use Rattle.gnap_replies.specs.Introspections.{key_data, active_fields, inactive_fields};
 
-use crate::endpoints::place_value;
-use crate::tokens::flags_value;
-use access_rights::printing::rights_value;
-use bytes_and_lists::memory::Mem;
+use crate::endpoints::print_place;
+use crate::printer::Printer;
+use crate::rights::print_rights;
+use crate::tokens::print_flags;
 use gnap_model::rights::Rights;
-use json_objects::{Draft, text_value};
-use serde_json::Value;
 use std::alloc::Global;
 
-fn key_value(alloc: Global, bearer: bool, instance: &[u8]) -> Result<Option<Value>, Mem>
+// The member `key`, where the token isn't a bearer token.
+fn print_key(out: Printer, bearer: bool, instance: &[u8]) -> Printer
     requires { IsUtf8 instance.now }
-    ensures { IfOk result (λ v. option_map view v ≡ key_data bearer instance.now) }
+    ensures { (p : Printed) → HasPrinted out p → HasPrinted result (then_field p (codes "key") (key_data bearer instance.now)) }
 {
     if bearer {
-        return Ok(None);
+        return out;
     }
-    Ok(Some(text_value(alloc, instance)?))
+    out.name("key").string(instance)
 }
 
-pub fn active_value(
+/// What a resource server is told of an active token.
+pub fn print_active(
     alloc: Global,
+    out: Printer,
     base: &[u8],
     access: &Rights,
     iat: u64,
     exp: u64,
     instance: &[u8],
     bearer: bool,
-) -> Result<Value, Mem>
+) -> Printer
     requires base { IsUtf8 base.now }
     requires access { AllByRecursion Fits access.now }
     requires instance { IsUtf8 instance.now }
-    ensures { IfOk result (λ v. view v ≡ object_of (active_fields base.now access.now iat exp instance.now bearer)) }
+    ensures { (p : Printed) → HasPrinted out p
+        → HasPrinted result (then_value p (compact_text (object_of (active_fields base.now access.now iat exp instance.now bearer)))) }
 {
-    Draft::new(alloc)
-        .with_optional("key", key_value(alloc, bearer, instance))
-        .with("iss", place_value(alloc, base, "/gnap"))
-        .with("instance_id", text_value(alloc, instance))
-        .with_number("iat", iat)
-        .with_optional("flags", flags_value(alloc, bearer))
-        .with_number("exp", exp)
-        .with_bool("active", true)
-        .with("access", rights_value(alloc, access))
-        .value()
+    let out = print_rights(alloc, out.begin(b'{').name("access"), access);
+    let out = out.name("active").value(b"true");
+    let out = print_flags(out.name("exp").number(exp), bearer);
+    let out = out.name("iat").number(iat);
+    let out = out.name("instance_id").string(instance);
+    let out = print_place(alloc, out.name("iss"), base, "/gnap");
+    print_key(out, bearer, instance).end(b'}')
 }
 
-pub fn inactive_value(alloc: Global) -> Result<Value, Mem>
-    ensures { IfOk result (λ v. view v ≡ object_of inactive_fields) }
+/// What it is told of any other.
+pub fn print_inactive(out: Printer) -> Printer
+    ensures { (p : Printed) → HasPrinted out p → HasPrinted result (then_value p (compact_text (object_of inactive_fields))) }
 {
-    Draft::new(alloc).with_bool("active", false).value()
+    out.begin(b'{').name("active").value(b"false").end(b'}')
 }

@@ -12,7 +12,9 @@ mod errors;
 mod grants;
 mod interactions;
 mod introspections;
+mod printer;
 pub mod responses;
+mod rights;
 mod tokens;
 
 pub use discovery::{print_client_discovery, print_server_discovery};

@@ -1,23 +1,20 @@
 //! What goes out for a reply.
-ghost use Rattle.std.specs.Prelude.{◌≡◌, IfOk, IsUtf8, option_map, false};
-ghost use Rattle.serde_json.specs.View.{view};
+ghost use Rattle.std.specs.Prelude.{◌≡◌, IfOk, IfSome, IsUtf8, option_map};
 ghost use Rattle.serde_json.specs.Written.{compact_text};
 ghost use Rattle.gnap_model.specs.declared.objects.Setup.{Setup};
 ghost use Rattle.gnap_objects.specs.CallsFit.{ReplyFits};
+ghost use Rattle.gnap_replies.specs.Printing.{Printed, then_value, HasPrinted};
 ghost use Rattle.gnap_replies.specs.Responses.{response_of, error_response, text_of};
 
-use crate::errors::error_value;
-use crate::grants::{
-    continuing_value, granted_value, interact_value, pending_value, rotated_value,
-};
-use crate::interactions::{decided_value, handle_value, shown_value};
-use crate::introspections::{active_value, inactive_value};
+use crate::errors::print_error_body;
+use crate::grants::{print_continuing, print_granted, print_pending, print_rotated};
+use crate::interactions::{print_decided, print_handle, print_shown};
+use crate::introspections::{print_active, print_inactive};
+use crate::printer::Printer;
 use bytes_and_lists::bytes::Bytes;
 use bytes_and_lists::memory::Mem;
 use gnap_model::calls::Reply;
 use gnap_model::objects::{ErrorCode, Setup};
-use json_objects::compact_text;
-use serde_json::Value;
 use std::alloc::Global;
 
 #[tactic(auto, unfolding(crate::specs::Responses::response_of))]
@@ -41,14 +38,15 @@ fn status(reply: &Reply) -> u16
 }
 
 #[tactic(auto, unfolding(crate::specs::Responses::response_of))]
-fn body(alloc: Global, setup: &Setup, reply: &Reply) -> Result<Option<Value>, Mem>
+fn print_body(alloc: Global, out: Printer, setup: &Setup, reply: &Reply) -> Printer
     requires base { IsUtf8 setup.now.base }
     requires front { IsUtf8 setup.now.front }
     requires reply { ReplyFits reply.now }
-    ensures { IfOk result (λ v. option_map view v ≡ (response_of setup.now reply.now).body) }
+    ensures { IfSome (response_of setup.now reply.now).body
+        (λ d. (p : Printed) → HasPrinted out p → HasPrinted result (then_value p (compact_text d))) }
 {
     let base = setup.base.as_slice();
-    let value = match reply {
+    match reply {
         Reply::Granted {
             door,
             tokens,
@@ -56,11 +54,13 @@ fn body(alloc: Global, setup: &Setup, reply: &Reply) -> Result<Option<Value>, Me
             subject,
             instance,
         } => {
-            granted_value(
+            let tokens = tokens.as_slice();
+            print_granted(
                 alloc,
+                out,
                 base,
                 door.as_slice(),
-                tokens.as_slice(),
+                tokens,
                 *single,
                 subject,
                 instance,
@@ -75,38 +75,39 @@ fn body(alloc: Global, setup: &Setup, reply: &Reply) -> Result<Option<Value>, Me
             expires_in,
             instance,
         } => {
-            let front = setup.front.as_slice();
-            let interact = interact_value(
+            print_pending(
                 alloc,
-                front,
+                out,
+                base,
+                setup.front.as_slice(),
+                door.as_slice(),
                 modes,
                 handle.as_slice(),
                 code.as_slice(),
                 nonce.as_slice(),
                 *expires_in,
-            )?;
-            pending_value(alloc, base, door.as_slice(), interact, instance)
+                instance,
+            )
         }
-        Reply::Continuing { door } => continuing_value(alloc, base, door.as_slice()),
-        Reply::Rotated { token } => rotated_value(alloc, base, token),
+        Reply::Continuing { door } => print_continuing(alloc, out, base, door.as_slice()),
+        Reply::Rotated { token } => print_rotated(alloc, out, base, token),
         Reply::Active {
             access,
             iat,
             exp,
             instance,
             bearer,
-        } => {
-            active_value(
-                alloc,
-                base,
-                access,
-                *iat,
-                *exp,
-                instance.as_slice(),
-                *bearer,
-            )
-        }
-        Reply::Inactive => inactive_value(alloc),
+        } => print_active(
+            alloc,
+            out,
+            base,
+            access,
+            *iat,
+            *exp,
+            instance.as_slice(),
+            *bearer,
+        ),
+        Reply::Inactive => print_inactive(out),
         Reply::Shown {
             asks,
             client,
@@ -114,26 +115,27 @@ fn body(alloc: Global, setup: &Setup, reply: &Reply) -> Result<Option<Value>, Me
             subject,
             user,
         } => {
-            shown_value(
+            let asks = asks.as_slice();
+            print_shown(
                 alloc,
-                asks.as_slice(),
+                out,
+                asks,
                 client.as_slice(),
                 *expires_in,
                 *subject,
                 user,
             )
         }
-        Reply::Handle { handle } => handle_value(alloc, handle.as_slice()),
-        Reply::Decided { finish } => decided_value(alloc, base, finish),
-        Reply::Error { code } => error_value(alloc, *code),
-        Reply::Done | Reply::Lapsed => return Ok(None),
-    };
-    Ok(Some(value?))
+        Reply::Handle { handle } => print_handle(out, handle.as_slice()),
+        Reply::Decided { finish } => print_decided(alloc, out, base, finish),
+        Reply::Error { code } => print_error_body(out, *code),
+        Reply::Done | Reply::Lapsed => out,
+    }
 }
 
 /// The status of a reply and the text of its body, a compact JSON object whose members stand in the ascending byte order of their names. `Done` (204) and
 /// `Lapsed` (503) have no body.
-#[tactic(auto, using(crate::proofs::WholeReplies::whole_body))]
+#[tactic(auto, unfolding(crate::specs::Responses::response_of))]
 pub fn print_reply(alloc: Global, setup: &Setup, reply: &Reply) -> Result<(u16, Option<Bytes>), Mem>
     requires base { IsUtf8 setup.now.base }
     requires front { IsUtf8 setup.now.front }
@@ -141,16 +143,17 @@ pub fn print_reply(alloc: Global, setup: &Setup, reply: &Reply) -> Result<(u16, 
     ensures { IfOk result (λ printed. printed ≡ text_of (response_of setup.now reply.now)) }
 {
     let status = status(reply);
-    match body(alloc, setup, reply)? {
-        Some(body) => Ok((status, Some(compact_text(alloc, &body)?))),
-        None => Ok((status, None)),
+    if let Reply::Done | Reply::Lapsed = reply {
+        return Ok((status, None));
     }
+    let out = print_body(alloc, Printer::new(alloc), setup, reply);
+    Ok((status, Some(out.into_bytes()?)))
 }
 
 /// The same of an error that no call of the machine has given.
 pub fn print_error(alloc: Global, code: ErrorCode) -> Result<(u16, Option<Bytes>), Mem>
     ensures { IfOk result (λ printed. printed ≡ text_of (error_response code)) }
 {
-    let body = error_value(alloc, code)?;
-    Ok((code.status(), Some(compact_text(alloc, &body)?)))
+    let out = print_error_body(Printer::new(alloc), code);
+    Ok((code.status(), Some(out.into_bytes()?)))
 }

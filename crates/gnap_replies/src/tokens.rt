@@ -1,89 +1,108 @@
 //! Access tokens as JSON (RFC 9635, section 3.2).
-ghost use Rattle.std.specs.Prelude.{◌≡◌, IfOk, IsUtf8, option_map, map};
+ghost use Rattle.std.specs.Prelude.{◌≡◌, ◌++◌, IfOk, IsUtf8, codes, string_bytes, option_map, map};
 ghost use Rattle.std.specs.List.{AllByRecursion};
-ghost use Rattle.serde_json.specs.View.{view};
+ghost use Rattle.json.specs.Print.{quoted};
+ghost use Rattle.serde_json.specs.Data.{string};
+ghost use Rattle.serde_json.specs.Written.{compact_text};
 ghost use Rattle.json_objects.specs.Objects.{object_of};
+ghost use Rattle.json_objects.specs.Texts.{IsUtf8Or};
 ghost use Rattle.gnap_objects.specs.CallsFit.{TokenFits};
+ghost use Rattle.gnap_replies.specs.Printing.{Printed, then_value, then_field, then_items, HasPrinted};
 ghost use Rattle.gnap_replies.specs.Tokens.{flags_data, bare_token_fields, manage_fields, token_data, tokens_data};
 
-use crate::endpoints::place_value;
-use access_rights::printing::rights_value;
-use bytes_and_lists::memory::Mem;
+use crate::endpoints::print_place;
+use crate::printer::Printer;
+use crate::rights::print_rights;
+use bytes_and_lists::bytes::Bytes;
 use gnap_model::calls::TokenOut;
-use json_objects::{Draft, lone_value, optional_value, text_value, word_value};
-use serde_json::Value;
 use std::alloc::Global;
 
-pub fn flags_value(alloc: Global, bearer: bool) -> Result<Option<Value>, Mem>
-    ensures { IfOk result (λ v. option_map view v ≡ flags_data bearer) }
+/// The member `flags` of a bearer token.
+pub fn print_flags(out: Printer, bearer: bool) -> Printer
+    ensures { (p : Printed) → HasPrinted out p → HasPrinted result (then_field p (codes "flags") (flags_data bearer)) }
 {
     if !bearer {
-        return Ok(None);
+        return out;
     }
-    Ok(Some(lone_value(alloc, word_value(alloc, "bearer")?)?))
+    out.name("flags").value(b"[\"bearer\"]")
 }
 
-pub fn bare_token_value(alloc: Global, value: &[u8]) -> Result<Value, Mem>
-    requires { IsUtf8 value.now }
-    ensures { IfOk result (λ v. view v ≡ object_of (bare_token_fields value.now)) }
+/// A member that is a text, where there is one.
+pub fn print_optional(out: Printer, name: &str, text: &Option<Bytes>) -> Printer
+    requires { IsUtf8Or text.now }
+    ensures { (p : Printed) → HasPrinted out p → HasPrinted result (then_field p name.now (option_map string text.now)) }
 {
-    Draft::new(alloc)
-        .with("value", text_value(alloc, value))
-        .value()
+    match text {
+        None => out,
+        Some(text) => out.name(name).text(text),
+    }
 }
 
-fn manage_value(alloc: Global, base: &[u8], manage: &[u8]) -> Result<Value, Mem>
+/// A token of which the value alone is told.
+pub fn print_bare_token(out: Printer, value: &[u8]) -> Printer
+    requires { IsUtf8 value.now }
+    ensures { (p : Printed) → HasPrinted out p → HasPrinted result (then_value p (compact_text (object_of (bare_token_fields value.now)))) }
+{
+    out.begin(b'{').name("value").string(value).end(b'}')
+}
+
+fn print_manage(alloc: Global, out: Printer, base: &[u8], manage: &[u8]) -> Printer
     requires base { IsUtf8 base.now }
     requires manage { IsUtf8 manage.now }
-    ensures { IfOk result (λ v. view v ≡ object_of (manage_fields base.now manage.now)) }
+    ensures { (p : Printed) → HasPrinted out p → HasPrinted result (then_value p (compact_text (object_of (manage_fields base.now manage.now)))) }
 {
-    Draft::new(alloc)
-        .with("uri", place_value(alloc, base, "/token"))
-        .with("access_token", bare_token_value(alloc, manage))
-        .value()
+    let out = print_bare_token(out.begin(b'{').name("access_token"), manage);
+    print_place(alloc, out.name("uri"), base, "/token").end(b'}')
 }
 
+/// A token with all that is told of it.
 #[tactic(auto, unfolding(crate::specs::Tokens::token_data))]
-pub fn token_value(alloc: Global, base: &[u8], token: &TokenOut) -> Result<Value, Mem>
+pub fn print_token(alloc: Global, out: Printer, base: &[u8], token: &TokenOut) -> Printer
     requires base { IsUtf8 base.now }
     requires token { TokenFits token.now }
-    ensures { IfOk result (λ v. view v ≡ token_data base.now token.now) }
+    ensures { (p : Printed) → HasPrinted out p → HasPrinted result (then_value p (compact_text (token_data base.now token.now))) }
 {
-    Draft::new(alloc)
-        .with("value", text_value(alloc, token.value.as_slice()))
-        .with("manage", manage_value(alloc, base, token.manage.as_slice()))
-        .with_optional("label", optional_value(alloc, &token.label))
-        .with_optional("flags", flags_value(alloc, token.bearer))
-        .with_number("expires_in", token.expires_in)
-        .with("access", rights_value(alloc, &token.rights))
-        .value()
+    let out = print_rights(alloc, out.begin(b'{').name("access"), &token.rights);
+    let out = print_flags(
+        out.name("expires_in").number(token.expires_in),
+        token.bearer,
+    );
+    let out = print_optional(out, "label", &token.label);
+    let out = print_manage(alloc, out.name("manage"), base, token.manage.as_slice());
+    out.name("value").string(token.value.as_slice()).end(b'}')
 }
 
-fn each_token(alloc: Global, base: &[u8], tokens: &[TokenOut]) -> Result<Vec<Value>, Mem>
+// The items of the array.
+fn print_each_token(alloc: Global, out: Printer, base: &[u8], tokens: &[TokenOut]) -> Printer
     requires base { IsUtf8 base.now }
     requires tokens { AllByRecursion TokenFits tokens.now }
-    ensures { IfOk result (λ items. map view items.items ≡ map (token_data base.now) tokens.now) }
+    ensures { (p : Printed) → HasPrinted out p → HasPrinted result (then_items p (map (token_data base.now) tokens.now)) }
 {
-    let mut items = Vec::new(alloc);
+    let mut out = out;
     for token in tokens {
-        items.push(token_value(alloc, base, token)?)?;
+        out = print_token(alloc, out, base, token);
     }
-    Ok(items)
+    out
 }
 
-pub fn tokens_value(
+/// The member `access_token`, where there is a token: the one that was asked for outside an array, or an array.
+pub fn print_tokens(
     alloc: Global,
+    out: Printer,
     base: &[u8],
     single: bool,
     tokens: &[TokenOut],
-) -> Result<Option<Value>, Mem>
+) -> Printer
     requires base { IsUtf8 base.now }
     requires tokens { AllByRecursion TokenFits tokens.now }
-    ensures { IfOk result (λ v. option_map view v ≡ tokens_data base.now single tokens.now) }
+    ensures { (p : Printed) → HasPrinted out p → HasPrinted result (then_field p (codes "access_token") (tokens_data base.now single tokens.now)) }
 {
     match tokens {
-        [] => Ok(None),
-        [token, ..] if single => Ok(Some(token_value(alloc, base, token)?)),
-        tokens => Ok(Some(Value::Array(each_token(alloc, base, tokens)?))),
+        [] => out,
+        [token, ..] if single => print_token(alloc, out.name("access_token"), base, token),
+        tokens => {
+            let out = out.name("access_token").begin(b'[');
+            print_each_token(alloc, out, base, tokens).end(b']')
+        }
     }
 }

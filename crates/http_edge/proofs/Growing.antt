@@ -1,6 +1,6 @@
 -- Bytes that come behind those that are held.
-use Rattle.std.proofs.Common.{◌≡◌, ℕ, ◌+◌, ◌-◌, ◌<◌, ◌≤◌, ◌⊎◌, List, [], ◌++◌, length, take, drop, sym, ap, ◌∙◌, subst, arith, append_assoc, append-nil, length-append, inl, inr, Bool, true}
-use Rattle.std.specs.Prelude.{Some, None, Ok, Err}
+use Rattle.std.proofs.Common.{◌≡◌, ℕ, ◌⊎◌, List, [], ◌++◌, take, drop, sym, ap, ◌∙◌, subst, arith, append_assoc, append-nil, length-append, inl, inr, refl}
+use Rattle.std.specs.Prelude.{◌+◌, ◌-◌, ◌<◌, ◌≤◌, length, Bool, true, Some, None, Ok, Err}
 use Rattle.bytes_and_lists.specs.declared.message.Message.{Message}
 use Rattle.outside.specs.Outside.{Told, Takes, Reads, IsAtEnd, Rose}
 use Rattle.outside.proofs.Devices.{takes_none, takes_then}
@@ -49,15 +49,32 @@ grows_by held new rest a b count e reads some within = (
   omega (arith, ap length e, length-append held (take count rest), length-take count rest),
 )
 
+-- what reads came to, each of which gave bytes
+pub record HasRead (held held_now : List ℕ) (before after : Told) (faults faults_now : ℕ) : Type 0 where
+  pub grows : Grows held held_now before after
+  pub longer : length held ≤ length held_now
+  pub kept : faults_now ≡ faults
+
+pub read_none : (held : List ℕ) (told : Told) (faults : ℕ) → HasRead held held told told faults faults
+read_none held told faults = record { grows = grows_none held told; longer = omega arith; kept = refl }
+
+pub read_more : (held mid new : List ℕ) (a m b : Told) (was kept now : ℕ) → HasRead held mid a m was kept
+    → HasArrived arrival.More mid new m b kept now → HasRead held new a b was now
+read_more held mid new a m b was kept now so_far more = record {
+  grows = grows_then held mid new a m b so_far.grows more.0;
+  longer = omega (arith, so_far.longer, more.1);
+  kept = more.2 ∙ so_far.kept;
+}
+
 -- what the last of several reads did is what they did together
-pub arrived_then : (how : Arrival) (held mid new : List ℕ) (a m b : Told) (was kept now : ℕ) → Grows held mid a m → length held ≤ length mid → kept ≡ was
+pub arrived_then : (how : Arrival) (held mid new : List ℕ) (a m b : Told) (was kept now : ℕ) → HasRead held mid a m was kept
     → HasArrived how mid new m b kept now → HasArrived how held new a b was now
-arrived_then arrival.More held mid new a m b was kept now grows longer same more =
-    (grows_then held mid new a m b grows more.0, omega (arith, longer, more.1), more.2 ∙ same)
-arrived_then arrival.End held mid new a m b was kept now grows longer same end = (grows_then held mid new a m b grows end.0, end.1, end.2 ∙ same)
-arrived_then arrival.Failed held mid new a m b was kept now grows longer same failed =
-    (grows_then held mid new a m b grows failed.0, subst (λ (n : ℕ). Rose n now) same failed.1)
-arrived_then arrival.Memory held mid new a m b was kept now grows longer same none = (grows_then held mid new a m b grows none.0, none.1 ∙ same)
+arrived_then arrival.More held mid new a m b was kept now so_far more =
+    (grows_then held mid new a m b so_far.grows more.0, omega (arith, so_far.longer, more.1), more.2 ∙ so_far.kept)
+arrived_then arrival.End held mid new a m b was kept now so_far end = (grows_then held mid new a m b so_far.grows end.0, end.1, end.2 ∙ so_far.kept)
+arrived_then arrival.Failed held mid new a m b was kept now so_far failed =
+    (grows_then held mid new a m b so_far.grows failed.0, subst (λ (n : ℕ). Rose n now) so_far.kept failed.1)
+arrived_then arrival.Memory held mid new a m b was kept now so_far none = (grows_then held mid new a m b so_far.grows none.0, none.1 ∙ so_far.kept)
 
 -- nothing was taken, so nothing came
 pub none_came : (held new : List ℕ) (told : Told) → Grows held new told told → new ≡ held

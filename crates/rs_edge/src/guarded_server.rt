@@ -25,6 +25,8 @@ impl<'a, 'b, K: RequestGuard, L: Link, G: Clock> TurnTaker<GuardedLink<'b, L, K>
 
     type Message = Message;
 
+    type Scratch = ();
+
     ghost Entry = { GuardedStep K.Kept };
 
     ghost Past = { LinkState × K.Kept };
@@ -33,9 +35,12 @@ impl<'a, 'b, K: RequestGuard, L: Link, G: Clock> TurnTaker<GuardedLink<'b, L, K>
 
     ghost is_turn = { λ server. IsRsTurn K.guards server.setup.now };
 
+    fn scratch(&self, _alloc: Global) {}
+
     fn turn<S: Source + Sink>(
         &self,
         alloc: Global,
+        _scratch: &mut (),
         backend: &mut GuardedLink<'b, L, K>,
         conn: &mut S,
         gear: &mut G,

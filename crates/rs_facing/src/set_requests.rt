@@ -9,12 +9,13 @@ ghost use Rattle.as_requests.specs.Signers.{signer};
 ghost use Rattle.rs_facing.specs.SetRequests.{set_route_at, may_ask, refused, registered_by, resolved_by, body_step, key_step, signed_step, method_step, set_call, IsAskableSet};
 
 use as_requests::{Edge, Signer, find_signer};
+use body_reading::BodyReader;
 use bytes_and_lists::bytes::Bytes;
 use bytes_and_lists::memory::Mem;
 use bytes_and_lists::message::Message;
 use gnap_model::objects::{ErrorCode, KeyRow, Role};
 use gnap_objects::{ObjectFault, Registration, read_registration, read_resolution};
-use json_objects::{BodyFault, read_body};
+use json_objects::BodyFault;
 use message_signature::target_path;
 use resource_sets::sets::SetCall;
 use serde_json::Value;
@@ -129,12 +130,18 @@ fn resolution_step(alloc: Global, key: Bytes, body: &Value) -> Result<SetStep, M
 }
 
 // What the body asks of the route, by one who may.
-fn body_step(alloc: Global, route: SetRoute, key: Bytes, body: &[u8]) -> Result<SetStep, Mem>
+fn body_step(
+    alloc: Global,
+    bodies: &mut BodyReader,
+    route: SetRoute,
+    key: Bytes,
+    body: &[u8],
+) -> Result<SetStep, Mem>
     requires { IsUtf8 key }
     ensures step { IfOk result (λ s. s ≡ body_step route key (body_of body.now)) }
     ensures askable { IfOk result IsAskableSet }
 {
-    match read_body(alloc, body) {
+    match bodies.read(alloc, body) {
         Ok(object) => match route {
             SetRoute::Registration => registration_step(alloc, key, &object),
             SetRoute::Resolution => resolution_step(alloc, key, &object),
@@ -147,6 +154,7 @@ fn body_step(alloc: Global, route: SetRoute, key: Bytes, body: &[u8]) -> Result<
 // What the body asks of the route, by the key that signed it.
 fn key_step(
     alloc: Global,
+    bodies: &mut BodyReader,
     edge: &Edge,
     route: SetRoute,
     key: Bytes,
@@ -159,12 +167,13 @@ fn key_step(
     if !may_ask(route, edge.setup().key(key.as_slice())) {
         return Ok(refused(ErrorCode::InvalidResourceServer));
     }
-    body_step(alloc, route, key, body)
+    body_step(alloc, bodies, route, key, body)
 }
 
 // What the signer of the message asks of the route.
 fn signed_step(
     alloc: Global,
+    bodies: &mut BodyReader,
     edge: &Edge,
     route: SetRoute,
     message: &Message,
@@ -175,7 +184,7 @@ fn signed_step(
 {
     match find_signer(alloc, edge, false, message, moment)? {
         Some(Signer { key, mark: _ }) => {
-            key_step(alloc, edge, route, key, message.body.as_slice())
+            key_step(alloc, bodies, edge, route, key, message.body.as_slice())
         }
         None => Ok(refused(ErrorCode::InvalidResourceServer)),
     }
@@ -184,6 +193,7 @@ fn signed_step(
 // What the message asks of the route.
 fn method_step(
     alloc: Global,
+    bodies: &mut BodyReader,
     edge: &Edge,
     route: SetRoute,
     message: &Message,
@@ -195,7 +205,7 @@ fn method_step(
     if message.method.as_slice() != b"POST".as_slice() {
         return Ok(SetStep::Direct(SetAnswer::NotAllowed));
     }
-    signed_step(alloc, edge, route, message, moment)
+    signed_step(alloc, bodies, edge, route, message, moment)
 }
 
 /// What the message asks of the server of resource sets at this moment, in seconds since 1970: the first of these that applies. `NotFound` where no route
@@ -204,15 +214,21 @@ fn method_step(
 /// (`gnap_objects::read_registration`, `read_resolution`); with `InvalidResourceServer` where a registration names another server than its signer; else
 /// the call.
 ///
-/// A body goes through unread until the signature passed. No nonce is asked for: a registration that is sent again changes nothing. Err only where memory ran
-/// out, and nothing is changed then.
+/// A body goes through unread until the signature passed, and is read by `bodies`. No nonce is asked for: a registration that is sent again changes nothing.
+/// Err only where memory ran out, and nothing is changed then.
 #[tactic(auto, unfolding(crate::specs::SetRequests::set_call))]
-pub fn set_call(alloc: Global, message: &Message, edge: &Edge, moment: u64) -> Result<SetStep, Mem>
+pub fn set_call(
+    alloc: Global,
+    bodies: &mut BodyReader,
+    message: &Message,
+    edge: &Edge,
+    moment: u64,
+) -> Result<SetStep, Mem>
     ensures step { IfOk result (λ s. s ≡ set_call edge.now message.now moment) }
     ensures askable { IfOk result IsAskableSet }
 {
     match SetRoute::at(target_path(message.target.as_slice())) {
         None => Ok(SetStep::Direct(SetAnswer::NotFound)),
-        Some(route) => method_step(alloc, edge, route, message, moment),
+        Some(route) => method_step(alloc, bodies, edge, route, message, moment),
     }
 }

@@ -2,6 +2,7 @@
 use crate::set_replies::{print_answer, set_reply};
 use crate::set_requests::{SetStep, set_call};
 use as_requests::Edge;
+use body_reading::BodyReader;
 use bytes_and_lists::memory::Mem;
 use bytes_and_lists::message::Message;
 use http_serving::{HttpFront, ReadyReply, write_busy};
@@ -34,6 +35,8 @@ impl Server for SetServer {
 
     type Response = ReadyReply;
 
+    type Scratch = BodyReader;
+
     ghost rules = { λ server. server.edge };
 
     ghost face = { set_face };
@@ -44,14 +47,19 @@ impl Server for SetServer {
 
     ghost says_all = { says_all };
 
+    fn scratch(&self, alloc: Global) -> BodyReader {
+        BodyReader::new(alloc)
+    }
+
     fn step(
         &self,
         alloc: Global,
+        bodies: &mut BodyReader,
         message: &Message,
         moment: u64,
         last: bool,
     ) -> Result<MessageStep<ReadyReply, SetCall>, Mem> {
-        match set_call(alloc, message, &self.edge, moment)? {
+        match set_call(alloc, bodies, message, &self.edge, moment)? {
             SetStep::Direct(answer) => {
                 let said = print_answer(alloc, self.edge.setup(), answer, last)?;
                 Ok(MessageStep::Say(said))

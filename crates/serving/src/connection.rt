@@ -65,6 +65,7 @@ pub fn serve_connection<
         → ServesTurns (V.backend_kind server.now) W.wire (V.is_turn server.now) backend.old past backend.new (G.state gear.old) (G.state gear.new)
         (served_of (S.told conn.new) (S.faults conn.new)) result }
 {
+    let mut scratch = server.scratch(alloc);
     let mut held = reader.hold_none(alloc);
     let mut place = 0u64;
     loop {
@@ -72,7 +73,7 @@ pub fn serve_connection<
             Ok(None) => return ConnectionEnd::Closed,
             Ok(Some(message)) => {
                 let last = closes(reader, &message, place);
-                match server.turn(alloc, backend, conn, gear, &message, last) {
+                match server.turn(alloc, &mut scratch, backend, conn, gear, &message, last) {
                     AfterTurn::MoreMayCome => {
                         if last {
                             if place == LAST_PLACE {

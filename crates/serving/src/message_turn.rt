@@ -66,6 +66,7 @@ pub fn enter<D: Desk, G: Draws>(
 pub fn take_turn<V: Server, D: Desk<M = V::M>, S: Source + Sink, G: Clock + Draws>(
     server: &V,
     alloc: Global,
+    scratch: &mut V::Scratch,
     desk: &mut D,
     conn: &mut S,
     gear: &mut G,
@@ -78,7 +79,7 @@ pub fn take_turn<V: Server, D: Desk<M = V::M>, S: Source + Sink, G: Clock + Draw
         (S.told conn.old) (S.told conn.new) (S.faults conn.old) (S.faults conn.new) result }
 {
     let moment = gear.now();
-    match server.step(alloc, message, moment, last) {
+    match server.step(alloc, scratch, message, moment, last) {
         Ok(MessageStep::Say(response)) => say(server, conn, &response),
         Ok(MessageStep::Ask(call)) => match enter(desk, gear, moment, call) {
             Ok(reply) => match server.respond(alloc, &reply, last) {

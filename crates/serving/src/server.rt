@@ -21,6 +21,9 @@ pub trait Server {
     /// What is said to a message, before it is written.
     type Response: Drop;
 
+    /// Memory that is used again from message to message of a connection.
+    type Scratch: Drop;
+
     /// The rules of the machine.
     ghost rules: { Self → Self.M.Rules };
 
@@ -33,10 +36,14 @@ pub trait Server {
     /// Which replies of the machine can be said.
     ghost can_say: { Self.M.Reply → Type 0 };
 
+    /// Memory for the steps of one connection.
+    fn scratch(&self, alloc: Global) -> Self::Scratch;
+
     /// What is said to a message at once, or which call it asks. `last` says whether the connection closes after the response.
     fn step(
         &self,
         alloc: Global,
+        scratch: &mut Self::Scratch,
         message: &Self::Message,
         moment: u64,
         last: bool,

@@ -31,6 +31,8 @@ impl<
 
     type Message = W::Message;
 
+    type Scratch = V::Scratch;
+
     ghost Entry = { history.Entry V.M.Call V.M.Reply V.M.Note };
 
     ghost Past = { List (history.Entry V.M.Call V.M.Reply V.M.Note) };
@@ -39,16 +41,30 @@ impl<
 
     ghost is_turn = { λ front. IsTurn V.M.law V.face (V.rules front.server) };
 
+    fn scratch(&self, alloc: Global) -> V::Scratch {
+        self.server.scratch(alloc)
+    }
+
     fn turn<S: Source + Sink>(
         &self,
         alloc: Global,
+        scratch: &mut V::Scratch,
         desk: &mut D,
         conn: &mut S,
         gear: &mut G,
         message: &W::Message,
         last: bool,
     ) -> AfterTurn {
-        take_turn(&self.server, alloc, desk, conn, gear, message, last)
+        take_turn(
+            &self.server,
+            alloc,
+            scratch,
+            desk,
+            conn,
+            gear,
+            message,
+            last,
+        )
     }
 }
 

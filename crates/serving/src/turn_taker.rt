@@ -14,6 +14,9 @@ pub trait TurnTaker<B, G: Clock> {
     /// What comes on a connection.
     type Message;
 
+    /// Memory that is used again from message to message of a connection.
+    type Scratch: Drop;
+
     /// What turns make: entries of a history, or what was asked of another server.
     ghost Entry: { Type 0 };
 
@@ -26,10 +29,14 @@ pub trait TurnTaker<B, G: Clock> {
     /// What a turn may be. The Bool tells whether the connection closes after it.
     ghost is_turn: { Self → Bool → Turn Self.Message Entry → Type 0 };
 
+    /// Memory for the turns of one connection.
+    fn scratch(&self, alloc: Global) -> Self::Scratch;
+
     /// One message's turn. `last` says whether the connection closes after it.
     fn turn<S: Source + Sink>(
         &self,
         alloc: Global,
+        scratch: &mut Self::Scratch,
         backend: &mut B,
         conn: &mut S,
         gear: &mut G,

@@ -118,6 +118,8 @@ impl Server for Bytewise {
 
     type Response = Bytes;
 
+    type Scratch = ();
+
     ghost rules = { λ server. server.start };
 
     ghost face = { byte_face };
@@ -128,9 +130,12 @@ impl Server for Bytewise {
 
     ghost says_all = { λ rules before e after legal. tt };
 
+    fn scratch(&self, _alloc: Global) {}
+
     fn step(
         &self,
         alloc: Global,
+        _scratch: &mut (),
         message: &u8,
         _moment: u64,
         _last: bool,
@@ -195,6 +200,8 @@ impl<D: Desk<M = Adding>, G: Clock + Draws> TurnTaker<D, G> for Bytewise {
 
     type Message = u8;
 
+    type Scratch = ();
+
     ghost Entry = { AddingEntry };
 
     ghost Past = { List AddingEntry };
@@ -203,9 +210,12 @@ impl<D: Desk<M = Adding>, G: Clock + Draws> TurnTaker<D, G> for Bytewise {
 
     ghost is_turn = { λ server. IsByteTurn server.start };
 
+    fn scratch(&self, _alloc: Global) {}
+
     fn turn<S: Source + Sink>(
         &self,
         alloc: Global,
+        scratch: &mut (),
         desk: &mut D,
         conn: &mut S,
         gear: &mut G,
@@ -215,7 +225,7 @@ impl<D: Desk<M = Adding>, G: Clock + Draws> TurnTaker<D, G> for Bytewise {
         if *message == 253 {
             return turn_in_two(self, alloc, desk, conn, gear, last);
         }
-        take_turn(self, alloc, desk, conn, gear, message, last)
+        take_turn(self, alloc, scratch, desk, conn, gear, message, last)
     }
 }
 

@@ -1,7 +1,7 @@
-use Rattle.std.proofs.Common.{◌∙◌, ℕ, List, sym, subst, arith}
+use Rattle.std.proofs.Common.{ℕ, List, sym, subst, arith}
 use Rattle.http_edge.specs.declared.held.Arrival.TheVariants.{End, Failed, Memory}
 use Rattle.http_edge.specs.Steps.{EndsAt}
-use Rattle.http_edge.proofs.Growing.{grows_then, arrived_then}
+use Rattle.http_edge.proofs.Growing.{read_more, arrived_then}
 use Rattle.http_edge.proofs.Outcomes.{ends_at_more, open_no_message, open_in_body}
 use Rattle.http_edge.proofs.reading.read_body.Goals as goal
 
@@ -15,23 +15,15 @@ loop-held-preserved g c =
     let before = c.loop-held.invariant in
     let arrived = c.in-More.ensures.arrived in
     record {
-      grows = grows_then _ _ _ _ _ _ before.grows arrived.0;
-      longer = omega (arith, arrived.1, before.longer);
-      kept = arrived.2 ∙ before.kept;
+      so_far = read_more _ _ _ _ _ _ _ _ _ before.so_far arrived;
       waiting = subst (λ (b : List ℕ). EndsAt b c.args.end) (sym arrived.0.behind) (ends_at_more c.loop-held.held arrived.0.came c.args.end before.waiting);
     }
 
 pub returns-in-End-clause-arrived : goal.returns-in-End-clause-arrived
-returns-in-End-clause-arrived g c =
-    let before = c.loop-held.invariant in
-    arrived_then End _ _ _ _ _ _ _ _ _ before.grows before.longer before.kept c.in-End.ensures.arrived
+returns-in-End-clause-arrived g c = arrived_then End _ _ _ _ _ _ _ _ _ c.loop-held.invariant.so_far c.in-End.ensures.arrived
 
 pub returns-in-Failed-clause-arrived : goal.returns-in-Failed-clause-arrived
-returns-in-Failed-clause-arrived g c =
-    let before = c.loop-held.invariant in
-    arrived_then Failed _ _ _ _ _ _ _ _ _ before.grows before.longer before.kept c.in-Failed.ensures.arrived
+returns-in-Failed-clause-arrived g c = arrived_then Failed _ _ _ _ _ _ _ _ _ c.loop-held.invariant.so_far c.in-Failed.ensures.arrived
 
 pub returns-in-Memory-clause-arrived : goal.returns-in-Memory-clause-arrived
-returns-in-Memory-clause-arrived g c =
-    let before = c.loop-held.invariant in
-    arrived_then Memory _ _ _ _ _ _ _ _ _ before.grows before.longer before.kept c.in-Memory.ensures.arrived
+returns-in-Memory-clause-arrived g c = arrived_then Memory _ _ _ _ _ _ _ _ _ c.loop-held.invariant.so_far c.in-Memory.ensures.arrived

@@ -3,14 +3,13 @@ use Rattle.std.specs.List.{fold}
 use Rattle.http_edge.specs.declared.places.LinePlace.TheVariants.{BlankLines}
 use Rattle.http_edge.specs.Limits.{head_limit, message_limit}
 use Rattle.http_edge.specs.Streams.{HasNoMessage}
-use Rattle.http_edge.specs.Steps.{next_line_place, Grows}
+use Rattle.http_edge.specs.Steps.{next_line_place}
+use Rattle.http_edge.proofs.Growing.{HasRead}
 use Rattle.http_edge.proofs.reading.read_head.Given as goal
 
 abbrev pub invariant-loop-held : goal.invariant-loop-held
 invariant-loop-held g l = record {
-  grows : Grows l.fn.held l.held (g.S.Device.told l.fn.source) (g.S.Device.told l.source);
-  longer : length l.fn.held ≤ length l.held;
-  kept : g.S.Device.faults l.source ≡ g.S.Device.faults l.fn.source;
+  so_far : HasRead l.fn.held l.held (g.S.Device.told l.fn.source) (g.S.Device.told l.source) (g.S.Device.faults l.fn.source) (g.S.Device.faults l.source);
   waiting : HasNoMessage l.held;
   place : l.place ≡ fold next_line_place BlankLines l.held;
   short : length l.held < head_limit;

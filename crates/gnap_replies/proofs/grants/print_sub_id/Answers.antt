@@ -1,0 +1,10 @@
+use Rattle.std.proofs.Common.{refl}
+use Rattle.json.specs.Print.{escape_byte}
+use Rattle.gnap_replies.specs.Grants.{sub_id_fields}
+use Rattle.gnap_replies.proofs.Printing.{has_object}
+use Rattle.gnap_replies.proofs.grants.print_sub_id.Goals as goal
+
+pub returns : goal.returns
+unfolding escape_byte
+returns c p printed = has_object c.end.result p (sub_id_fields c.args.id.now) refl
+    (c.end.ensures _ (c.string.ensures _ (c.name-2.ensures _ (c.value-out.ensures _ (c.name.ensures _ (c.begin.ensures p printed))))))

@@ -1,0 +1,10 @@
+use Rattle.std.proofs.Common.{true, false, ap}
+use Rattle.std.proofs.lemmas.Result.{IfOk-weaker}
+use Rattle.gnap_replies.specs.Printing.{Printed}
+use Rattle.gnap_replies.proofs.Printing.{paired}
+use Rattle.gnap_replies.proofs.printer.Printer.end.Goals as goal
+
+pub returns : goal.returns
+returns c p printed =
+    let bare = IfOk-weaker c.args.self.text _ _ (λ t e. ap (λ (q : Printed). (q.0, false)) e) printed in
+    paired c.with_piece.result (λ t. t.items) true _ (c.with_piece.ensures (p.0, false) bare)

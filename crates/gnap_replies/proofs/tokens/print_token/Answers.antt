@@ -1,0 +1,14 @@
+use Rattle.std.proofs.Common.{refl}
+use Rattle.gnap_replies.specs.Tokens.{token_fields, token_data}
+use Rattle.gnap_replies.proofs.Printing.{has_object}
+use Rattle.gnap_replies.proofs.tokens.print_token.Goals as goal
+
+pub returns : goal.returns
+unfolding token_data
+returns c p printed =
+    let access = c.print_rights-out.ensures _ (c.name.ensures _ (c.begin.ensures p printed)) in
+    let flags = c.print_flags-out.ensures _ (c.number.ensures _ (c.name-2.ensures _ access)) in
+    let label = c.print_optional-out.ensures _ flags in
+    let manage = rw c.as_slice.ensures at c.print_manage-out.ensures _ (c.name-3.ensures _ label) in
+    let value = rw c.as_slice-2.ensures at c.string.ensures _ (c.name-4.ensures _ manage) in
+    has_object c.end.result p (token_fields c.args.base.now c.args.token.now) refl (c.end.ensures _ value)

@@ -1,0 +1,163 @@
+//! JSON that is printed straight into its bytes, without a tree.
+ghost use Rattle.std.specs.Prelude.{◌≡◌, ◌++◌, [], ◌∷◌, ℕ, List, IfOk, IsUtf8, false, decimal};
+ghost use Rattle.json.specs.Print.{quoted};
+ghost use Rattle.serde_json.specs.Written.{comma_if};
+ghost use Rattle.gnap_replies.specs.Printing.{Printed, then_value, then_begin, then_end, then_name, HasPrinted};
+
+use bytes_and_lists::bytes::Bytes;
+use bytes_and_lists::memory::Mem;
+use itoa::Buffer;
+use json::Writer;
+use std::alloc::Global;
+
+// Most replies have fewer bytes.
+const ROOM: usize = 512;
+
+/// The compact text so far, or that memory ran out. It places the commas and the colons, and leaves the nesting to its caller.
+#[derive(Drop)]
+pub struct Printer {
+    text: Result<Vec<u8>, Mem>,
+    after_value: bool,
+}
+
+fn with_piece(text: Result<Vec<u8>, Mem>, after_value: bool, piece: &[u8]) -> Result<Vec<u8>, Mem>
+    ensures { (p : Printed) → IfOk text (λ t. ◌≡◌ {A = Printed} (t.items, after_value) p)
+        → IfOk result (λ t. t.items ≡ p.0 ++ (comma_if p.1 ++ piece.now)) }
+{
+    let mut text = text?;
+    if after_value {
+        text.push(b',')?;
+    }
+    text.extend_from_slice(piece)?;
+    Ok(text)
+}
+
+fn with_string(text: Result<Vec<u8>, Mem>, after_value: bool, value: &str) -> Result<Vec<u8>, Mem>
+    ensures { (p : Printed) → IfOk text (λ t. ◌≡◌ {A = Printed} (t.items, after_value) p)
+        → IfOk result (λ t. t.items ≡ p.0 ++ (comma_if p.1 ++ quoted value.now)) }
+{
+    let mut out = Writer::new(with_piece(text, after_value, b"")?);
+    out.string(value)?;
+    Ok(out.into_inner())
+}
+
+fn with_room(alloc: Global) -> Result<Vec<u8>, Mem>
+    ensures { IfOk result (λ text. text.items ≡ []) }
+{
+    Ok(Vec::with_capacity(alloc, ROOM)?)
+}
+
+impl Printer {
+    /// Nothing yet.
+    pub fn new(alloc: Global) -> Printer
+        ensures { HasPrinted result ([], false) }
+    {
+        Printer {
+            text: with_room(alloc),
+            after_value: false,
+        }
+    }
+
+    /// Memory ran out.
+    pub fn starved(self) -> Printer
+        ensures { (p : Printed) → HasPrinted result p }
+    {
+        drop(self);
+        Printer {
+            text: Err(Mem),
+            after_value: false,
+        }
+    }
+
+    /// A value, by its compact text.
+    pub fn value(self, text: &[u8]) -> Printer
+        ensures { (p : Printed) → HasPrinted self p → HasPrinted result (then_value p text.now) }
+    {
+        Printer {
+            text: with_piece(self.text, self.after_value, text),
+            after_value: true,
+        }
+    }
+
+    /// A value, by its compact text, if there was memory for that.
+    pub fn made_value(self, text: Result<Bytes, Mem>) -> Printer
+        ensures { (p : Printed) (s : List ℕ) → IfOk text (λ t. t ≡ s) → HasPrinted self p → HasPrinted result (then_value p s) }
+    {
+        match text {
+            Ok(text) => self.value(text.as_slice()),
+            Err(Mem) => self.starved(),
+        }
+    }
+
+    /// A string.
+    pub fn word(self, value: &str) -> Printer
+        ensures { (p : Printed) → HasPrinted self p → HasPrinted result (then_value p (quoted value.now)) }
+    {
+        Printer {
+            text: with_string(self.text, self.after_value, value),
+            after_value: true,
+        }
+    }
+
+    /// A string, by its bytes.
+    pub fn string(self, value: &[u8]) -> Printer
+        requires { IsUtf8 value.now }
+        ensures { (p : Printed) → HasPrinted self p → HasPrinted result (then_value p (quoted value.now)) }
+    {
+        self.word(unsafe { str::from_utf8_unchecked(value) })
+    }
+
+    /// A string, by its bytes.
+    pub fn text(self, value: &Bytes) -> Printer
+        requires { IsUtf8 value.now }
+        ensures { (p : Printed) → HasPrinted self p → HasPrinted result (then_value p (quoted value.now)) }
+    {
+        self.string(value.as_slice())
+    }
+
+    /// A whole number.
+    pub fn number(self, value: u64) -> Printer
+        ensures { (p : Printed) → HasPrinted self p → HasPrinted result (then_value p (decimal value)) }
+    {
+        let mut buffer = Buffer::new();
+        self.value(buffer.format(value).as_bytes())
+    }
+
+    /// A bracket that opens an object or an array.
+    pub fn begin(self, bracket: u8) -> Printer
+        ensures { (p : Printed) → HasPrinted self p → HasPrinted result (then_begin p (bracket ∷ [])) }
+    {
+        Printer {
+            text: with_piece(self.text, self.after_value, &[bracket]),
+            after_value: false,
+        }
+    }
+
+    /// The bracket that closes it.
+    pub fn end(self, bracket: u8) -> Printer
+        ensures { (p : Printed) → HasPrinted self p → HasPrinted result (then_end p (bracket ∷ [])) }
+    {
+        Printer {
+            text: with_piece(self.text, false, &[bracket]),
+            after_value: true,
+        }
+    }
+
+    /// The name of a member, whose value comes next.
+    pub fn name(self, name: &str) -> Printer
+        ensures { (p : Printed) → HasPrinted self p → HasPrinted result (then_name p name.now) }
+    {
+        let named = with_string(self.text, self.after_value, name);
+        Printer {
+            text: with_piece(named, false, b":"),
+            after_value: false,
+        }
+    }
+
+    /// All that was printed.
+    pub fn into_bytes(self) -> Result<Bytes, Mem>
+        ensures { (p : Printed) → HasPrinted self p → IfOk result (λ text. text ≡ p.0) }
+    {
+        Ok(Bytes::from_vec(self.text?))
+    }
+}
