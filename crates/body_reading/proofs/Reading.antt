@@ -3,8 +3,8 @@
 use Rattle.std.proofs.Common.{◌≡◌, ℕ, zero, suc, ◌-◌, ◌<◌, ◌≤◌, List, [], ◌∷◌, ◌++◌, length, Option, Some, None, option_map, option_and_then, refl, ap, ◌∙◌}
 use Rattle.json.specs.Token.{Token}
 use Rattle.json.specs.Json as json
-use Rattle.json.specs.Json.{Parse, parse_map, after_end_array, read_key, items_step, items, members, if_last}
-use Rattle.json.proofs.Grammar.{items_end, items_more, members_end, members_no_key, members_more}
+use Rattle.json.specs.Json.{Parse, parse_map, after_end_array, read_key, items_step, items, members, value, if_last}
+use Rattle.json.proofs.Grammar.{value-begin_array, value-begin_object, items_end, items_more, members_end, members_no_key, members_more}
 use Rattle.serde_json.specs.Data.{Data, array, object, Items, no_items, item, Members, no_members, put}
 use Rattle.serde_json.specs.Read.{of_json, of_items, of_members, converted}
 use Rattle.serde_json.specs.View.{view, items_view}
@@ -32,14 +32,26 @@ twice : {A B : Type 0} (g : A → B) (r : List Token) (x : Option A) → option_
 twice g r None = refl
 twice g r (Some a) = refl
 
-pub converted-array : (o : Option (json.Items × List Token)) → converted of_json (parse_map json.array o) ≡ parse_map array (converted of_items o)
+converted-array : (o : Option (json.Items × List Token)) → converted of_json (parse_map json.array o) ≡ parse_map array (converted of_items o)
 converted-array None = refl
 converted-array (Some p) = twice array p.1 (of_items p.0)
 
-pub converted-object : (o : Option (json.Members × List Token))
+converted-object : (o : Option (json.Members × List Token))
     → converted of_json (parse_map json.object o) ≡ parse_map object (converted (λ ms. of_members ms no_members) o)
 converted-object None = refl
 converted-object (Some p) = twice object p.1 (of_members p.0 no_members)
+
+-- What is read of tokens that an opening bracket begins: what is read of those behind it.
+pub opened_array : (depth : ℕ) (ts rest : List Token) → 0 < depth → ts ≡ Token.begin_array ∷ rest
+    → converted of_json (value depth ts) ≡ parse_map array (converted of_items (items (value (depth - 1)) (length rest) rest))
+opened_array depth ts rest some opens = ap (converted of_json) (ap (value depth) opens ∙ value-begin_array depth rest some)
+    ∙ converted-array (items (value (depth - 1)) (length rest) rest)
+
+pub opened_object : (depth : ℕ) (ts rest : List Token) → 0 < depth → ts ≡ Token.begin_object ∷ rest
+    → converted of_json (value depth ts)
+    ≡ parse_map object (converted (λ ms. of_members ms no_members) (members (value (depth - 1)) (length rest) rest))
+opened_object depth ts rest some opens = ap (converted of_json) (ap (value depth) opens ∙ value-begin_object depth rest some)
+    ∙ converted-object (members (value (depth - 1)) (length rest) rest)
 
 with_item : (j : json.Json) (d : Data) → of_json j ≡ Some d → (o : Option (json.Items × List Token))
     → converted of_items (parse_map (json.item j) o) ≡ parse_map (item d) (converted of_items o)
