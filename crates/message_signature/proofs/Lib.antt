@@ -1,6 +1,7 @@
 mod ComponentParts
 pub mod Fields
 pub mod Lines
+pub mod MostComponents
 pub mod WithTag
 pub mod LoneSteps
 pub mod Appended
