@@ -18,7 +18,8 @@ With the word `alike` nothing is measured: both are sent the same requests, good
 and moments. The status is 1 where two differ. This comes first where it is measured too.
 
 With the word `instructions` callgrind counts those of one request, from the first byte that is read to the last that is written, as
-`bench/requests_over_nonces.py` counts, and of one of the 6 calls of a grant, with 1 worker; so the system's part isn't in. It takes valgrind.
+`bench/requests_over_nonces.py` counts, and of one of the 6 calls of a grant, with 1 worker; so the system's part isn't in. Then it counts how often a request has
+malloc, calloc and realloc called. It takes valgrind.
 
 The program is PROGRAM, the proved one of crates/gnap where none is named. Where rustc or the program isn't there the status is 2.
 """
@@ -35,7 +36,7 @@ import tempfile
 import time
 
 from loads import told
-from requests_over_nonces import cost_of, under_callgrind
+from requests_over_nonces import allocations_in, cost_of, instructions_in, under_callgrind
 from signed_http import BEGIN, TOP, Served, first_reply, fresh_nonce, grant_request, introspection, signed_post
 
 PLAIN = os.path.join(TOP, "bench/plain")
@@ -244,12 +245,12 @@ def load_instructions(program, grants):
             return int(re.search(r"^(?:summary|totals): (\d+)", file.read(), re.M)[1])
 
 
-def request_instructions(program, kind):
+def request_cost(program, kind, count=instructions_in):
     with tempfile.TemporaryDirectory() as folder:
         served = Served(1, 1_000_000, under=under_callgrind(folder), program=program, stderr=subprocess.DEVNULL)
         try:
             token = token_of(served, grant_request())
-            return cost_of(folder, served, grant_request if kind == "grants" else lambda: introspection(token))
+            return cost_of(folder, served, grant_request if kind == "grants" else lambda: introspection(token), count)
         finally:
             served.stop()
 
@@ -261,10 +262,13 @@ def count(name, programs, cost):
 
 def count_all(programs):
     print("| instructions of | `gnap` | plain | ratio |\n|---|---|---|---|")
-    count("a signed introspection", programs, lambda program: request_instructions(program, "introspections"))
-    count("a signed grant request", programs, lambda program: request_instructions(program, "grants"))
+    count("a signed introspection", programs, lambda program: request_cost(program, "introspections"))
+    count("a signed grant request", programs, lambda program: request_cost(program, "grants"))
     few, many = 1_000, 3_000
     count("a call of `load`", programs, lambda program: (load_instructions(program, many) - load_instructions(program, few)) / (6 * (many - few)))
+    print("\n| allocations of | `gnap` | plain | ratio |\n|---|---|---|---|")
+    count("a signed introspection", programs, lambda program: request_cost(program, "introspections", allocations_in))
+    count("a signed grant request", programs, lambda program: request_cost(program, "grants", allocations_in))
 
 
 def main():

@@ -70,26 +70,38 @@ def begin(served, many, request=grant_request):
     return body
 
 
-def counted(folder, process, number):
-    """The instructions since the last dump."""
+def instructions_in(dump):
+    """The instructions of a dump."""
+    return int(re.search(r"^(?:summary|totals): (\d+)", dump, re.M)[1])
+
+
+def allocations_in(dump):
+    """How often a dump has malloc, calloc and realloc called."""
+    names = dict(re.findall(r"^c?fn=(\(\d+\)) (.+)$", dump, re.M))
+    calls = re.findall(r"^cfn=(\(\d+\)).*\ncalls=(\d+)", dump, re.M)
+    return sum(int(times) for name, times in calls if names[name] in ("malloc", "calloc", "realloc"))
+
+
+def counted(folder, process, number, count=instructions_in):
+    """What is counted since the last dump."""
     subprocess.run(["callgrind_control", "-d", str(process)], check=True, capture_output=True)
     path = os.path.join(folder, f"counts.{number}")
     for _ in range(100):
-        found = glob.glob(path) and re.search(r"^(?:summary|totals): (\d+)", open(path).read(), re.M)
-        if found:
-            return int(found[1])
+        dump = open(path).read() if glob.glob(path) else ""
+        if re.search(r"^(?:summary|totals): \d", dump, re.M):
+            return count(dump)
         time.sleep(0.1)
     raise SystemExit("callgrind dumped no counts: " + " ".join(os.listdir(folder)))
 
 
-def cost_of(folder, served, request=grant_request):
-    """A grant request's instructions, of a server under callgrind that listens."""
+def cost_of(folder, served, request=grant_request, count=instructions_in):
+    """A grant request's instructions, or what else is counted, of a server under callgrind that listens."""
     begin(served, 1, request)
     subprocess.run(["callgrind_control", "-i", "on", str(served.process.pid)], check=True, capture_output=True)
     counts = []
     for number, times in enumerate((FEW, MANY), 1):
         begin(served, times, request)
-        counts.append(counted(folder, served.process.pid, number))
+        counts.append(counted(folder, served.process.pid, number, count))
     return (counts[1] - counts[0]) / (MANY - FEW)
 
 

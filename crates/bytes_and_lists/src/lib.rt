@@ -3,6 +3,7 @@
 #![tactic(auto)]
 
 pub mod bytes;
+mod inline_bytes;
 pub mod memory;
 pub mod message;
 pub mod seq;

@@ -1,5 +1,5 @@
 -- What is skipped in a text, and which members of a dictionary have a parameter with a given String.
-use Rattle.std.specs.Prelude.{◌≡◌, ℕ, Bool, false, if◌then◌else◌, List, [], ◌∷◌, filter, Option, Some, None, option_map}
+use Rattle.std.specs.Prelude.{◌≡◌, ℕ, nat_lt, Bool, false, if◌then◌else◌, List, [], ◌∷◌, filter, length, Option, Some, None, option_map}
 use Rattle.std.specs.Str.{bytes_eq}
 use Rattle.structured_fields.specs.declared.bare.Bare.{Bare}
 use Rattle.structured_fields.specs.declared.item.Item.{Item}
@@ -64,9 +64,21 @@ Tells name s Unsettled d = Unit {0}
 abbrev pub only_strings : {A : Type 0} → List Item → A → Option A
 only_strings items made = if are_strings items then Some made else None
 
--- the inner list that the member is, where its items are Strings
+abbrev pub has_parameters : Item → Bool
+has_parameters item = nat_lt 0 (length item.params)
+
+-- the items up to the first one that has parameters, and that one
+abbrev pub up_to_parameters : List Item → List Item
+up_to_parameters [] = []
+up_to_parameters (item ∷ items) = item ∷ (if has_parameters item then [] else up_to_parameters items)
+
+-- the inner list of those items, with its own parameters
+abbrev pub cut_list : InnerList → InnerList
+cut_list list = record { items = up_to_parameters list.items; params = list.params }
+
+-- the inner list that the member is, so cut, where all its items are Strings
 abbrev pub strings_in : Member → Option InnerList
-strings_in (Inner list) = only_strings list.items list
+strings_in (Inner list) = only_strings list.items (cut_list list)
 strings_in (Single item) = None
 
 -- ---- the bare item under a key

@@ -9,7 +9,7 @@ use Rattle.std.proofs.lemmas.Bool.{and_parts}
 use Rattle.std.proofs.lemmas.Result.{IfOk-weaker}
 use Rattle.bytes_and_lists.specs.declared.memory.Mem.{Mem}
 use Rattle.json.specs.Token.{Token}
-use Rattle.json.specs.Print.{print, print_from, quoted}
+use Rattle.json.specs.Print.{print, print_from, quoted, token_text}
 use Rattle.serde_json.specs.Data.{Data, array, Members, no_members, member, put}
 use Rattle.serde_json.specs.Written.{comma_if, compact_text, items_text, members_text}
 use Rattle.json_objects.specs.Objects.{members_onto, object_of, items}
@@ -73,11 +73,11 @@ pub paired : {X : Type 0} (r : Result X Mem) (text : X → List ℕ) (later : Bo
     → IfOk r (λ t. ◌≡◌ {A = Printed} (text t, later) (s, later))
 paired r text later s = IfOk-weaker r _ _ (λ t e. ap (λ u. (u, later)) e)
 
-pub string_behind : (p : Printed) (value made before : List ℕ) (written begun : List Token)
-    → made ≡ before ++ print written → before ≡ p.0 ++ (comma_if p.1 ++ []) → written ≡ begun ++ Token.string value ∷ [] → begun ≡ []
-    → made ≡ p.0 ++ (comma_if p.1 ++ quoted value)
+pub token_behind : (p : Printed) (token : Token) (made before : List ℕ) (written begun : List Token)
+    → made ≡ before ++ print written → before ≡ p.0 ++ comma_if p.1 → written ≡ begun ++ token ∷ [] → begun ≡ []
+    → made ≡ p.0 ++ (comma_if p.1 ++ token_text token)
 unfolding print_from
-string_behind p value made before written begun whole same more none = rw (whole, same, more, none) (simp (append_assoc, append-nil))
+token_behind p token made before written begun whole same more none = rw (whole, same, more, none) (simp (append_assoc, append-nil))
 
 one_more_item : (ds : List Data) (d : Data) (p : Printed) → then_items p (ds ++ d ∷ []) ≡ then_value (then_items p ds) (compact_text d)
 one_more_item [] d p = refl

@@ -1,13 +1,14 @@
 //! JSON that is printed straight into its bytes, without a tree.
 ghost use Rattle.std.specs.Prelude.{◌≡◌, ◌++◌, [], ◌∷◌, ℕ, List, IfOk, IsUtf8, false, decimal};
-ghost use Rattle.json.specs.Print.{quoted};
+ghost use Rattle.json.specs.Print.{quoted, token_text, IsPrintable};
+ghost use Rattle.json.specs.Reads.{token_of};
 ghost use Rattle.serde_json.specs.Written.{comma_if};
 ghost use Rattle.gnap_replies.specs.Printing.{Printed, then_value, then_begin, then_end, then_name, HasPrinted};
 
 use bytes_and_lists::bytes::Bytes;
 use bytes_and_lists::memory::Mem;
 use itoa::Buffer;
-use json::Writer;
+use json::{Token, Writer};
 use std::alloc::Global;
 
 // Most replies have fewer bytes.
@@ -20,24 +21,38 @@ pub struct Printer {
     after_value: bool,
 }
 
-fn with_piece(text: Result<Vec<u8>, Mem>, after_value: bool, piece: &[u8]) -> Result<Vec<u8>, Mem>
-    ensures { (p : Printed) → IfOk text (λ t. ◌≡◌ {A = Printed} (t.items, after_value) p)
-        → IfOk result (λ t. t.items ≡ p.0 ++ (comma_if p.1 ++ piece.now)) }
+// A comma behind it, where a value has just ended.
+fn with_comma(text: Result<Vec<u8>, Mem>, after_value: bool) -> Result<Vec<u8>, Mem>
+    ensures { (p : Printed) → IfOk text (λ t. ◌≡◌ {A = Printed} (t.items, after_value) p) → IfOk result (λ t. t.items ≡ p.0 ++ comma_if p.1) }
 {
     let mut text = text?;
     if after_value {
         text.push(b',')?;
     }
+    Ok(text)
+}
+
+fn with_piece(text: Result<Vec<u8>, Mem>, after_value: bool, piece: &[u8]) -> Result<Vec<u8>, Mem>
+    ensures { (p : Printed) → IfOk text (λ t. ◌≡◌ {A = Printed} (t.items, after_value) p)
+        → IfOk result (λ t. t.items ≡ p.0 ++ (comma_if p.1 ++ piece.now)) }
+{
+    let mut text = with_comma(text, after_value)?;
     text.extend_from_slice(piece)?;
     Ok(text)
 }
 
-fn with_string(text: Result<Vec<u8>, Mem>, after_value: bool, value: &str) -> Result<Vec<u8>, Mem>
+// A string, or the name of a member with its colon.
+fn with_token(
+    text: Result<Vec<u8>, Mem>,
+    after_value: bool,
+    token: Token<'_>,
+) -> Result<Vec<u8>, Mem>
+    requires { IsPrintable (token_of token) }
     ensures { (p : Printed) → IfOk text (λ t. ◌≡◌ {A = Printed} (t.items, after_value) p)
-        → IfOk result (λ t. t.items ≡ p.0 ++ (comma_if p.1 ++ quoted value.now)) }
+        → IfOk result (λ t. t.items ≡ p.0 ++ (comma_if p.1 ++ token_text (token_of token.entry))) }
 {
-    let mut out = Writer::new(with_piece(text, after_value, b"")?);
-    out.string(value)?;
+    let mut out = Writer::new(with_comma(text, after_value)?);
+    out.token(token)?;
     Ok(out.into_inner())
 }
 
@@ -94,7 +109,7 @@ impl Printer {
         ensures { (p : Printed) → HasPrinted self p → HasPrinted result (then_value p (quoted value.now)) }
     {
         Printer {
-            text: with_string(self.text, self.after_value, value),
+            text: with_token(self.text, self.after_value, Token::String(value)),
             after_value: true,
         }
     }
@@ -147,9 +162,8 @@ impl Printer {
     pub fn name(self, name: &str) -> Printer
         ensures { (p : Printed) → HasPrinted self p → HasPrinted result (then_name p name.now) }
     {
-        let named = with_string(self.text, self.after_value, name);
         Printer {
-            text: with_piece(named, false, b":"),
+            text: with_token(self.text, self.after_value, Token::Key(name)),
             after_value: false,
         }
     }

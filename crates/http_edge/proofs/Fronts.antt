@@ -1,5 +1,5 @@
 -- The front of a stream, under more bytes.
-use Rattle.std.proofs.Common.{◌≡◌, ℕ, ◌+◌, ◌-◌, ◌*◌, ◌<◌, ◌≤◌, List, [], ◌∷◌, ◌++◌, length, take, drop, refl, sym, ap, ◌∙◌, subst, arith, rules, append_assoc, append-nil, length-append, inl, inr, ◌⊎◌, cond}
+use Rattle.std.proofs.Common.{◌≡◌, ℕ, ◌+◌, ◌-◌, ◌*◌, ◌<◌, ◌≤◌, List, [], ◌∷◌, ◌++◌, length, take, drop, refl, sym, ap, ◌∙◌, subst, arith, rules, true, append_assoc, append-nil, length-append, inl, inr, ◌⊎◌, cond}
 use Rattle.std.specs.Prelude.{IsTrue, ◌==◌, ◌||◌, nat_lt, map, slice_range, All, flat_map}
 use Rattle.std.proofs.lemmas.List.{take-append-drop, take-append-le, drop-append-le, take_all, length-map, length-drop, length-take}
 use Rattle.std.proofs.Math.Seq.{take-append-add, take-append_seam, drop-append_seam}
@@ -11,7 +11,7 @@ use Rattle.httparse.proofs.RunLemmas.{length-slice_range}
 use Rattle.httparse.specs.declared.spans.HeaderSpan.{HeaderSpan}
 use Rattle.httparse.specs.declared.spans.RequestSpans.{RequestSpans}
 use Rattle.httparse.specs.Spans.{RequestOverflows, RequestExceeds, IsRequestOf, name_and_value}
-use Rattle.httparse.specs.Grammar.{Field, print_field, IsField, LineEnd, lf, crlf, print_end, print_blank, print_request, IsToken, is_uri_byte, RequestHead, IsRequestHead, ReadsRequest, HasNoRequest, NeverHasRequest}
+use Rattle.httparse.specs.Grammar.{Field, print_field, IsField, LineEnd, lf, crlf, print_end, print_blank, print_request, IsToken, is_uri_byte, is_token_byte, RequestHead, IsRequestHead, ReadsRequest, HasNoRequest, NeverHasRequest}
 use Rattle.httparse.proofs.GrammarLemmas.{ReadsRequest-append, print_request-append, cons-append}
 use Rattle.bytes_and_lists.specs.declared.message.Message.{Message}
 use Rattle.http_edge.specs.declared.fault.EdgeFault.TheVariants as faults
@@ -193,6 +193,27 @@ too_long_refused b w e u full = too_long (subst IsUndecided e u) full
 
 pub open_in_head : (b w : List ℕ) → w ≡ window b → IsUndecided w → length b < 16384 → IsOpen b
 open_in_head b w e u short = in_head (subst IsUndecided e u) short
+
+nothing_reads : (h : RequestHead) (rest : List ℕ) → ReadsRequest [] h rest → ⊥
+nothing_reads h rest r =
+    let parts = simp length-append at (ap length (r.1 ∙ print_request-append h rest)) in
+    omega (arith, parts)
+
+-- of no bytes it isn't decided what they begin
+open_at_first : IsOpen []
+unfolding window tail_after is_token_byte
+open_at_first = in_head (record {
+  none = nothing_reads;
+  may = inl (record {
+    more = 65 ∷ 32 ∷ tail_after;
+    head = head_after [] (65 ∷ []);
+    reads = head_after_reads [] (65 ∷ []) (omega arith, All-cons (λ (c : ℕ). IsTrue (is_token_byte c)) 65 [] refl (All-nil _));
+  });
+}) (omega arith)
+
+pub nothing_open : (b : List ℕ) → (length b == 0) ≡ true → IsOpen b × (length b < 16384)
+nothing_open [] none = (open_at_first, omega arith)
+nothing_open (c ∷ b) none = absurd (grind (arith, nat_tests))
 
 if_long : (A : Type 0) (n : ℕ) (x y : A) → 64 < n → cond (nat_lt 64 n) x y ≡ x
 if_long A n x y h = grind (arith, nat_tests)

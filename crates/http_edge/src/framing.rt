@@ -144,13 +144,6 @@ pub(crate) fn is_last(minor: u8, head: &[u8], fields: &[HeaderSpan]) -> bool
     minor == 0 || KnownFields::from_spans(head, fields).close
 }
 
-// The bytes in lower case.
-fn lowered(alloc: Global, text: &[u8]) -> Result<Bytes, Mem>
-    ensures { IfOk result (λ b. b ≡ map to_ascii_lowercase text.now) }
-{
-    Ok(Bytes::from_vec(text.iter().map(|c| c.to_ascii_lowercase()).collect(alloc)?))
-}
-
 /// The fields that the spans cover, with their names in lower case.
 pub(crate) fn fields_of(alloc: Global, head: &[u8], spans: &[HeaderSpan]) -> Result<Fields, Mem>
     requires { All (IsHeaderWithin (length head.now)) spans.now }
@@ -158,7 +151,7 @@ pub(crate) fn fields_of(alloc: Global, head: &[u8], spans: &[HeaderSpan]) -> Res
 {
     let mut fields = Vec::with_capacity(alloc, spans.len())?;
     for span in spans {
-        let name = lowered(alloc, span.name.of(head))?;
+        let name = Bytes::lowercased(alloc, span.name.of(head))?;
         let value = Bytes::from_slice(alloc, span.value.of(head))?;
         fields.push(Field { name, value })?;
     }

@@ -87,6 +87,9 @@ fn read_message(
 pub(crate) fn take_message(alloc: Global, b: &[u8]) -> Result<Beginning, Mem>
     ensures { IfOk result (IsBeginningOf b.now) }
 {
+    if b.is_empty() {
+        return Ok(Beginning::Unfinished(Want::MoreOfHead));
+    }
     let w = window(b);
     let mut room = [EMPTY_HEADER_SPAN; FIELD_LIMIT];
     match leading_head(alloc, w, &mut room)? {

@@ -62,7 +62,7 @@ pub(crate) fn keep(replies: &mut Replies, text: Bytes, kept: KeptReply) -> Resul
     if may_keep(&text, &kept) {
         let text = without_spare_room(text);
         let kept = kept.fitted();
-        match replies.put(text.into_vec(), kept) {
+        match replies.put(text.into_vec()?, kept) {
             Ok(_) => Ok(()),
             Err(_) => Err(Mem),
         }

@@ -1,6 +1,6 @@
 //! Objects that are made member by member, and what stands in them.
 ghost use Rattle.std.specs.Prelude.{◌≡◌, IfOk, Some, Option, option_map};
-ghost use Rattle.serde_json.specs.Data.{Data, Members, no_members, no_items, item, boolean, number, unsigned, string, array, object};
+ghost use Rattle.serde_json.specs.Data.{Data, Members, no_members, no_items, item, string, array, object};
 ghost use Rattle.serde_json.specs.View.{view, members_view};
 ghost use Rattle.json_objects.specs.Objects.{with_member};
 ghost use Rattle.json_objects.specs.Drafts.{HasMembers};
@@ -35,12 +35,6 @@ fn present(value: Result<Value, Mem>) -> Result<Option<Value>, Mem>
     ensures { (d : Data) → IfOk value (λ v. view v ≡ d) → IfOk result (λ v. option_map view v ≡ Some d) }
 {
     Ok(Some(value?))
-}
-
-fn bool_value(value: bool) -> Value
-    ensures { view result ≡ boolean value }
-{
-    Value::Bool(value)
 }
 
 impl Draft {
@@ -78,20 +72,6 @@ impl Draft {
             → HasMembers result (with_member name.now (Some d) ms) }
     {
         self.with_optional(name, present(value))
-    }
-
-    /// With one more member, a whole number.
-    pub fn with_number(self, name: &str, value: u64) -> Draft
-        ensures { (ms : Members) → HasMembers self ms → HasMembers result (with_member name.now (Some (number (unsigned value))) ms) }
-    {
-        self.with(name, Ok(Value::from(value)))
-    }
-
-    /// With one more member, `true` or `false`.
-    pub fn with_bool(self, name: &str, value: bool) -> Draft
-        ensures { (ms : Members) → HasMembers self ms → HasMembers result (with_member name.now (Some (boolean value)) ms) }
-    {
-        self.with(name, Ok(bool_value(value)))
     }
 
     /// The object, with its members in the ascending byte order of their names.

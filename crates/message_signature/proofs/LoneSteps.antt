@@ -9,18 +9,22 @@ use Rattle.structured_fields.specs.declared.item.InnerList.{InnerList}
 use Rattle.structured_fields.specs.declared.item.Member.{Member}
 use Rattle.structured_fields.specs.declared.item.Member.TheVariants.{Item as Single, Inner}
 use Rattle.structured_fields.specs.Named.{value_at}
-use Rattle.dictionary_lookup.specs.Skipping.{matches_among, bare_found, strings_in}
+use Rattle.dictionary_lookup.specs.Skipping.{matches_among, bare_found, cut_list, strings_in}
 use Rattle.structured_fields.specs.Reading.{dictionary_of}
 use Rattle.structured_fields.specs.Strings.{are_strings, holds_string}
 use Rattle.structured_fields.proofs.Fronts.{some_is}
 use Rattle.message_signature.specs.declared.fault.SigFault.{SigFault}
 use Rattle.message_signature.specs.declared.fault.SigFault.TheVariants.{NoField, NotAField, NoTag, Malformed, OutOfMemory}
+use Rattle.message_signature.specs.declared.lone.LoneSignature.{LoneSignature}
+use Rattle.message_signature.specs.declared.reading.ReadSignature.{ReadSignature}
+use Rattle.message_signature.specs.declared.reading.ReadSignature.TheVariants.{Alone, Among}
 use Rattle.message_signature.specs.declared.tags.SignatureFields.{SignatureFields}
 use Rattle.message_signature.specs.Components.{field_value}
-use Rattle.message_signature.specs.Faults.{◌>>=◌, need, Fails}
-use Rattle.message_signature.specs.Lone.{read_tagged, bytes_in, formed}
+use Rattle.message_signature.specs.Faults.{◌>>=◌, need, must, Fails}
+use Rattle.message_signature.specs.Lone.{read_tagged, bytes_in, formed, lone_seen, IsLone, IsRead, tagged_read}
 use Rattle.message_signature.specs.Verified.{Signature, is_well_formed, with_tag, signature_under, signature_fields, tagged_in, tagged, judged, verified}
 use Rattle.message_signature.specs.Marked.{judged_with_mark, id_and_mark, verified_marked}
+use Rattle.message_signature.proofs.CutLists.{cut_is_formed, judged_cut, marked_cut}
 use Rattle.message_signature.proofs.VerifiedParts.{id_and_mark_is}
 
 abbrev Entry : Type 0
@@ -81,14 +85,17 @@ module _ (tag : List ℕ) where
           absurd cc
       by false h again = again h
 
--- the member that is this list of Strings
-pub strings_are : (m : Member) (list : InnerList) → Some list ≡ strings_in m → m ≡ Inner list
-strings_are (Single item) list h = absurd cc
-strings_are (Inner other) list h = by (are_strings other.items) h
+-- the member is a list of Strings, of which this is held
+abbrev pub IsCutOf : InnerList → Member → Type 0
+IsCutOf list m = (whole : InnerList) × (m ≡ Inner whole) × (are_strings whole.items ≡ true) × (list ≡ cut_list whole)
+
+pub cut_of : (m : Member) (list : InnerList) → Some list ≡ strings_in m → IsCutOf list m
+cut_of (Single item) list h = absurd cc
+cut_of (Inner whole) list h = by (are_strings whole.items) refl h
   where
-    by : (b : Bool) → Some list ≡ cond b (Some other) None → Inner other ≡ Inner list
-    by true h = ap (λ (l : InnerList). Inner l) (sym (some_is list other h))
-    by false h = absurd cc
+    by : (b : Bool) → are_strings whole.items ≡ b → Some list ≡ cond b (Some (cut_list whole)) None → IsCutOf list (Inner whole)
+    by true all h = (whole, refl, all, some_is list (cut_list whole) h)
+    by false all h = absurd cc
 
 pub once_is : (tag label : List ℕ) (d : List Entry) (list : InnerList) (m : Member) → m ≡ Inner list → matches_among (codes "tag") tag d ≡ (label, m) ∷ []
     → matches_among (codes "tag") tag d ≡ (label, Inner list) ∷ []
@@ -98,9 +105,43 @@ once_is tag label d list m is one = one ∙ ap (λ (x : Member). (label, x) ∷ 
 pub no_strings : (list : InnerList) → None ≡ strings_in (Inner list) → is_well_formed list ≡ false
 no_strings list h = by (are_strings list.items) refl h
   where
-    by : (b : Bool) → are_strings list.items ≡ b → None ≡ cond b (Some list) None → is_well_formed list ≡ false
+    by : (b : Bool) → are_strings list.items ≡ b → None ≡ cond b (Some (cut_list list)) None → is_well_formed list ≡ false
     by true e h = absurd cc
     by false e h = rw e refl
+
+-- what is made of the list that is held, and of the whole
+module _ (label : List ℕ) (list whole : InnerList) (all : are_strings whole.items ≡ true) (is : list ≡ cut_list whole) where
+  abbrev made : Bool → InnerList → Option (List ℕ) → Result Signature SigFault
+  made b l o = must Malformed b >>= λ _. need Malformed o >>= λ bytes. Ok (record { label = label; list = l; bytes = bytes })
+
+  same_form : is_well_formed list ≡ is_well_formed whole
+  same_form = ap is_well_formed is ∙ cut_is_formed whole all
+
+  pub formed_fails : (o : Option (List ℕ)) (e : SigFault) → Fails e (formed label list o) → Fails e (formed label whole o)
+  formed_fails o e h = by (is_well_formed whole) o e (subst (λ (b : Bool). Fails e (made b list o)) same_form h)
+    where
+      by : (b : Bool) (o : Option (List ℕ)) (e : SigFault) → Fails e (made b list o) → Fails e (made b whole o)
+      by b o OutOfMemory h = tt
+      by true (Some bytes) e h = absurd cc
+      by true None e h = h
+      by false o e h = h
+
+  pub formed_is : (o : Option (List ℕ)) (one : LoneSignature) → formed label list o ≡ Ok (lone_seen label one) → IsLone (formed label whole o) one
+  formed_is o one h = by (is_well_formed whole) o (subst (λ (b : Bool). made b list o ≡ Ok (lone_seen label one)) same_form h)
+    where
+      held : Signature → LoneSignature
+      held sig = record { list = sig.list; bytes = sig.bytes }
+
+      by : (b : Bool) (o : Option (List ℕ)) → made b list o ≡ Ok (lone_seen label one) → IsLone (made b whole o) one
+      by true (Some bytes) h =
+          let found : Signature = record { label = label; list = list; bytes = bytes } in
+          let same : found ≡ lone_seen label one = cc in (
+            record { label = label; list = whole; bytes = bytes },
+            refl,
+            sym (ap held same) ∙ ap (λ (l : InnerList). record { list = l; bytes = bytes }) is,
+          )
+      by true None h = absurd cc
+      by false o h = absurd cc
 
 -- ---- the bytes under a label
 
@@ -216,18 +257,27 @@ module _ (m : Message) (tag : List ℕ) where
 -- ---- what is verified by it
 
 module _ (m : Message) (base : List ℕ) (ring : List (List ℕ × List ℕ)) (now : ℕ) (tag : List ℕ) where
-  pub verified_by : (found : Result Signature SigFault) → tagged m tag ≡ found → verified m base ring now tag ≡ (found >>= judged m base ring now)
+  verified_by : (found : Result Signature SigFault) → tagged m tag ≡ found → verified m base ring now tag ≡ (found >>= judged m base ring now)
   unfolding verified
   verified_by found e = ap (λ (r : Result Signature SigFault). r >>= judged m base ring now) e
+
+  pub verified_by_read : (label : List ℕ) (read : ReadSignature) → IsRead (tagged m tag) tag read
+      → verified m base ring now tag ≡ (tagged_read label tag read >>= judged m base ring now)
+  verified_by_read label (Alone one) is = verified_by (Ok is.0) is.1 ∙ sym (rw is.2 (judged_cut m base ring now label is.0))
+  verified_by_read label (Among fields) is = verified_by (tagged_in tag fields) is
 
   pub verified_fails : (e : SigFault) → Fails e (tagged m tag) → Fails e (verified m base ring now tag)
   unfolding verified
   verified_fails e h = fails_first (tagged m tag) (judged m base ring now) e h
 
-  pub marked_by : (found : Result Signature SigFault) → tagged m tag ≡ found
-      → verified_marked m base ring now tag ≡ (found >>= judged_with_mark m base ring now)
+  marked_by : (found : Result Signature SigFault) → tagged m tag ≡ found → verified_marked m base ring now tag ≡ (found >>= judged_with_mark m base ring now)
   unfolding id_and_mark
   marked_by found e = sym (id_and_mark_is m base ring now tag) ∙ ap (λ (r : Result Signature SigFault). r >>= judged_with_mark m base ring now) e
+
+  pub marked_by_read : (label : List ℕ) (read : ReadSignature) → IsRead (tagged m tag) tag read
+      → verified_marked m base ring now tag ≡ (tagged_read label tag read >>= judged_with_mark m base ring now)
+  marked_by_read label (Alone one) is = marked_by (Ok is.0) is.1 ∙ sym (rw is.2 (marked_cut m base ring now label is.0))
+  marked_by_read label (Among fields) is = marked_by (tagged_in tag fields) is
 
   pub marked_fails : (e : SigFault) → Fails e (tagged m tag) → Fails e (verified_marked m base ring now tag)
   unfolding id_and_mark

@@ -1,6 +1,6 @@
 -- The signature base (RFC 9421, section 2.5).
 -- Bytes stand by their numbers: 10 LF.
-use Rattle.std.specs.Prelude.{ℕ, Bool, if◌then◌else◌, List, [], ◌∷◌, ◌++◌, Option, Some, None, codes}
+use Rattle.std.specs.Prelude.{ℕ, ◌+◌, nat_lt, Bool, if◌then◌else◌, List, [], ◌∷◌, ◌++◌, length, Option, Some, None, codes}
 use Rattle.std.specs.List.{list_any}
 use Rattle.bytes_and_lists.specs.declared.message.Message.{Message}
 use Rattle.structured_fields.specs.declared.bare.Bare.{Bare}
@@ -42,6 +42,10 @@ base_lines m base (item ∷ items) = do
   line ← line_of m base item items
   lines ← base_lines m base items
   Some (line ++ lines)
+
+-- More are covered than a message has components: six derived ones, and one for each field line. Such a list has no base: one is named again or isn't there.
+abbrev pub covers_too_many : Message → List Item → Bool
+covers_too_many m items = nat_lt (length m.fields + 6) (length items)
 
 -- the line of the signature's parameters: the canonical text of the whole inner list
 abbrev pub params_line : InnerList → List ℕ

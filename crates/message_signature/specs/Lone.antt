@@ -1,8 +1,9 @@
 -- A signature with a tag, by the texts of the two fields.
-use Rattle.std.specs.Prelude.{ℕ, List, Option, Some, None, Result, Ok}
+use Rattle.std.specs.Prelude.{◌≡◌, ℕ, List, Option, Some, None, Result, Ok}
 use Rattle.structured_fields.specs.declared.bare.Bare.{Bare}
 use Rattle.structured_fields.specs.declared.item.InnerList.{InnerList}
 use Rattle.structured_fields.specs.Reading.{dictionary_of}
+use Rattle.dictionary_lookup.specs.Skipping.{cut_list}
 use Rattle.content_digest.specs.Digest.{binary_of}
 use Rattle.message_signature.specs.declared.fault.SigFault.{SigFault}
 use Rattle.message_signature.specs.declared.fault.SigFault.TheVariants.{NotAField, Malformed}
@@ -35,7 +36,20 @@ formed label list o = do
 abbrev pub lone_seen : List ℕ → LoneSignature → Signature
 lone_seen label one = record { label = label; list = one.list; bytes = one.bytes }
 
--- the signature with the tag by what was read of the two fields: one that was read by itself stands under some label
+-- what is held of a signature that is read by itself: its list up to the first covered component that has parameters, which no base supports, and its bytes
+abbrev pub lone_of : Signature → LoneSignature
+lone_of sig = record { list = cut_list sig.list; bytes = sig.bytes }
+
+-- what is held is that of the signature that was found
+abbrev pub IsLone : Result Signature SigFault → LoneSignature → Type 0
+IsLone found one = (sig : Signature) × (found ≡ Ok sig) × (one ≡ lone_of sig)
+
+-- what was read of the two fields tells the signature with the tag
+abbrev pub IsRead : Result Signature SigFault → List ℕ → ReadSignature → Type 0
+IsRead found tag (Alone one) = IsLone found one
+IsRead found tag (Among fields) = found ≡ tagged_in tag fields
+
+-- the signature with the tag by what was read of the two fields: one that was read by itself stands under some label, and its list is cut
 abbrev pub tagged_read : List ℕ → List ℕ → ReadSignature → Result Signature SigFault
 tagged_read label tag (Alone one) = Ok (lone_seen label one)
 tagged_read label tag (Among fields) = tagged_in tag fields

@@ -2,7 +2,7 @@
 ghost use Rattle.std.specs.Prelude.{◌≡◌, ◌+◌, ◌<◌, ◌++◌, [], length, drop, Some, IfOk};
 ghost use Rattle.std.specs.Option.{option_copied, option_map};
 ghost use Rattle.message_signature.specs.Faults.{GivesBase};
-ghost use Rattle.message_signature.specs.Base.{is_named, name_of, line_of, base_lines, params_line, signature_base};
+ghost use Rattle.message_signature.specs.Base.{is_named, name_of, line_of, covers_too_many, base_lines, params_line, signature_base};
 
 use crate::components::{append_bytes, append_component};
 use crate::fault::BaseFault;
@@ -112,12 +112,23 @@ pub fn append_params_line(alloc: Global, text: Bytes, list: &InnerList) -> Resul
     Ok(append_inner(alloc, text, list)?)
 }
 
+// How many derived components there are (section 2.2).
+const DERIVED: usize = 6;
+
+// Whether the list is longer than there are components, so that one is named again or isn't there. To find which one takes a comparison of each item with all
+// that stand behind it.
+fn covers_too_many(message: &Message, items: &Items) -> bool
+    ensures { result ≡ covers_too_many message.now items.now }
+{
+    items.len().saturating_sub(DERIVED) > message.fields.len()
+}
+
 /// The signature base of a message to the server with this base, under a list of covered components (RFC 9421, section 2.5). The base is scheme, `://` and
 /// authority, without a `/` at its end.
 ///
 /// Errors: Unsupported exactly where a covered component is no String, has parameters, is named again, isn't lower case or isn't there. OutOfMemory may come in
 /// place of any answer.
-#[tactic(auto, unfolding(crate::specs::Base::signature_base))]
+#[tactic(auto, using(crate::proofs::MostComponents::too_many), unfolding(crate::specs::Base::signature_base))]
 pub fn base_of(
     alloc: Global,
     message: &Message,
@@ -126,6 +137,9 @@ pub fn base_of(
 ) -> Result<Bytes, BaseFault>
     ensures { GivesBase (λ b. b) result (signature_base message.now base.now list.now) }
 {
+    if covers_too_many(message, &list.items) {
+        return Err(BaseFault::Unsupported);
+    }
     let lines = lines_of(alloc, message, base, &list.items)?;
     append_params_line(alloc, lines, list)
 }

@@ -6,7 +6,8 @@
 //! what it must; and a message that was signed is accepted.
 //!
 //! Want of memory is `OutOfMemory`, and changes nothing. A field of one line is read where it stands, and the body is never copied. Of the fields of signatures
-//! the one list with the tag is read, and the bytes under its label; other members are passed over, and take no memory that stays.
+//! the one list with the tag is read, and kept up to its first component that has parameters, and the bytes under its label; other members are passed over, and
+//! take no memory that stays.
 #![tactic(auto)]
 
 mod base;

@@ -1,12 +1,13 @@
-//! The signature with a tag that one list alone has, read by itself: the other members of the two fields are skipped.
-ghost use Rattle.std.specs.Prelude.{◌≡◌, ℕ, List, Some, Ok, codes, IfOk, IfErr, IfSome};
+//! The signature with a tag that one list alone has, read by itself: the other members of the two fields are skipped, and the covered components behind the
+//! first one that has parameters are read and not kept.
+ghost use Rattle.std.specs.Prelude.{◌≡◌, ℕ, List, Some, codes, IfOk, IfErr, IfSome};
 ghost use Rattle.std.specs.Option.{option_map};
 ghost use Rattle.structured_fields.specs.declared.item.Member.{Member as MemberValue};
 ghost use Rattle.structured_fields.specs.Reading.{dictionary_of, entry_value_at};
 ghost use Rattle.dictionary_lookup.specs.Skipping.{Tells, strings_in};
 ghost use Rattle.message_signature.specs.declared.fault.SigFault.TheVariants.{NotAField};
 ghost use Rattle.message_signature.specs.Faults.{Fails, Gives, need};
-ghost use Rattle.message_signature.specs.Lone.{bytes_in, formed, lone_seen, read_tagged};
+ghost use Rattle.message_signature.specs.Lone.{IsLone, bytes_in, formed, lone_seen, read_tagged};
 ghost use Rattle.message_signature.specs.Verified.{signature_under, tagged};
 
 use crate::fault::SigFault;
@@ -18,7 +19,8 @@ use dictionary_lookup::{Matched, matching_list, single_under, strings_behind};
 use std::alloc::Global;
 use structured_fields::{Bare, FieldFault, InnerList};
 
-/// A signature of a message: the covered components with its parameters, and its bytes.
+/// A signature of a message: its parameters, its bytes, and the covered components up to the first one that has parameters. Such a one is supported nowhere,
+/// so what is answered doesn't hang on those behind it.
 #[derive(Drop)]
 pub(crate) struct LoneSignature {
     pub list: InnerList,
@@ -55,7 +57,7 @@ fn bytes_under(alloc: Global, signature: &[u8], label: &[u8]) -> Result<Option<B
     }
 }
 
-// The inner list of Strings that is the member at the front of a text behind a label.
+// The inner list of Strings that is the member at the front of a text behind a label, up to the first String that has parameters.
 fn list_behind(alloc: Global, value: &[u8]) -> Result<Option<InnerList>, Mem>
     ensures { (m : MemberValue) (rest : List ℕ) → entry_value_at value.now ≡ Some (m, rest) → IfOk result (λ o. o ≡ strings_in m) }
 {
@@ -82,7 +84,7 @@ fn lone_in(
     signature: &[u8],
     tag: &[u8],
 ) -> Result<Option<LoneSignature>, SigFault>
-    ensures ok { IfOk result (λ o. IfSome o (λ one. (label : List ℕ) × (read_tagged input.now signature.now tag.now ≡ Ok (lone_seen label one)))) }
+    ensures ok { IfOk result (λ o. IfSome o (IsLone (read_tagged input.now signature.now tag.now))) }
     ensures err { IfErr result (λ e. Fails e (read_tagged input.now signature.now tag.now)) }
 {
     let found = find_tagged(alloc, input, tag)?;
@@ -103,7 +105,7 @@ fn lone_in(
     }
 }
 
-/// The one signature with the tag, where the members of the two fields settle it without a dictionary; else None. Its label doesn't count.
+/// What is held of the one signature with the tag, where the members of the two fields settle it without a dictionary; else None.
 ///
 /// Errors: those of `signature_fields` and `tagged`. OutOfMemory may come in place of any answer.
 pub(crate) fn lone_signature(
@@ -111,7 +113,7 @@ pub(crate) fn lone_signature(
     message: &Message,
     tag: &[u8],
 ) -> Result<Option<LoneSignature>, SigFault>
-    ensures ok { IfOk result (λ o. IfSome o (λ one. (label : List ℕ) × (tagged message.now tag.now ≡ Ok (lone_seen label one)))) }
+    ensures ok { IfOk result (λ o. IfSome o (IsLone (tagged message.now tag.now))) }
     ensures err { IfErr result (λ e. Fails e (tagged message.now tag.now)) }
 {
     let input = value_of(alloc, message, b"signature-input")?;

@@ -1,7 +1,7 @@
 //! The signature of a message with a tag: read by itself where the members of the two fields settle it, and else with all of them.
 ghost use Rattle.std.specs.Prelude.{◌≡◌, ℕ, List, Ok, IfOk, IfErr};
 ghost use Rattle.message_signature.specs.Faults.{Fails};
-ghost use Rattle.message_signature.specs.Lone.{tagged_read};
+ghost use Rattle.message_signature.specs.Lone.{IsRead, tagged_read};
 ghost use Rattle.message_signature.specs.Verified.{tagged};
 
 use crate::fault::SigFault;
@@ -15,7 +15,7 @@ use structured_fields::InnerList;
 /// What was read of the two fields of a message to find the signature with a tag.
 #[derive(Drop)]
 pub(crate) enum ReadSignature {
-    /// That signature.
+    /// That signature, up to the first covered component that has parameters.
     Alone(LoneSignature),
     /// All members, among which it is.
     Among(SignatureFields),
@@ -29,7 +29,7 @@ pub(crate) fn read_signature(
     message: &Message,
     tag: &[u8],
 ) -> Result<ReadSignature, SigFault>
-    ensures ok { IfOk result (λ read. (label : List ℕ) × (tagged message.now tag.now ≡ tagged_read label tag.now read)) }
+    ensures ok { IfOk result (IsRead (tagged message.now tag.now) tag.now) }
     ensures err { IfErr result (λ e. Fails e (tagged message.now tag.now)) }
 {
     let lone = lone_signature(alloc, message, tag)?;
@@ -39,7 +39,7 @@ pub(crate) fn read_signature(
     }
 }
 
-/// The covered components of the signature with the tag, with its parameters, and its bytes.
+/// The covered components of the signature with the tag, with its parameters, and its bytes: as far as they are held.
 ///
 /// Errors: those of `tagged`.
 pub(crate) fn list_and_bytes<'a>(

@@ -65,7 +65,7 @@ put_in (Err e) seconds new keys after key nonce end Same covers noted ok err =
 
 -- ---- nonces less
 
-still : (b : Bool) (o : Option ℕ) (u : ℕ) → cond b None o ≡ Some u → o ≡ Some u
+pub still : (b : Bool) (o : Option ℕ) (u : ℕ) → cond b None o ≡ Some u → o ≡ Some u
 still true o u is = absurd cc
 still false o u is = is
 

@@ -1,3 +1,4 @@
 mod Under
 mod Places
 mod Covered
+mod Short

@@ -1,7 +1,7 @@
 -- Trees under texts: what a change at one text leaves at any other, and what it makes of the nonces.
 use Rattle.std.proofs.Common.{◌≡◌, ◌∙◌, ℕ, ◌+◌, ◌≤◌, Bool, true, false, true≢false, cond, ◌&&◌, not, nat_le, List, refl, ap, sym, arith, Result, Ok, Err, subst, ◌∷◌, OnOk, OnErr, IfSome, is_some, [], Option, Some, None, if◌then◌else◌}
 use Rattle.std.specs.Option.{option_and_then, option_map, unwrap_or}
-use Rattle.std.specs.Global.{Vec}
+use Rattle.arrayvec.specs.ArrayVec.{ArrayVec}
 use Rattle.std.specs.List.{sum_by, All}
 use Rattle.std.specs.List.Sorted.{IsStrictlySortedBy}
 use Rattle.std.proofs.lemmas.List.Elements.{All-head, All-tail, All-weaker}
@@ -22,7 +22,7 @@ use Rattle.signed_calls.specs.Remembering.{is_live_at}
 use Rattle.nonce_store.specs.Kept.{Untils, Keys, under, until_in, is_over_at, many_of, many_in, text_order, AreOrdered}
 
 pub text_total : IsTotalOrder text_order
-text_total = on_total (λ (v : Vec ℕ). v.items) nat_list_cmp_total
+text_total = on_total (λ (v : ArrayVec ℕ). v.items) nat_list_cmp_total
 
 other_entries : {K X : Type 0} (eq : K → K → Bool) (test : K → Bool) (old new : List (K × X)) → KeepsOthers eq test old new
     → (other : K → Bool) → IsKeyTest eq other → AreApart test other → lookup other new ≡ lookup other old
@@ -39,14 +39,14 @@ apart text q key other same =
     is_eq-slice_cmp q key ∙ sym (ap (bytes_eq q) is) ∙ flipped text q (bytes_eq q text) other refl
 
 -- one text takes another value
-pub under_after : {X : Type 0} (old new : BTreeMap (Vec ℕ) X) (text : List ℕ) (value : Option X)
+pub under_after : {X : Type 0} (old new : BTreeMap (ArrayVec ℕ) X) (text : List ℕ) (value : Option X)
     → UpdatesBy text_order (λ key. slice_cmp nat_cmp text key.items) old new value
     → (q : List ℕ) → under new q ≡ cond (bytes_eq text q) value (under old q)
 under_after {X} old new text value updates q = by (bytes_eq text q) refl
   where
     by : (b : Bool) → bytes_eq text q ≡ b → under new q ≡ cond b value (under old q)
     by true t = sym (ap (under new) ((bytes_eq-Decides text q).0 t)) ∙ updates.1
-    by false t = other_entries (eq_by_cmp text_order) (is_at (λ (key : Vec ℕ). slice_cmp nat_cmp text key.items)) old.entries new.entries updates.3
+    by false t = other_entries (eq_by_cmp text_order) (is_at (λ (key : ArrayVec ℕ). slice_cmp nat_cmp text key.items)) old.entries new.entries updates.3
         (λ key. is_eq (slice_cmp nat_cmp q key.items)) (λ x y. (eq_by_cmp_equiv nat_list_cmp_total).congr q x.items y.items) (λ key. apart text q key.items t)
 
 -- of one key a nonce takes another moment
@@ -70,35 +70,35 @@ until_same old new key was untils keys_are there same k n =
     ap (option_and_then (λ (u : Untils). under u n)) (keys_are k) ∙ by (bytes_eq key k) refl
   where
     by : (b : Bool) → bytes_eq key k ≡ b → option_and_then (λ (u : Untils). under u n) (cond b (Some untils) (under old k)) ≡ until_in old k n
-    by true t = ap (lookup (λ (v : Vec ℕ). is_eq (slice_cmp nat_cmp n v.items))) same
+    by true t = ap (lookup (λ (v : ArrayVec ℕ). is_eq (slice_cmp nat_cmp n v.items))) same
         ∙ sym (ap (option_and_then (λ (u : Untils). under u n)) (sym (ap (under old) ((bytes_eq-Decides key k).0 t)) ∙ there))
     by false t = refl
 
 -- ---- a sum over the values
 
-pub sum_inserted : {X : Type 0} (f : X → ℕ) (old new : BTreeMap (Vec ℕ) X) (key : Vec ℕ) (value : X) → IsOrdered text_order old
+pub sum_inserted : {X : Type 0} (f : X → ℕ) (old new : BTreeMap (ArrayVec ℕ) X) (key : ArrayVec ℕ) (value : X) → IsOrdered text_order old
     → new.entries ≡ insert_entry text_order old.entries key value → under old key.items ≡ None
     → sum_by f (values_of new.entries) ≡ sum_by f (values_of old.entries) + f value
 sum_inserted {X} f old new key value ordered is none =
     let sums = sum_by-insert_entry f text_total old.entries key value ordered in
     let new_is : sum_by f (values_of new.entries)
-    ≡ sum_by f (values_of (insert_entry text_order old.entries key value)) = ap (λ (es : List (Vec ℕ × X)). sum_by f (values_of es)) is in
+    ≡ sum_by f (values_of (insert_entry text_order old.entries key value)) = ap (λ (es : List (ArrayVec ℕ × X)). sum_by f (values_of es)) is in
     let nothing : unwrap_or (option_map f (lookup (is_at (text_order key)) old.entries)) 0 ≡ 0 = ap (λ (o : Option X). unwrap_or (option_map f o) 0) none in
     omega (arith, sums, new_is, nothing)
 
-pub sum_written : {X : Type 0} (f : X → ℕ) (old new : BTreeMap (Vec ℕ) X) (text : List ℕ) (was value : X)
-    → new.entries ≡ set_value (is_at (λ (key : Vec ℕ). slice_cmp nat_cmp text key.items)) old.entries value → under old text ≡ Some was
+pub sum_written : {X : Type 0} (f : X → ℕ) (old new : BTreeMap (ArrayVec ℕ) X) (text : List ℕ) (was value : X)
+    → new.entries ≡ set_value (is_at (λ (key : ArrayVec ℕ). slice_cmp nat_cmp text key.items)) old.entries value → under old text ≡ Some was
     → sum_by f (values_of new.entries) + f was ≡ sum_by f (values_of old.entries) + f value
 sum_written {X} f old new text was value is there =
-    ap (λ (es : List (Vec ℕ × X)). sum_by f (values_of es) + f was) is
-    ∙ sum_by-set_value f (is_at (λ (key : Vec ℕ). slice_cmp nat_cmp text key.items)) old.entries was value there
+    ap (λ (es : List (ArrayVec ℕ × X)). sum_by f (values_of es) + f was) is
+    ∙ sum_by-set_value f (is_at (λ (key : ArrayVec ℕ). slice_cmp nat_cmp text key.items)) old.entries was value there
 
-pub sum_removed : {X : Type 0} (f : X → ℕ) (old new : BTreeMap (Vec ℕ) X) (text : List ℕ)
-    → new.entries ≡ remove_entry (is_at (λ (key : Vec ℕ). slice_cmp nat_cmp text key.items)) old.entries
+pub sum_removed : {X : Type 0} (f : X → ℕ) (old new : BTreeMap (ArrayVec ℕ) X) (text : List ℕ)
+    → new.entries ≡ remove_entry (is_at (λ (key : ArrayVec ℕ). slice_cmp nat_cmp text key.items)) old.entries
     → sum_by f (values_of new.entries) + unwrap_or (option_map f (under old text)) 0 ≡ sum_by f (values_of old.entries)
 sum_removed {X} f old new text is =
-    ap (λ (es : List (Vec ℕ × X)). sum_by f (values_of es) + unwrap_or (option_map f (under old text)) 0) is
-    ∙ sum_by-remove_entry f (is_at (λ (key : Vec ℕ). slice_cmp nat_cmp text key.items)) old.entries
+    ap (λ (es : List (ArrayVec ℕ × X)). sum_by f (values_of es) + unwrap_or (option_map f (under old text)) 0) is
+    ∙ sum_by-remove_entry f (is_at (λ (key : ArrayVec ℕ). slice_cmp nat_cmp text key.items)) old.entries
 
 -- ---- the trees of keys and nonces
 
@@ -115,17 +115,16 @@ on_err_always (Ok x) P is = tt
 on_err_always (Err e) P is = is
 
 -- a key that is there takes other nonces
-pub until_set : (keys new : Keys) (key kept nonce : List ℕ) (was untils : Untils) (until : Option ℕ) → kept ≡ nonce → under keys key ≡ Some was
+pub until_set : (keys new : Keys) (key nonce : List ℕ) (was untils : Untils) (until : Option ℕ) → under keys key ≡ Some was
     → UpdatesBy text_order (λ k. slice_cmp nat_cmp key k.items) keys new (Some untils)
-    → ((n : List ℕ) → under untils n ≡ cond (bytes_eq kept n) until (under was n))
+    → ((n : List ℕ) → under untils n ≡ cond (bytes_eq nonce n) until (under was n))
     → (k n : List ℕ) → until_in new k n ≡ cond (bytes_eq key k && bytes_eq nonce n) until (until_in keys k n)
-until_set keys new key kept nonce was untils until same there updates rows =
+until_set keys new key nonce was untils until there updates rows =
     until_after keys new key nonce untils until (under_after keys new key (Some untils) updates) (λ q.
-    rows q ∙ ap (λ (x : List ℕ). cond (bytes_eq x q) until (under was q)) same
-    ∙ sym (ap (λ (o : Option Untils). cond (bytes_eq nonce q) until (option_and_then (λ (u : Untils). under u q) o)) there))
+    rows q ∙ sym (ap (λ (o : Option Untils). cond (bytes_eq nonce q) until (option_and_then (λ (u : Untils). under u q) o)) there))
 
 pub many_set : (keys new : Keys) (key : List ℕ) (was untils : Untils) (end m : ℕ) → under keys key ≡ Some was
-    → new.entries ≡ set_value (is_at (λ (k : Vec ℕ). slice_cmp nat_cmp key k.items)) keys.entries untils
+    → new.entries ≡ set_value (is_at (λ (k : ArrayVec ℕ). slice_cmp nat_cmp key k.items)) keys.entries untils
     → many_of m untils ≡ many_of m was + (if nat_le m end then 1 else 0)
     → many_in new m ≡ many_in keys m + (if nat_le m end then 1 else 0)
 many_set keys new key was untils end m there is more =
@@ -133,11 +132,11 @@ many_set keys new key was untils end m there is more =
     omega (arith, all, more)
 
 pub many_same : (keys new : Keys) (key : List ℕ) (was untils : Untils) → under keys key ≡ Some was
-    → new.entries ≡ set_value (is_at (λ (k : Vec ℕ). slice_cmp nat_cmp key k.items)) keys.entries untils
+    → new.entries ≡ set_value (is_at (λ (k : ArrayVec ℕ). slice_cmp nat_cmp key k.items)) keys.entries untils
     → untils.entries ≡ was.entries → (m : ℕ) → many_in new m ≡ many_in keys m
 many_same keys new key was untils there is same m =
     let all = sum_written (many_of m) keys new key was untils is there in
-    let equal : many_of m untils ≡ many_of m was = ap (λ (es : List (Vec ℕ × ℕ)). sum_by (λ until. if nat_le m until then 1 else 0) (values_of es)) same in
+    let equal : many_of m untils ≡ many_of m was = ap (λ (es : List (ArrayVec ℕ × ℕ)). sum_by (λ until. if nat_le m until then 1 else 0) (values_of es)) same in
     omega (arith, all, equal)
 
 abbrev one_where : Bool → ℕ
@@ -148,8 +147,8 @@ weight m None = refl
 weight m (Some until) = refl
 
 pub many_taken : (keys new : Keys) (key nonce : List ℕ) (was untils : Untils) → under keys key ≡ Some was
-    → new.entries ≡ set_value (is_at (λ (k : Vec ℕ). slice_cmp nat_cmp key k.items)) keys.entries untils
-    → untils.entries ≡ remove_entry (is_at (λ (k : Vec ℕ). slice_cmp nat_cmp nonce k.items)) was.entries
+    → new.entries ≡ set_value (is_at (λ (k : ArrayVec ℕ). slice_cmp nat_cmp key k.items)) keys.entries untils
+    → untils.entries ≡ remove_entry (is_at (λ (k : ArrayVec ℕ). slice_cmp nat_cmp nonce k.items)) was.entries
     → (m : ℕ) → many_in new m + (if is_live_at m (until_in keys key nonce) then 1 else 0) ≡ many_in keys m
 many_taken keys new key nonce was untils there is removed m =
     let all = sum_written (many_of m) keys new key was untils is there in
@@ -159,50 +158,49 @@ many_taken keys new key nonce was untils there is removed m =
     omega (arith, all, less, one)
 
 -- a key that isn't there comes with one nonce
-pub until_first : (keys new : Keys) (key kept nonce : List ℕ) (empty untils : Untils) (end : ℕ) → kept ≡ key → under keys key ≡ None → empty.entries ≡ []
-    → UpdatesBy text_order (λ k. slice_cmp nat_cmp kept k.items) keys new (Some untils)
+pub until_first : (keys new : Keys) (key nonce : List ℕ) (empty untils : Untils) (end : ℕ) → under keys key ≡ None → empty.entries ≡ []
+    → UpdatesBy text_order (λ k. slice_cmp nat_cmp key k.items) keys new (Some untils)
     → ((n : List ℕ) → under untils n ≡ cond (bytes_eq nonce n) (Some end) (under empty n))
     → (k n : List ℕ) → until_in new k n ≡ cond (bytes_eq key k && bytes_eq nonce n) (Some end) (until_in keys k n)
-until_first keys new key kept nonce empty untils end same absent none updates rows =
-    until_after keys new key nonce untils (Some end)
-    (λ q. under_after keys new kept (Some untils) updates q ∙ ap (λ (x : List ℕ). cond (bytes_eq x q) (Some untils) (under keys q)) same) (λ q.
-    rows q ∙ ap (λ (es : List (Vec ℕ × ℕ)). cond (bytes_eq nonce q) (Some end) (lookup (λ (v : Vec ℕ). is_eq (slice_cmp nat_cmp q v.items)) es)) none
+until_first keys new key nonce empty untils end absent none updates rows =
+    until_after keys new key nonce untils (Some end) (under_after keys new key (Some untils) updates) (λ q.
+    rows q ∙ ap (λ (es : List (ArrayVec ℕ × ℕ)). cond (bytes_eq nonce q) (Some end) (lookup (λ (v : ArrayVec ℕ). is_eq (slice_cmp nat_cmp q v.items)) es)) none
     ∙ sym (ap (λ (o : Option Untils). cond (bytes_eq nonce q) (Some end) (option_and_then (λ (u : Untils). under u q) o)) absent))
 
-pub many_first : (keys new : Keys) (key : List ℕ) (kept : Vec ℕ) (empty untils : Untils) (end m : ℕ) → kept.items ≡ key → under keys key ≡ None
+pub many_first : (keys new : Keys) (key : ArrayVec ℕ) (empty untils : Untils) (end m : ℕ) → under keys key.items ≡ None
     → empty.entries ≡ []
-    → IsOrdered text_order keys → new.entries ≡ insert_entry text_order keys.entries kept untils
+    → IsOrdered text_order keys → new.entries ≡ insert_entry text_order keys.entries key untils
     → many_of m untils ≡ many_of m empty + (if nat_le m end then 1 else 0)
     → many_in new m ≡ many_in keys m + (if nat_le m end then 1 else 0)
-many_first keys new key kept empty untils end m same absent none ordered is more =
-    let all = sum_inserted (many_of m) keys new kept untils ordered is (ap (under keys) same ∙ absent) in
-    let nothing : many_of m empty ≡ 0 = ap (λ (es : List (Vec ℕ × ℕ)). sum_by (λ until. one_where (nat_le m until)) (values_of es)) none in
+many_first keys new key empty untils end m absent none ordered is more =
+    let all = sum_inserted (many_of m) keys new key untils ordered is absent in
+    let nothing : many_of m empty ≡ 0 = ap (λ (es : List (ArrayVec ℕ × ℕ)). sum_by (λ until. one_where (nat_le m until)) (values_of es)) none in
     omega (arith, all, more, nothing)
 
 -- ---- the order of the keys, and of the nonces of each
 
 -- what is said of the nonces of each key
-abbrev All_ordered : List (Vec ℕ × Untils) → Type 0
+abbrev All_ordered : List (ArrayVec ℕ × Untils) → Type 0
 All_ordered es = All (λ (untils : Untils). IsOrdered text_order untils) (values_of es)
 
-pub ordered_set : (keys new : Keys) (test : Vec ℕ → Bool) (untils : Untils) → new.entries ≡ set_value test keys.entries untils
+pub ordered_set : (keys new : Keys) (test : ArrayVec ℕ → Bool) (untils : Untils) → new.entries ≡ set_value test keys.entries untils
     → IsOrdered text_order new → IsOrdered text_order untils → AreOrdered keys → AreOrdered new
 ordered_set keys new test untils is ordered of_key were =
     (ordered, subst All_ordered (sym is) (All-values-set_value test (λ (u : Untils). IsOrdered text_order u) keys.entries untils were.1 of_key))
 
-pub ordered_first : (keys new : Keys) (kept : Vec ℕ) (untils : Untils) → new.entries ≡ insert_entry text_order keys.entries kept untils
+pub ordered_first : (keys new : Keys) (kept : ArrayVec ℕ) (untils : Untils) → new.entries ≡ insert_entry text_order keys.entries kept untils
     → IsOrdered text_order new → IsOrdered text_order untils → AreOrdered keys → AreOrdered new
 ordered_first keys new kept untils is ordered of_key were =
     (ordered, subst All_ordered (sym is) (All-values-insert_entry text_order kept untils (λ (u : Untils). IsOrdered text_order u) keys.entries were.1 of_key))
 
 pub ordered_same : (keys new : Keys) → new.entries ≡ keys.entries → AreOrdered keys → AreOrdered new
-ordered_same keys new is were = subst (λ (es : List (Vec ℕ × Untils)). IsStrictlySortedBy text_order (keys_of es) × All_ordered es) (sym is) were
+ordered_same keys new is were = subst (λ (es : List (ArrayVec ℕ × Untils)). IsStrictlySortedBy text_order (keys_of es) × All_ordered es) (sym is) were
 
 -- the nonces of a key that is there
 pub ordered_at : (keys : Keys) (key : List ℕ) (untils : Untils) → under keys key ≡ Some untils → AreOrdered keys → IsOrdered text_order untils
 ordered_at keys key untils there were =
     subst (λ o. IfSome o (λ (u : Untils). IsOrdered text_order u)) there
-    (IfSome-lookup_from_All (λ (u : Untils). IsOrdered text_order u) (λ (k : Vec ℕ). is_eq (slice_cmp nat_cmp key k.items)) keys.entries were.1)
+    (IfSome-lookup_from_All (λ (u : Untils). IsOrdered text_order u) (λ (k : ArrayVec ℕ). is_eq (slice_cmp nat_cmp key k.items)) keys.entries were.1)
 
 -- ---- a nonce that goes only where it isn't remembered any more
 
@@ -211,13 +209,13 @@ pub until_over : (over : Bool) (keys new : Keys) (key nonce : List ℕ) (was unt
     → (over ≡ true → UpdatesBy text_order (λ k. slice_cmp nat_cmp nonce k.items) was untils None) → (over ≡ false → untils.entries ≡ was.entries)
     → (k n : List ℕ) → until_in new k n ≡ cond (over && (bytes_eq key k && bytes_eq nonce n)) None (until_in keys k n)
 until_over true keys new key nonce was untils there updates goes stays =
-    until_set keys new key nonce nonce was untils None refl there updates (under_after was untils nonce None (goes refl))
+    until_set keys new key nonce was untils None there updates (under_after was untils nonce None (goes refl))
 until_over false keys new key nonce was untils there updates goes stays =
     until_same keys new key was untils (under_after keys new key (Some untils) updates) there (stays refl)
 
 pub many_over : (over : Bool) (keys new : Keys) (key nonce : List ℕ) (was untils : Untils) → under keys key ≡ Some was
-    → new.entries ≡ set_value (is_at (λ (k : Vec ℕ). slice_cmp nat_cmp key k.items)) keys.entries untils
-    → (over ≡ true → untils.entries ≡ remove_entry (is_at (λ (k : Vec ℕ). slice_cmp nat_cmp nonce k.items)) was.entries)
+    → new.entries ≡ set_value (is_at (λ (k : ArrayVec ℕ). slice_cmp nat_cmp key k.items)) keys.entries untils
+    → (over ≡ true → untils.entries ≡ remove_entry (is_at (λ (k : ArrayVec ℕ). slice_cmp nat_cmp nonce k.items)) was.entries)
     → (over ≡ false → untils.entries ≡ was.entries)
     → (m : ℕ) → many_in new m + (if over && is_live_at m (until_in keys key nonce) then 1 else 0) ≡ many_in keys m
 many_over true keys new key nonce was untils there is goes stays m = many_taken keys new key nonce was untils there is (goes refl) m
@@ -282,7 +280,7 @@ same_sums {X} f g (x ∷ xs) all =
     let of_g = sum_by-cons g x xs in
     omega (arith, head, rest, of_f, of_g)
 
-each_found : {X : Type 0} (P : X → Type 0) (tree : BTreeMap (Vec ℕ) X) → IsOrdered text_order tree
+each_found : {X : Type 0} (P : X → Type 0) (tree : BTreeMap (ArrayVec ℕ) X) → IsOrdered text_order tree
     → ((text : List ℕ) (x : X) → under tree text ≡ Some x → P x) → All P (values_of tree.entries)
 each_found {X} P tree ordered found =
     All-values_from_lookup (eq_by_cmp_equiv text_total) P tree.entries (IsDistinct-from_sorted text_order (keys_of tree.entries) ordered)

@@ -1,16 +1,16 @@
 -- What the trees keep.
-use Rattle.std.specs.Prelude.{ℕ, ◌≡◌, ◌≢◌, ◌<◌, ◌≤◌, nat_le, Bool, true, false, sum_by, ◌&&◌, not, is_some, if◌then◌else◌}
+use Rattle.std.specs.Prelude.{ℕ, ◌≡◌, ◌≢◌, ◌<◌, ◌≤◌, nat_le, Bool, true, false, length, sum_by, ◌&&◌, not, is_some, if◌then◌else◌}
 use Rattle.std.specs.Option.{option_and_then, option_map_or}
 use Rattle.std.specs.List.{list_any, All}
 use Rattle.std.specs.declared.option.Option.{Option}
 use Rattle.std.specs.declared.option.Option.TheVariants.{Some}
 use mathlib.Core.Bool.{Bool-set}
 use Rattle.std.specs.Coded.{Π_prop}
-use Rattle.std.specs.Global.{Vec}
 use Rattle.std.specs.declared.cmp.Ordering.{Ordering}
 use Rattle.std.specs.Ordering.{nat_cmp}
 use Rattle.std.specs.Cmp.Lexicographic.{slice_cmp}
 use Rattle.std.specs.BTreeMap.{BTreeMap, get_by, values, btree_map_len, IsOrdered}
+use Rattle.arrayvec.specs.ArrayVec.{ArrayVec}
 use Rattle.gnap_model.specs.Common.{Text}
 use Rattle.signed_calls.specs.Remembering.{is_live_at}
 use Rattle.nonce_store.specs.Places.{is_at}
@@ -18,17 +18,17 @@ use Rattle.nonce_store.specs.declared.run.Run.{Run}
 
 -- of one key, up to which moment each nonce is remembered
 abbrev pub Untils : Type 0
-Untils = BTreeMap (Vec ℕ) ℕ
+Untils = BTreeMap (ArrayVec ℕ) ℕ
 
 abbrev pub Keys : Type 0
-Keys = BTreeMap (Vec ℕ) Untils
+Keys = BTreeMap (ArrayVec ℕ) Untils
 
 -- the value under a text
-abbrev pub under : {V : Type 0} → BTreeMap (Vec ℕ) V → Text → Option V
+abbrev pub under : {V : Type 0} → BTreeMap (ArrayVec ℕ) V → Text → Option V
 under tree text = get_by (λ key. slice_cmp nat_cmp text key.items) tree
 
 -- the order of texts
-abbrev pub text_order : Vec ℕ → Vec ℕ → Ordering
+abbrev pub text_order : ArrayVec ℕ → ArrayVec ℕ → Ordering
 text_order a b = slice_cmp nat_cmp a.items b.items
 
 -- the keys ascend, and the nonces of each key do
@@ -38,6 +38,23 @@ AreOrdered keys = IsOrdered text_order keys × All (λ untils. IsOrdered text_or
 -- up to which moment a nonce of a key is remembered
 abbrev pub until_in : Keys → Text → Text → Option ℕ
 until_in keys key nonce = option_and_then (λ untils. under untils nonce) (under keys key)
+
+-- a text of a tree has at most so many bytes
+abbrev pub longest : ℕ
+longest = 64
+
+abbrev pub is_short : Text → Bool
+is_short text = nat_le (length text) longest
+
+abbrev pub are_short : Text → Text → Bool
+are_short key nonce = is_short key && is_short nonce
+
+-- what is remembered is short
+abbrev pub AreShort : Keys → Type 0
+AreShort keys = (key nonce : Text) (until : ℕ) → until_in keys key nonce ≡ Some until → are_short key nonce ≡ true
+
+pub AreShort-prop : (keys : Keys) → IsProp (AreShort keys)
+AreShort-prop keys = Π_prop λ key. Π_prop λ nonce. Π_prop λ until. Π_prop λ is. Bool-set _ _
 
 -- how many of a key's nonces are remembered at a moment
 abbrev pub many_of : ℕ → Untils → ℕ

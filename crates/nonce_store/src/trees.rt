@@ -1,25 +1,49 @@
-//! The nonces of each key, in two levels of trees: clients choose nonces, and could choose such as collide under a hash.
-ghost use Rattle.std.specs.Prelude.{◌≡◌, ℕ, ◌+◌, ◌&&◌, List, if◌then◌else◌, OnOk, OnErr, ◌≤◌, nat_le, is_some, not, true, false, Some, None};
+//! The nonces of each key, in two levels of trees: clients choose nonces, and could choose such as collide under a hash. The texts lie in the nodes
+//! themselves: behind pointers each comparison on the way down is a cache miss, and the other workers wait meanwhile.
+ghost use Rattle.std.specs.Prelude.{◌≡◌, ℕ, ◌+◌, ◌&&◌, List, if◌then◌else◌, OnOk, OnErr, IfSome, ◌≤◌, nat_le, is_some, not, true, false, Some, None};
 ghost use Rattle.std.specs.Ordering.{nat_cmp};
 ghost use Rattle.std.specs.Cmp.Lexicographic.{slice_cmp};
 ghost use Rattle.std.specs.Map.{remove_entry};
 ghost use Rattle.std.specs.BTreeMap.{IsOrdered, UpdatesBy, is_at};
 ghost use Rattle.gnap_model.specs.Common.{same_text};
 ghost use Rattle.signed_calls.specs.Remembering.{is_live_at};
-ghost use Rattle.nonce_store.specs.Kept.{under, until_in, is_over_at, many_of, many_in, text_order, AreOrdered};
+ghost use Rattle.nonce_store.specs.Kept.{under, until_in, is_over_at, many_of, many_in, text_order, is_short, are_short, AreOrdered, AreShort, AreShort-prop};
 
+use arrayvec::ArrayVec;
 use bytes_and_lists::memory::Mem;
 use std::alloc::Global;
 use std::collections::BTreeMap;
 
+// The nonce of a mark and the id of a key have no more bytes.
+const LONGEST: usize = 64;
+
+/// A nonce, or the id of a key, as the trees keep it.
+pub type Text = ArrayVec<u8, LONGEST>;
+
 /// Of one key, up to which moment each nonce is remembered.
-pub type Untils = BTreeMap<Vec<u8>, u64>;
+pub type Untils = BTreeMap<Text, u64>;
 
 /// The nonces of each key.
-pub type Keys = BTreeMap<Vec<u8>, Untils>;
+pub type Keys = BTreeMap<Text, Untils>;
+
+// The text, where it is short enough. It takes no memory.
+fn text_of(text: &[u8]) -> Option<Text>
+    ensures short { is_some result ≡ is_short text.now }
+    ensures same { IfSome result (λ t. t.items ≡ text.now) }
+{
+    Text::try_from(text).ok()
+}
+
+// A key and a nonce, where both are short enough.
+fn texts_of(key: &[u8], nonce: &[u8]) -> Option<(Text, Text)>
+    ensures short { is_some result ≡ are_short key.now nonce.now }
+    ensures same { IfSome result (λ texts. (texts.0.items ≡ key.now) × (texts.1.items ≡ nonce.now)) }
+{
+    Some((text_of(key)?, text_of(nonce)?))
+}
 
 // Puts in a nonce that isn't there. An `Err` changes nothing.
-fn put_under(untils: &mut Untils, nonce: Vec<u8>, end: u64) -> Result<(), Mem>
+fn put_under(untils: &mut Untils, nonce: Text, end: u64) -> Result<(), Mem>
     requires { under untils.old nonce.items ≡ None }
     ensures rows { OnOk result ((n : List ℕ) → under untils.new n ≡ (if same_text nonce.items n then Some end else under untils.old n)) }
     ensures counts { OnOk result ((m : ℕ) → many_of m untils.new ≡ many_of m untils.old + (if nat_le m end then 1 else 0)) }
@@ -31,47 +55,40 @@ fn put_under(untils: &mut Untils, nonce: Vec<u8>, end: u64) -> Result<(), Mem>
 }
 
 // Puts in a key with one nonce. An `Err` changes nothing.
-fn put_first(
-    alloc: Global,
-    keys: &mut Keys,
-    key: &[u8],
-    nonce: Vec<u8>,
-    end: u64,
-) -> Result<(), Mem>
-    requires { under keys.old key.now ≡ None }
+fn put_first(alloc: Global, keys: &mut Keys, key: Text, nonce: Text, end: u64) -> Result<(), Mem>
+    requires { under keys.old key.items ≡ None }
     ensures rows { OnOk result ((k n : List ℕ) → until_in keys.new k n
-        ≡ (if same_text key.now k && same_text nonce.items n then Some end else until_in keys.old k n)) }
+        ≡ (if same_text key.items k && same_text nonce.items n then Some end else until_in keys.old k n)) }
     ensures counts { OnOk result ((m : ℕ) → many_in keys.new m ≡ many_in keys.old m + (if nat_le m end then 1 else 0)) }
     ensures err { OnErr result (keys.new.entries ≡ keys.old.entries) }
     ensures ordered { AreOrdered keys.old → AreOrdered keys.new }
 {
     let mut untils = BTreeMap::new(alloc);
     put_under(&mut untils, nonce, end)?;
-    keys.insert(Vec::from_slice(alloc, key)?, untils)?;
+    keys.insert(key, untils)?;
     Ok(())
 }
 
 // Puts in a nonce that isn't there. An `Err` changes nothing.
-fn put_in(alloc: Global, keys: &mut Keys, key: &[u8], nonce: &[u8], end: u64) -> Result<(), Mem>
-    requires { until_in keys.old key.now nonce.now ≡ None }
+fn put_in(alloc: Global, keys: &mut Keys, key: Text, nonce: Text, end: u64) -> Result<(), Mem>
+    requires { until_in keys.old key.items nonce.items ≡ None }
     ensures rows { OnOk result ((k n : List ℕ) → until_in keys.new k n
-        ≡ (if same_text key.now k && same_text nonce.now n then Some end else until_in keys.old k n)) }
+        ≡ (if same_text key.items k && same_text nonce.items n then Some end else until_in keys.old k n)) }
     ensures counts { OnOk result ((m : ℕ) → many_in keys.new m ≡ many_in keys.old m + (if nat_le m end then 1 else 0)) }
     ensures err { OnErr result (((k n : List ℕ) → until_in keys.new k n ≡ until_in keys.old k n) × ((m : ℕ) → many_in keys.new m ≡ many_in keys.old m)) }
     ensures ordered { AreOrdered keys.old → AreOrdered keys.new }
 {
-    let kept = Vec::from_slice(alloc, nonce)?;
-    match keys.get_mut(key) {
-        Some(untils) => put_under(untils, kept, end),
-        None => put_first(alloc, keys, key, kept, end),
+    match keys.get_mut(&key) {
+        Some(untils) => put_under(untils, nonce, end),
+        None => put_first(alloc, keys, key, nonce, end),
     }
 }
 
 // Takes the nonce out, and says whether it was there.
-fn take_out(keys: &mut Keys, key: &[u8], nonce: &[u8]) -> bool
-    ensures there { result ≡ is_some (until_in keys.old key.now nonce.now) }
-    ensures rows { (k n : List ℕ) → until_in keys.new k n ≡ (if same_text key.now k && same_text nonce.now n then None else until_in keys.old k n) }
-    ensures counts { (m : ℕ) → many_in keys.new m + (if is_live_at m (until_in keys.old key.now nonce.now) then 1 else 0) ≡ many_in keys.old m }
+fn take_out(keys: &mut Keys, key: &Text, nonce: &Text) -> bool
+    ensures there { result ≡ is_some (until_in keys.old key.now.items nonce.now.items) }
+    ensures rows { (k n : List ℕ) → until_in keys.new k n ≡ (if same_text key.now.items k && same_text nonce.now.items n then None else until_in keys.old k n) }
+    ensures counts { (m : ℕ) → many_in keys.new m + (if is_live_at m (until_in keys.old key.now.items nonce.now.items) then 1 else 0) ≡ many_in keys.old m }
     ensures ordered { AreOrdered keys.old → AreOrdered keys.new }
 {
     match keys.get_mut(key) {
@@ -81,10 +98,10 @@ fn take_out(keys: &mut Keys, key: &[u8], nonce: &[u8]) -> bool
 }
 
 // Takes the nonce out if it isn't remembered any more, and says whether it did.
-fn take_over_under(untils: &mut Untils, nonce: &[u8], latest: u64) -> bool
-    ensures over { result ≡ is_over_at latest (under untils.old nonce.now) }
-    ensures updates { result ≡ true → UpdatesBy text_order (λ key. slice_cmp nat_cmp nonce.now key.items) untils.old untils.new None }
-    ensures entries { result ≡ true → untils.new.entries ≡ remove_entry (is_at (λ key. slice_cmp nat_cmp nonce.now key.items)) untils.old.entries }
+fn take_over_under(untils: &mut Untils, nonce: &Text, latest: u64) -> bool
+    ensures over { result ≡ is_over_at latest (under untils.old nonce.now.items) }
+    ensures updates { result ≡ true → UpdatesBy text_order (λ key. slice_cmp nat_cmp nonce.now.items key.items) untils.old untils.new None }
+    ensures entries { result ≡ true → untils.new.entries ≡ remove_entry (is_at (λ key. slice_cmp nat_cmp nonce.now.items key.items)) untils.old.entries }
     ensures stays { result ≡ false → untils.new.entries ≡ untils.old.entries }
     ensures ordered { IsOrdered text_order untils.old → IsOrdered text_order untils.new }
 {
@@ -95,11 +112,11 @@ fn take_over_under(untils: &mut Untils, nonce: &[u8], latest: u64) -> bool
 }
 
 // The same of a key's nonce.
-fn take_out_over(keys: &mut Keys, key: &[u8], nonce: &[u8], latest: u64) -> bool
-    ensures over { result ≡ is_over_at latest (until_in keys.old key.now nonce.now) }
+fn take_out_over(keys: &mut Keys, key: &Text, nonce: &Text, latest: u64) -> bool
+    ensures over { result ≡ is_over_at latest (until_in keys.old key.now.items nonce.now.items) }
     ensures rows { (k n : List ℕ) → until_in keys.new k n
-        ≡ (if result && (same_text key.now k && same_text nonce.now n) then None else until_in keys.old k n) }
-    ensures counts { (m : ℕ) → many_in keys.new m + (if result && is_live_at m (until_in keys.old key.now nonce.now) then 1 else 0) ≡ many_in keys.old m }
+        ≡ (if result && (same_text key.now.items k && same_text nonce.now.items n) then None else until_in keys.old k n) }
+    ensures counts { (m : ℕ) → many_in keys.new m + (if result && is_live_at m (until_in keys.old key.now.items nonce.now.items) then 1 else 0) ≡ many_in keys.old m }
     ensures ordered { AreOrdered keys.old → AreOrdered keys.new }
 {
     match keys.get_mut(key) {
@@ -115,6 +132,7 @@ pub struct KeyedNonces {
     count: usize,
     ghost counted: { count ≡ many_in keys 0 },
     ghost ordered: { ∥ AreOrdered keys ∥₁ },
+    ghost short: { AreShort keys } by { AreShort-prop keys },
 }
 
 impl KeyedNonces {
@@ -133,8 +151,9 @@ impl KeyedNonces {
     pub fn until(&self, key: &[u8], nonce: &[u8]) -> Option<u64>
         ensures { result ≡ until_in self.now.keys key.now nonce.now }
     {
-        let untils = self.keys.get(key)?;
-        untils.get(nonce).copied()
+        let (key, nonce) = texts_of(key, nonce)?;
+        let untils = self.keys.get(&key)?;
+        untils.get(&nonce).copied()
     }
 
     /// How many there are, which is how many are remembered at a moment at which all are.
@@ -157,6 +176,9 @@ impl KeyedNonces {
         if self.count == usize::MAX {
             return Err(Mem);
         }
+        let Some((key, nonce)) = texts_of(key, nonce) else {
+            return Err(Mem);
+        };
         put_in(alloc, &mut self.keys, key, nonce, end)?;
         self.count += 1;
         Ok(())
@@ -169,7 +191,10 @@ impl KeyedNonces {
         ensures counts { (m : ℕ) → many_in self.new.keys m + (if is_live_at m (until_in self.old.keys key.now nonce.now) then 1 else 0)
             ≡ many_in self.old.keys m }
     {
-        if take_out(&mut self.keys, key, nonce) {
+        let Some((key, nonce)) = texts_of(key, nonce) else {
+            return;
+        };
+        if take_out(&mut self.keys, &key, &nonce) {
             self.count -= 1;
         }
     }
@@ -181,7 +206,10 @@ impl KeyedNonces {
             then None else until_in self.old.keys k n) }
         ensures counts { (m : ℕ) → latest ≤ m → many_in self.new.keys m ≡ many_in self.old.keys m }
     {
-        if take_out_over(&mut self.keys, key, nonce, latest) {
+        let Some((key, nonce)) = texts_of(key, nonce) else {
+            return;
+        };
+        if take_out_over(&mut self.keys, &key, &nonce, latest) {
             self.count -= 1;
         }
     }

@@ -167,6 +167,7 @@ impl<V: Drop> Named<V> {
         let told = note(&mut self.notes, name.as_slice(), last)?;
         match self.place_told(told, name.as_slice()) {
             Some(place) => {
+                drop(name);
                 self.entries[place].1 = value;
                 Ok(())
             }
@@ -187,6 +188,7 @@ impl<V: Drop> Named<V> {
         }
         match self.place(name.as_slice()) {
             Some(place) => {
+                drop(name);
                 self.entries[place].1 = value;
                 Ok(())
             }

@@ -9,6 +9,7 @@ use crate::case::{Case, GearCase, items_of, number, numbers, pair, text};
 use crate::fault::Fault;
 use crate::latin::bytes_of;
 use bytes_and_lists::bytes::Bytes;
+use bytes_and_lists::memory::Mem;
 use gnap_io::memory_conn::MemConn;
 use gnap_io::memory_devices::MemSource;
 use gnap_io::memory_gear::MemGear;
@@ -48,10 +49,8 @@ fn files(alloc: Global, case: &Case<'_>) -> Result<Vec<(Bytes, MemSource)>, Faul
 }
 
 // At most so many of the first bytes.
-fn beginning(bytes: Bytes, most: usize) -> Bytes {
-    let mut items = bytes.into_vec();
-    items.truncate(most);
-    Bytes::from_vec(items)
+fn beginning(alloc: Global, bytes: &[u8], most: usize) -> Result<Bytes, Mem> {
+    Bytes::from_slice(alloc, &bytes[..bytes.len().min(most)])
 }
 
 // How many bytes can be written to the connection at this place.
@@ -72,7 +71,8 @@ fn connection(
 ) -> Result<MemConn, Fault>
     ensures { IfOk result IsUnusedConn }
 {
-    let bytes = beginning(bytes_of(alloc, case, bytes)?, most);
+    let all = bytes_of(alloc, case, bytes)?;
+    let bytes = beginning(alloc, all.as_slice(), most)?;
     let bad_reads = plan(alloc, gear.bad_reads, place)?;
     let bad_writes = plan(alloc, gear.bad_writes, place)?;
     Ok(MemConn::new(alloc, bytes, room(gear, place)?, bad_reads, bad_writes)?)

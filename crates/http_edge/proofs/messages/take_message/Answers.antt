@@ -1,4 +1,5 @@
-use Rattle.http_edge.proofs.Fronts.{no_head_refused, too_long_refused, many_refused}
+use Rattle.std.proofs.Common.{sym, ◌∙◌}
+use Rattle.http_edge.proofs.Fronts.{no_head_refused, nothing_open, too_long_refused, many_refused}
 use Rattle.http_edge.proofs.messages.take_message.Goals as goal
 
 pub returns-in-ManyFields : goal.returns-in-ManyFields
@@ -12,3 +13,6 @@ returns-else-b-lt-HEAD_LIMIT c = (
   too_long_refused c.args.b.now c.window-w.result.now c.window-w.ensures.window (rw c.in-Undecided.is at c.in_ok-spans.ensures) c.if-b-lt-HEAD_LIMIT.false,
   tt,
 )
+
+pub returns-then-is_empty : goal.returns-then-is_empty
+returns-then-is_empty c = nothing_open c.args.b.now (sym c.is_empty.ensures ∙ c.if-is_empty.true)

@@ -9,7 +9,7 @@ use Rattle.introspection_cache.proofs.replies.keep.Goals as goal
 
 pub returns-in-Ok-clause-ok : goal.returns-in-Ok-clause-ok
 returns-in-Ok-clause-ok c = ap (λ (x : LruCache (Vec ℕ) KeptReply). kept_in x.entries) c.in-Ok.ensures.entries
-    ∙ put_kept c.args.replies.now.cap c.into_vec.result c.args.text c.fitted-kept.result c.args.replies.now.entries
-    (c.into_vec.ensures ∙ c.without_spare_room-text.ensures)
+    ∙ put_kept c.args.replies.now.cap c.in_ok-into_vec.field-0 c.args.text c.fitted-kept.result c.args.replies.now.entries
+    (c.in_ok-into_vec.ensures ∙ c.without_spare_room-text.ensures)
     (ap (λ (r : KeptReply). may_keep c.args.text r) c.fitted-kept.ensures ∙ sym c.may_keep.ensures ∙ c.if-may_keep.true) c.requires.new
     ∙ ap (λ (r : KeptReply). with_reply c.args.replies.now.cap c.args.text r (kept_in c.args.replies.now.entries)) c.fitted-kept.ensures

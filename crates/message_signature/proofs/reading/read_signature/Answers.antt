@@ -1,4 +1,3 @@
-use Rattle.std.proofs.Common.{[]}
 use Rattle.std.proofs.lemmas.Result.{err_from_is_err_and}
 use Rattle.message_signature.proofs.LoneSteps.{no_fields, by_fields}
 use Rattle.message_signature.proofs.reading.read_signature.Goals as goal
@@ -11,4 +10,4 @@ returns-in_err-signature_fields-in-None-clause-err c =
 
 pub returns-in_ok-signature_fields-in-None-clause-ok : goal.returns-in_ok-signature_fields-in-None-clause-ok
 returns-in_ok-signature_fields-in-None-clause-ok c =
-    let read = c.in_ok-signature_fields-in-None in ([], by_fields c.args.message.now c.args.tag.now read.field-0 read.ensures)
+    let read = c.in_ok-signature_fields-in-None in by_fields c.args.message.now c.args.tag.now read.field-0 read.ensures

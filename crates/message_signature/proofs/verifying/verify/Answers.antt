@@ -1,6 +1,6 @@
+use Rattle.std.proofs.Common.{[]}
 use Rattle.std.proofs.lemmas.Result.{err_from_is_err_and}
-use Rattle.message_signature.specs.Lone.{tagged_read}
-use Rattle.message_signature.proofs.LoneSteps.{verified_by, verified_fails}
+use Rattle.message_signature.proofs.LoneSteps.{verified_by_read, verified_fails}
 use Rattle.message_signature.proofs.verifying.verify.Goals as goal
 
 pub returns-in_err-read : goal.returns-in_err-read
@@ -10,6 +10,5 @@ returns-in_err-read c = let p = err_from_is_err_and c.from_residual.result c.fro
 
 pub returns : goal.returns
 returns c =
-    let there = rw c.as_slice.ensures.value at c.in_ok-read.ensures.ok in
-    rw (verified_by c.args.message.now c.args.base.now c.args.ring.now c.args.now c.args.tag.now (tagged_read there.0 c.args.tag.now c.in_ok-read.read) there.1)
-    (c.judged_read-id.ensures there.0)
+    let read = rw c.as_slice.ensures.value at c.in_ok-read.ensures.ok in
+    rw (verified_by_read c.args.message.now c.args.base.now c.args.ring.now c.args.now c.args.tag.now [] c.in_ok-read.read read) (c.judged_read-id.ensures [])

@@ -27,8 +27,8 @@ index_mut-requires g c =
     let within : c.in-Some.place < length items = place_within items c.as_slice-2.result.now c.in-Some.place (sym c.in-Some.ensures) in
     omega (arith, c.reserve.new.self.ok.0, within)
 
-pub invariant_of-self-in-Some-1 : goal.invariant_of-self-in-Some-1
-invariant_of-self-in-Some-1 g c =
+pub invariant_of-self-in-Some : goal.invariant_of-self-in-Some
+invariant_of-self-in-Some g c =
     let items = c.reserve.new.self.items in
     let notes = c.note.new.notes.items in
     let kept = sym c.reserve.ensures.items in

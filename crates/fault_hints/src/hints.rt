@@ -254,7 +254,7 @@ fn tell_refusal<E: Sink>(err: &mut E, command: &Command) {
 }
 
 /// Tells what happened, where a command wasn't carried out.
-pub(crate) fn explain<E: Sink>(err: &mut E, command: &Command, ended: &Ended) {
+pub fn explain<E: Sink>(err: &mut E, command: &Command, ended: &Ended) {
     let (front, back): (&[u8], &[u8]) = match ended {
         Ended::Done => return,
         Ended::NoSetup(why) => return tell_setup(err, command, why),
@@ -270,7 +270,7 @@ pub(crate) fn explain<E: Sink>(err: &mut E, command: &Command, ended: &Ended) {
 }
 
 /// Tells what is wrong with the words, where they are no command.
-pub(crate) fn explain_words<E: Sink>(err: &mut E, words: &[String], wrong: WrongWords) {
+pub fn explain_words<E: Sink>(err: &mut E, words: &[String], wrong: WrongWords) {
     match wrong {
         WrongWords::NoCommand => explain_name(err, words),
         WrongWords::Count => explain_count(err, words),
