@@ -14,9 +14,9 @@ use random_words::RandomWords;
 use std::marker::Brand;
 use std::sync::Wait;
 
-/// How often a worker looks before it sleeps, which takes some microseconds, longer than most steps of a core. It looks again at once, without the hint for
-/// such loops, which would take as long as thirty looks: its turn then begins as soon as the one before it ends.
-const LOOKS: u32 = 4000;
+/// How often a worker looks before it sleeps, which takes some twenty microseconds, longer than most steps of a core. It looks again at once, without the hint
+/// for such loops, which would take as long as thirty looks: its turn then begins as soon as the one before it ends.
+const LOOKS: u32 = 16_000;
 
 /// How many turns before its own a worker is woken, so that it looks already when its turn comes.
 const AHEAD: u64 = 1;
