@@ -1,7 +1,5 @@
 -- What is drawn, draw by draw.
-use Rattle.std.proofs.Common.{◌≡◌, ◌∙◌, ℕ, zero, suc, ◌+◌, ◌-◌, ◌*◌, ◌%◌, ◌<◌, ◌≤◌, ◌^◌, List, [], ◌∷◌, ◌++◌, take, set, length, refl, ap, sym, subst, arith, append_assoc}
-use Rattle.std.proofs.lemmas.List.{append-nil, take_all, take_more_set}
-use Rattle.rand_core.specs.Steps.{first_words}
+use Rattle.std.proofs.Common.{◌≡◌, ◌∙◌, ℕ, suc, ◌+◌, ◌*◌, List, [], ◌∷◌, ◌++◌, ap, subst, arith}
 use Rattle.rand_chacha.specs.ChaCha.{ChaCha}
 use Rattle.grant_machine.specs.Gnap.{GnapEntry}
 use Rattle.random_words.specs.Draws.{after_words}

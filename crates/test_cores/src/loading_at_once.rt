@@ -1,5 +1,5 @@
 //! Two workers of a load at once: calls of one come between those of a grant that the other puts through.
-ghost use Rattle.std.specs.Prelude.{◌≡◌, [], IfOk};
+ghost use Rattle.std.specs.Prelude.{◌≡◌, ◌≤◌, [], IfOk};
 ghost use Rattle.desk_load.specs.LoadCalls.{load_setup};
 
 use bytes_and_lists::memory::Mem;
@@ -60,7 +60,9 @@ impl<'a, C: Core<M = Gnap>> Core for CountingCore<'a, C> {
 
     ghost frugal = { C.frugal };
 
-    fn words_to_make(signed: &Signed) -> usize {
+    fn words_to_make(signed: &Signed) -> usize
+        ensures { result ≤ 48 }
+    {
         C::words_to_make(signed)
     }
 
