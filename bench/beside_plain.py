@@ -19,7 +19,8 @@ and moments. The status is 1 where two differ. This comes first where it is meas
 
 With the word `instructions` callgrind counts those of one request, from the first byte that is read to the last that is written, as
 `bench/requests_over_nonces.py` counts, and of one of the 6 calls of a grant, with 1 worker; so the system's part isn't in. Then it counts how often a request has
-malloc, calloc and realloc called. It takes valgrind.
+malloc, calloc and realloc called, and how many lines of code, of 64 bytes, it fetches anew where a cache of 32 KB has code and one worker alone runs. It takes
+valgrind.
 
 The program is PROGRAM, the proved one of crates/gnap where none is named. Where rustc or the program isn't there the status is 2.
 """
@@ -36,7 +37,7 @@ import tempfile
 import time
 
 from loads import told
-from requests_over_nonces import allocations_in, cost_of, instructions_in, under_callgrind
+from requests_over_nonces import allocations_in, code_misses_in, cost_of, instructions_in, under_callgrind
 from signed_http import BEGIN, TOP, Served, first_reply, fresh_nonce, grant_request, introspection, signed_post
 
 PLAIN = os.path.join(TOP, "bench/plain")
@@ -44,6 +45,8 @@ PROVED = os.path.join(TOP, "crates/gnap/out/gnap")
 WORKERS = 16
 # Of each connection.
 REQUESTS = 3_000
+# The first caches of many processors: bytes, ways, bytes of a line. One on which callgrind runs isn't asked.
+CACHES = ["--cache-sim=yes", "--I1=32768,8,64", "--D1=32768,8,64", "--LL=1048576,16,64"]
 GRANTS = 100_000
 CALLS = 6 * GRANTS
 ROUNDS = 9
@@ -245,9 +248,9 @@ def load_instructions(program, grants):
             return int(re.search(r"^(?:summary|totals): (\d+)", file.read(), re.M)[1])
 
 
-def request_cost(program, kind, count=instructions_in):
+def request_cost(program, kind, count=instructions_in, words=()):
     with tempfile.TemporaryDirectory() as folder:
-        served = Served(1, 1_000_000, under=under_callgrind(folder), program=program, stderr=subprocess.DEVNULL)
+        served = Served(1, 1_000_000, under=[*under_callgrind(folder), *words], program=program, stderr=subprocess.DEVNULL)
         try:
             token = token_of(served, grant_request())
             return cost_of(folder, served, grant_request if kind == "grants" else lambda: introspection(token), count)
@@ -269,6 +272,9 @@ def count_all(programs):
     print("\n| allocations of | `gnap` | plain | ratio |\n|---|---|---|---|")
     count("a signed introspection", programs, lambda program: request_cost(program, "introspections", allocations_in))
     count("a signed grant request", programs, lambda program: request_cost(program, "grants", allocations_in))
+    print("\n| lines of code fetched anew by | `gnap` | plain | ratio |\n|---|---|---|---|")
+    count("a signed introspection", programs, lambda program: request_cost(program, "introspections", code_misses_in, CACHES))
+    count("a signed grant request", programs, lambda program: request_cost(program, "grants", code_misses_in, CACHES))
 
 
 def main():

@@ -82,6 +82,13 @@ def allocations_in(dump):
     return sum(int(times) for name, times in calls if names[name] in ("malloc", "calloc", "realloc"))
 
 
+def code_misses_in(dump):
+    """How many lines of code a dump has fetched that weren't in the first cache."""
+    names = re.search(r"^events: (.+)$", dump, re.M)[1].split()
+    counts = re.search(r"^(?:summary|totals): (.+)$", dump, re.M)[1].split()
+    return int(counts[names.index("I1mr")])
+
+
 def counted(folder, process, number, count=instructions_in):
     """What is counted since the last dump."""
     subprocess.run(["callgrind_control", "-d", str(process)], check=True, capture_output=True)

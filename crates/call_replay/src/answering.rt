@@ -14,6 +14,7 @@ use gnap_model::objects::Setup;
 use grant_machine::Gnap;
 use histories::machine::Desk;
 use outside::device::Sink;
+use random_words::RandomWords;
 use std::alloc::Global;
 
 /// Answers the line of this number, of which at most one byte more than a call line may have is looked at.
@@ -38,7 +39,11 @@ pub fn answer_line<D: Desk<M = Gnap>, O: Sink>(
     match line_step(alloc, setup, number, line.as_slice()) {
         Err(Mem) => After::Starved,
         Ok(LineStep::Say(text)) => say(out, &text),
-        Ok(LineStep::Ask(moment, draw, signed)) => match desk.submit(moment, &draw, signed) {
+        Ok(LineStep::Ask(moment, draw, signed)) => match desk.submit(
+            moment,
+            &RandomWords::given(draw),
+            signed,
+        ) {
             Err(Mem) => After::Starved,
             Ok(reply) => {
                 let text = reply_line(alloc, setup, &reply);

@@ -14,7 +14,7 @@ use Rattle.desk_load.specs.declared.progress.Progress.{Progress}
 use Rattle.desk_load.specs.declared.tally.Tally.{Tally}
 use Rattle.desk_load.specs.LoadCalls.{load_moment, marked, opening_place, rotation_place, opening_call, rotation_of, calls_rotated, calls_opened, calls_through}
 use Rattle.desk_load.specs.Tallies.{count_by, one_if_active, one_if_inactive, one_if_done, tally_of, tally_of_reply, none_counted, Adds}
-use Rattle.desk_load.specs.Words.{Drawn, draw_from, after_words}
+use Rattle.random_words.specs.Draws.{draw_from, after_words}
 use Rattle.desk_load.specs.Loads.{HasRoom, Grows, Asks, AsksAbout, PutsThrough, AreMade, IsOpenedThrough, IsPutThrough, IsPart, IsShare, IsDrawnShare, DoesShare, begun}
 use Rattle.desk_load.proofs.Drawing.{drawn-append, have_draws}
 

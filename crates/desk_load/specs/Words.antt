@@ -1,24 +1,11 @@
 -- The random words of a load: those of ChaCha20 under one seed, in a stream for each worker. What is said of a generator is its key, its stream and the
 -- place of its next word of 32 bits; `word_at` of `rand_chacha` has the word at each place.
-use Rattle.std.proofs.Common.{suc, zero}
+use Rattle.std.proofs.Common.{suc}
 use Rattle.std.specs.Prelude.{◌≡◌, ℕ, ◌*◌, ◌%◌, ◌^◌, List, [], ◌∷◌, ◌++◌, replicate}
 use Rattle.std.specs.Int.{w64, to_le_bytes}
-use Rattle.rand_core.specs.Steps.{u64_via_u32, first_words}
-use Rattle.rand_chacha.specs.ChaCha.{ChaCha, next_word, key_of}
+use Rattle.rand_chacha.specs.ChaCha.{ChaCha, key_of}
+use Rattle.random_words.specs.Draws.{draw_from, after_words}
 use Rattle.grant_machine.specs.Gnap.{GnapEntry}
-
--- a word of 64 bits, which is the next two words of ChaCha20, the low half first; and the generator behind it
-abbrev pub next_of : ChaCha → ℕ × ChaCha
-next_of g = u64_via_u32 (next_word 10) g
-
--- the next draw: 48 words of 64 bits
-abbrev pub draw_from : ChaCha → List ℕ
-draw_from g = first_words next_of 48 g
-
--- the generator behind so many words of 64 bits
-unfoldable pub after_words : ℕ → ChaCha → ChaCha
-after_words zero g = g
-after_words (suc n) g = after_words n (next_of g).1
 
 -- the seed: START in 8 bytes, the low one first, and 24 zeros
 abbrev pub seed_under : ℕ → List ℕ

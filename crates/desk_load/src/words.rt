@@ -1,10 +1,9 @@
 //! Random words of a worker.
 ghost use Rattle.std.specs.Prelude.{◌≡◌};
-ghost use Rattle.desk_load.specs.Words.{draw_from, after_words, seed_under, generator_at};
+ghost use Rattle.random_words.specs.Draws.{draw_from, after_words};
+ghost use Rattle.desk_load.specs.Words.{seed_under, generator_at};
 
-use rand_chacha::ChaCha20Rng;
-use rand_core::SeedableRng;
-use rand_core::utils::next_u64_via_u32;
+use random_words::{RandomWords, WordStream};
 
 // The number in 8 bytes, the low one first, and zeros behind it.
 fn seed_under(start: u64) -> [u8; 32]
@@ -18,7 +17,7 @@ fn seed_under(start: u64) -> [u8; 32]
 /// Words of ChaCha20 under a seed that begins with a number, in a stream for each worker.
 #[derive(Drop)]
 pub struct Words {
-    generator: ChaCha20Rng,
+    generator: WordStream,
 }
 
 impl Words {
@@ -26,20 +25,16 @@ impl Words {
     pub fn new(start: u64, worker: u64) -> Words
         ensures { result.generator ≡ generator_at start worker 0 }
     {
-        let mut generator = ChaCha20Rng::from_seed(seed_under(start));
-        generator.set_stream(worker);
-        Words { generator }
+        Words {
+            generator: WordStream::new(seed_under(start), worker),
+        }
     }
 
     /// The next 48 words of 64 bits, each of two words of ChaCha20, the low half first.
-    pub fn draw(&mut self) -> [u64; 48]
+    pub fn draw(&mut self) -> RandomWords
         ensures draw { result ≡ draw_from self.old.generator }
         ensures next { self.new.generator ≡ after_words 48 self.old.generator }
     {
-        let mut draw = [0; 48];
-        for i in 0..48 {
-            draw[i] = next_u64_via_u32(&mut self.generator);
-        }
-        draw
+        self.generator.draw()
     }
 }

@@ -12,6 +12,7 @@ use gnap_model::notes::{Note, OpeningNote};
 use gnap_model::objects::ErrorCode;
 use grant_rules::drawing::Supply;
 use grant_rules::limits::WAIT;
+use random_words::RandomWords;
 use std::alloc::Global;
 
 /// What an entry draws on: the notes so far, the greatest moment, and its random words.
@@ -22,7 +23,7 @@ pub struct Drawing<'a> {
     /// The greatest moment so far.
     pub moment: u64,
     /// The words of the entry.
-    pub words: &'a [u64; 48],
+    pub words: &'a RandomWords,
     pub ghost in_time: { moment ≤ last_moment },
 }
 

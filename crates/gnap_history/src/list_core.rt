@@ -14,6 +14,7 @@ use grant_machine::Gnap;
 use histories::lone::Lone;
 use histories::machine::{Core, Desk};
 use nonce_store::NonceStore;
+use random_words::RandomWords;
 use remembering_core::Remembering;
 use signed_calls::signed::Signed;
 use std::alloc::Global;
@@ -56,7 +57,11 @@ impl Core for ListCore {
 
     ghost frugal = { ⟦<Remembering<NoteCore, NonceStore> as Core>⟧.frugal };
 
-    fn step(&mut self, moment: u64, draw: &[u64; 48], signed: &Signed) -> Result<Reply, Mem> {
+    fn words_to_make(signed: &Signed) -> usize {
+        NoteCore::words_to_make(&signed.call)
+    }
+
+    fn step(&mut self, moment: u64, draw: &RandomWords, signed: &Signed) -> Result<Reply, Mem> {
         self.core.step(moment, draw, signed)
     }
 

@@ -20,6 +20,7 @@ use gnap_model::calls::{Call, Reply};
 use gnap_model::objects::Setup;
 use grant_machine::{Grants, Passes};
 use histories::machine::Core;
+use random_words::RandomWords;
 use std::alloc::Global;
 
 /// Keeps the notes of the history in a list, and its greatest moment. No answer needs more of a history.
@@ -100,7 +101,7 @@ fn enter_call(
     rules: &Setup,
     notes: &mut NoteList,
     now: u64,
-    draw: &[u64; 48],
+    draw: &RandomWords,
     call: &Call,
 ) -> Result<Reply, Mem>
     requires fits { GnapFits call.now }
@@ -129,7 +130,11 @@ impl Core for NoteCore {
 
     ghost frugal = { λ _. ⊥ };
 
-    fn step(&mut self, moment: u64, draw: &[u64; 48], call: &Call) -> Result<Reply, Mem> {
+    fn words_to_make(_call: &Call) -> usize {
+        48
+    }
+
+    fn step(&mut self, moment: u64, draw: &RandomWords, call: &Call) -> Result<Reply, Mem> {
         self.latest = self.latest.max(moment);
         enter_call(
             self.alloc,

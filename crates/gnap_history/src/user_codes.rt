@@ -34,5 +34,5 @@ pub fn user_code(alloc: Global, drawing: &Drawing) -> Result<[u8; 8], Mem>
     ensures { IfOk result (λ code. code ≡ code_for (supply drawing.now)) }
 {
     let taken = live_codes(alloc, drawing.notes.as_slice(), drawing.moment)?;
-    Ok(free_code(drawing.words[47], taken.as_slice()))
+    Ok(free_code(drawing.words.word(47), taken.as_slice()))
 }

@@ -11,6 +11,7 @@ use bytes_and_lists::memory::Mem;
 use http_server::Log;
 use outside::device::{Device, Failed};
 use outside::gear::{Clock, Counted, Door, Draws, Gear};
+use random_words::RandomWords;
 use std::marker::Model;
 
 /// Connections that wait to be accepted, moments and draws. Where a list is at its end, the last moment and a draw of zeros go on. The room
@@ -159,7 +160,7 @@ impl Clock for MemGear {
 }
 
 impl Draws for MemGear {
-    fn draw(&mut self) -> [u64; 48]
+    fn draw(&mut self) -> RandomWords
         ensures state { ⟦<MemGear as Counted>⟧.state self.new ≡ with_draw result (⟦<MemGear as Counted>⟧.state self.old) }
         ensures draw { result ≡ next_draw self.old }
         ensures exact { self.new ≡ gear_drawn self.old }
@@ -170,7 +171,7 @@ impl Draws for MemGear {
             self.at_draw += 1;
         }
         self.drawn = self.drawn.and(&words, &());
-        words
+        RandomWords::given(words)
     }
 }
 

@@ -25,8 +25,8 @@ impl<'a> Supply<'a> {
     {
         value_text(
             self.first + index as u64,
-            self.words[2 * index],
-            self.words[2 * index + 1],
+            self.words.word(2 * index),
+            self.words.word(2 * index + 1),
         )
     }
 

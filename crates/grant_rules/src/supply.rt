@@ -2,6 +2,8 @@
 ghost use Rattle.std.specs.Prelude.{◌≤◌, ◌<◌, ◌^◌};
 ghost use Rattle.bytes_and_lists.specs.Moments.{last_moment};
 
+use random_words::RandomWords;
+
 /// What an entry draws on.
 #[derive(Clone, Copy)]
 pub struct Supply<'a> {
@@ -10,7 +12,7 @@ pub struct Supply<'a> {
     /// The serial of the first value that the entry draws.
     pub first: u64,
     /// The words of the entry.
-    pub words: &'a [u64; 48],
+    pub words: &'a RandomWords,
     pub ghost in_time: { moment ≤ last_moment },
     pub ghost room: { first < 2 ^ 63 },
 }

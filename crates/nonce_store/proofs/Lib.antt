@@ -2,3 +2,4 @@ mod Under
 mod Places
 mod Covered
 mod Short
+mod Heads

@@ -1,5 +1,5 @@
 -- What the trees keep.
-use Rattle.std.specs.Prelude.{ℕ, ◌≡◌, ◌≢◌, ◌<◌, ◌≤◌, nat_le, Bool, true, false, length, sum_by, ◌&&◌, not, is_some, if◌then◌else◌}
+use Rattle.std.specs.Prelude.{ℕ, ◌≡◌, ◌≢◌, ◌<◌, ◌≤◌, nat_le, Bool, true, false, sum_by, ◌&&◌, not, is_some, if◌then◌else◌}
 use Rattle.std.specs.Option.{option_and_then, option_map_or}
 use Rattle.std.specs.List.{list_any, All}
 use Rattle.std.specs.declared.option.Option.{Option}
@@ -7,29 +7,34 @@ use Rattle.std.specs.declared.option.Option.TheVariants.{Some}
 use mathlib.Core.Bool.{Bool-set}
 use Rattle.std.specs.Coded.{Π_prop}
 use Rattle.std.specs.declared.cmp.Ordering.{Ordering}
-use Rattle.std.specs.Ordering.{nat_cmp}
+use Rattle.std.specs.Ordering.{ordering_then, nat_cmp}
 use Rattle.std.specs.Cmp.Lexicographic.{slice_cmp}
 use Rattle.std.specs.BTreeMap.{BTreeMap, get_by, values, btree_map_len, IsOrdered}
-use Rattle.arrayvec.specs.ArrayVec.{ArrayVec}
 use Rattle.gnap_model.specs.Common.{Text}
 use Rattle.signed_calls.specs.Remembering.{is_live_at}
+use Rattle.nonce_store.specs.Texts.{head_of, is_short}
 use Rattle.nonce_store.specs.Places.{is_at}
 use Rattle.nonce_store.specs.declared.run.Run.{Run}
+use Rattle.nonce_store.specs.declared.texts.Text.{Text as KeptText}
 
 -- of one key, up to which moment each nonce is remembered
 abbrev pub Untils : Type 0
-Untils = BTreeMap (ArrayVec ℕ) ℕ
+Untils = BTreeMap KeptText ℕ
 
 abbrev pub Keys : Type 0
-Keys = BTreeMap (ArrayVec ℕ) Untils
+Keys = BTreeMap KeptText Untils
+
+-- how a text compares to a kept one
+abbrev pub text_cmp : Text → KeptText → Ordering
+text_cmp text kept = ordering_then (nat_cmp (head_of text) kept.head) (slice_cmp nat_cmp text kept.bytes.items)
 
 -- the value under a text
-abbrev pub under : {V : Type 0} → BTreeMap (ArrayVec ℕ) V → Text → Option V
-under tree text = get_by (λ key. slice_cmp nat_cmp text key.items) tree
+abbrev pub under : {V : Type 0} → BTreeMap KeptText V → Text → Option V
+under tree text = get_by (text_cmp text) tree
 
 -- the order of texts
-abbrev pub text_order : ArrayVec ℕ → ArrayVec ℕ → Ordering
-text_order a b = slice_cmp nat_cmp a.items b.items
+abbrev pub text_order : KeptText → KeptText → Ordering
+text_order a b = ordering_then (nat_cmp a.head b.head) (slice_cmp nat_cmp a.bytes.items b.bytes.items)
 
 -- the keys ascend, and the nonces of each key do
 abbrev pub AreOrdered : Keys → Type 0
@@ -39,13 +44,7 @@ AreOrdered keys = IsOrdered text_order keys × All (λ untils. IsOrdered text_or
 abbrev pub until_in : Keys → Text → Text → Option ℕ
 until_in keys key nonce = option_and_then (λ untils. under untils nonce) (under keys key)
 
--- a text of a tree has at most so many bytes
-abbrev pub longest : ℕ
-longest = 64
-
-abbrev pub is_short : Text → Bool
-is_short text = nat_le (length text) longest
-
+-- both are short enough for the trees
 abbrev pub are_short : Text → Text → Bool
 are_short key nonce = is_short key && is_short nonce
 

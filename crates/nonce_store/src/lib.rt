@@ -8,6 +8,7 @@ mod run;
 mod seconds;
 pub mod store;
 mod sweeping;
+mod texts;
 mod trees;
 
 pub use store::NonceStore;

@@ -1,24 +1,17 @@
 //! The nonces of each key, in two levels of trees: clients choose nonces, and could choose such as collide under a hash. The texts lie in the nodes
-//! themselves: behind pointers each comparison on the way down is a cache miss, and the other workers wait meanwhile.
+//! themselves: behind pointers each comparison on the way down is a cache miss, and the other workers wait meanwhile. For the same reason each text has its
+//! first bytes before it as a number: most comparisons are of two numbers then, and few go through the bytes.
 ghost use Rattle.std.specs.Prelude.{◌≡◌, ℕ, ◌+◌, ◌&&◌, List, if◌then◌else◌, OnOk, OnErr, IfSome, ◌≤◌, nat_le, is_some, not, true, false, Some, None};
-ghost use Rattle.std.specs.Ordering.{nat_cmp};
-ghost use Rattle.std.specs.Cmp.Lexicographic.{slice_cmp};
 ghost use Rattle.std.specs.Map.{remove_entry};
 ghost use Rattle.std.specs.BTreeMap.{IsOrdered, UpdatesBy, is_at};
 ghost use Rattle.gnap_model.specs.Common.{same_text};
 ghost use Rattle.signed_calls.specs.Remembering.{is_live_at};
-ghost use Rattle.nonce_store.specs.Kept.{under, until_in, is_over_at, many_of, many_in, text_order, is_short, are_short, AreOrdered, AreShort, AreShort-prop};
+ghost use Rattle.nonce_store.specs.Kept.{under, until_in, is_over_at, many_of, many_in, text_order, are_short, AreOrdered, AreShort, AreShort-prop};
 
-use arrayvec::ArrayVec;
+use crate::texts::{Text, text_of};
 use bytes_and_lists::memory::Mem;
 use std::alloc::Global;
 use std::collections::BTreeMap;
-
-// The nonce of a mark and the id of a key have no more bytes.
-const LONGEST: usize = 64;
-
-/// A nonce, or the id of a key, as the trees keep it.
-pub type Text = ArrayVec<u8, LONGEST>;
 
 /// Of one key, up to which moment each nonce is remembered.
 pub type Untils = BTreeMap<Text, u64>;
@@ -26,26 +19,18 @@ pub type Untils = BTreeMap<Text, u64>;
 /// The nonces of each key.
 pub type Keys = BTreeMap<Text, Untils>;
 
-// The text, where it is short enough. It takes no memory.
-fn text_of(text: &[u8]) -> Option<Text>
-    ensures short { is_some result ≡ is_short text.now }
-    ensures same { IfSome result (λ t. t.items ≡ text.now) }
-{
-    Text::try_from(text).ok()
-}
-
 // A key and a nonce, where both are short enough.
 fn texts_of(key: &[u8], nonce: &[u8]) -> Option<(Text, Text)>
     ensures short { is_some result ≡ are_short key.now nonce.now }
-    ensures same { IfSome result (λ texts. (texts.0.items ≡ key.now) × (texts.1.items ≡ nonce.now)) }
+    ensures same { IfSome result (λ texts. (texts.0.bytes.items ≡ key.now) × (texts.1.bytes.items ≡ nonce.now)) }
 {
     Some((text_of(key)?, text_of(nonce)?))
 }
 
 // Puts in a nonce that isn't there. An `Err` changes nothing.
 fn put_under(untils: &mut Untils, nonce: Text, end: u64) -> Result<(), Mem>
-    requires { under untils.old nonce.items ≡ None }
-    ensures rows { OnOk result ((n : List ℕ) → under untils.new n ≡ (if same_text nonce.items n then Some end else under untils.old n)) }
+    requires { under untils.old nonce.bytes.items ≡ None }
+    ensures rows { OnOk result ((n : List ℕ) → under untils.new n ≡ (if same_text nonce.bytes.items n then Some end else under untils.old n)) }
     ensures counts { OnOk result ((m : ℕ) → many_of m untils.new ≡ many_of m untils.old + (if nat_le m end then 1 else 0)) }
     ensures err { OnErr result (untils.new.entries ≡ untils.old.entries) }
     ensures ordered { IsOrdered text_order untils.new }
@@ -56,9 +41,9 @@ fn put_under(untils: &mut Untils, nonce: Text, end: u64) -> Result<(), Mem>
 
 // Puts in a key with one nonce. An `Err` changes nothing.
 fn put_first(alloc: Global, keys: &mut Keys, key: Text, nonce: Text, end: u64) -> Result<(), Mem>
-    requires { under keys.old key.items ≡ None }
+    requires { under keys.old key.bytes.items ≡ None }
     ensures rows { OnOk result ((k n : List ℕ) → until_in keys.new k n
-        ≡ (if same_text key.items k && same_text nonce.items n then Some end else until_in keys.old k n)) }
+        ≡ (if same_text key.bytes.items k && same_text nonce.bytes.items n then Some end else until_in keys.old k n)) }
     ensures counts { OnOk result ((m : ℕ) → many_in keys.new m ≡ many_in keys.old m + (if nat_le m end then 1 else 0)) }
     ensures err { OnErr result (keys.new.entries ≡ keys.old.entries) }
     ensures ordered { AreOrdered keys.old → AreOrdered keys.new }
@@ -71,9 +56,9 @@ fn put_first(alloc: Global, keys: &mut Keys, key: Text, nonce: Text, end: u64) -
 
 // Puts in a nonce that isn't there. An `Err` changes nothing.
 fn put_in(alloc: Global, keys: &mut Keys, key: Text, nonce: Text, end: u64) -> Result<(), Mem>
-    requires { until_in keys.old key.items nonce.items ≡ None }
+    requires { until_in keys.old key.bytes.items nonce.bytes.items ≡ None }
     ensures rows { OnOk result ((k n : List ℕ) → until_in keys.new k n
-        ≡ (if same_text key.items k && same_text nonce.items n then Some end else until_in keys.old k n)) }
+        ≡ (if same_text key.bytes.items k && same_text nonce.bytes.items n then Some end else until_in keys.old k n)) }
     ensures counts { OnOk result ((m : ℕ) → many_in keys.new m ≡ many_in keys.old m + (if nat_le m end then 1 else 0)) }
     ensures err { OnErr result (((k n : List ℕ) → until_in keys.new k n ≡ until_in keys.old k n) × ((m : ℕ) → many_in keys.new m ≡ many_in keys.old m)) }
     ensures ordered { AreOrdered keys.old → AreOrdered keys.new }
@@ -86,9 +71,11 @@ fn put_in(alloc: Global, keys: &mut Keys, key: Text, nonce: Text, end: u64) -> R
 
 // Takes the nonce out, and says whether it was there.
 fn take_out(keys: &mut Keys, key: &Text, nonce: &Text) -> bool
-    ensures there { result ≡ is_some (until_in keys.old key.now.items nonce.now.items) }
-    ensures rows { (k n : List ℕ) → until_in keys.new k n ≡ (if same_text key.now.items k && same_text nonce.now.items n then None else until_in keys.old k n) }
-    ensures counts { (m : ℕ) → many_in keys.new m + (if is_live_at m (until_in keys.old key.now.items nonce.now.items) then 1 else 0) ≡ many_in keys.old m }
+    ensures there { result ≡ is_some (until_in keys.old key.now.bytes.items nonce.now.bytes.items) }
+    ensures rows { (k n : List ℕ) → until_in keys.new k n
+        ≡ (if same_text key.now.bytes.items k && same_text nonce.now.bytes.items n then None else until_in keys.old k n) }
+    ensures counts { (m : ℕ) → many_in keys.new m + (if is_live_at m (until_in keys.old key.now.bytes.items nonce.now.bytes.items) then 1 else 0)
+        ≡ many_in keys.old m }
     ensures ordered { AreOrdered keys.old → AreOrdered keys.new }
 {
     match keys.get_mut(key) {
@@ -99,9 +86,9 @@ fn take_out(keys: &mut Keys, key: &Text, nonce: &Text) -> bool
 
 // Takes the nonce out if it isn't remembered any more, and says whether it did.
 fn take_over_under(untils: &mut Untils, nonce: &Text, latest: u64) -> bool
-    ensures over { result ≡ is_over_at latest (under untils.old nonce.now.items) }
-    ensures updates { result ≡ true → UpdatesBy text_order (λ key. slice_cmp nat_cmp nonce.now.items key.items) untils.old untils.new None }
-    ensures entries { result ≡ true → untils.new.entries ≡ remove_entry (is_at (λ key. slice_cmp nat_cmp nonce.now.items key.items)) untils.old.entries }
+    ensures over { result ≡ is_over_at latest (under untils.old nonce.now.bytes.items) }
+    ensures updates { result ≡ true → UpdatesBy text_order (text_order nonce.now) untils.old untils.new None }
+    ensures entries { result ≡ true → untils.new.entries ≡ remove_entry (is_at (text_order nonce.now)) untils.old.entries }
     ensures stays { result ≡ false → untils.new.entries ≡ untils.old.entries }
     ensures ordered { IsOrdered text_order untils.old → IsOrdered text_order untils.new }
 {
@@ -113,10 +100,11 @@ fn take_over_under(untils: &mut Untils, nonce: &Text, latest: u64) -> bool
 
 // The same of a key's nonce.
 fn take_out_over(keys: &mut Keys, key: &Text, nonce: &Text, latest: u64) -> bool
-    ensures over { result ≡ is_over_at latest (until_in keys.old key.now.items nonce.now.items) }
+    ensures over { result ≡ is_over_at latest (until_in keys.old key.now.bytes.items nonce.now.bytes.items) }
     ensures rows { (k n : List ℕ) → until_in keys.new k n
-        ≡ (if result && (same_text key.now.items k && same_text nonce.now.items n) then None else until_in keys.old k n) }
-    ensures counts { (m : ℕ) → many_in keys.new m + (if result && is_live_at m (until_in keys.old key.now.items nonce.now.items) then 1 else 0) ≡ many_in keys.old m }
+        ≡ (if result && (same_text key.now.bytes.items k && same_text nonce.now.bytes.items n) then None else until_in keys.old k n) }
+    ensures counts { (m : ℕ) → many_in keys.new m
+        + (if result && is_live_at m (until_in keys.old key.now.bytes.items nonce.now.bytes.items) then 1 else 0) ≡ many_in keys.old m }
     ensures ordered { AreOrdered keys.old → AreOrdered keys.new }
 {
     match keys.get_mut(key) {

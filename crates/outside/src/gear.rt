@@ -5,6 +5,7 @@ ghost use Rattle.bytes_and_lists.specs.Moments.{last_moment};
 ghost use Rattle.outside.specs.Gears.{GearState, Accepts, with_served, with_moment, with_draw};
 
 use crate::device::{Failed, Sink, Source};
+use random_words::RandomWords;
 
 /// What contracts see of a gear.
 pub trait Counted: Drop {
@@ -43,7 +44,7 @@ pub trait Clock: Counted {
 /// Gives random words.
 pub trait Draws: Counted {
     /// The next 48 words.
-    fn draw(&mut self) -> [u64; 48]
+    fn draw(&mut self) -> RandomWords
         ensures { Self.state self.new ≡ with_draw result (Self.state self.old) };
 }
 

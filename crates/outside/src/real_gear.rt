@@ -10,9 +10,7 @@ use crate::gear::{Clock, Counted, Door, Draws, Gear};
 use crate::shared_listener::SharedListener;
 use crate::timed_socket::TimedSocket;
 use http_server::Log;
-use rand_chacha::ChaCha20Rng;
-use rand_core::SeedableRng;
-use rand_core::utils::NextWord;
+use random_words::{RandomWords, WordStream};
 use std::alloc::Global;
 use std::rt;
 use std::sync::Arc;
@@ -33,8 +31,8 @@ pub struct RealGear<'a, R: rt::Clock> {
     served: Log<Stream<TimedSocket<'a, R>>, ()>,
     moment: u64,
     moments: Log<u64, ()>,
-    words: ChaCha20Rng,
-    draws: Log<[u64; 48], ()>,
+    words: WordStream,
+    draws: Log<RandomWords, ()>,
     ghost fits: { out + left < 2 ^ 32 },
     ghost bound: { moment ≤ last_moment },
     ghost later: { All (λ given. given ≤ moment) (map (λ pair. pair.0) moments.items) },
@@ -51,8 +49,6 @@ impl<'a, R: rt::Clock> RealGear<'a, R> {
     ) -> RealGear<'a, R>
         ensures { ⟦<RealGear<'a, R> as Counted>⟧.state result ≡ new_gear quota }
     {
-        let mut words = ChaCha20Rng::from_seed(seed);
-        words.set_stream(number);
         RealGear {
             rt,
             listener,
@@ -63,7 +59,7 @@ impl<'a, R: rt::Clock> RealGear<'a, R> {
             served: Log::new(),
             moment: 0,
             moments: Log::new(),
-            words,
+            words: WordStream::new(seed, number),
             draws: Log::new(),
         }
     }
@@ -157,20 +153,9 @@ impl<'a, R: rt::Clock> Clock for RealGear<'a, R> {
     }
 }
 
-// The next words, each of two words of ChaCha20, the low half first.
-fn next_words(words: &mut ChaCha20Rng) -> [u64; 48] {
-    let mut draw = [0; 48];
-    for word in &mut draw {
-        let low = words.next_word();
-        let high = words.next_word();
-        *word = (u64::from(high) << 32) + u64::from(low);
-    }
-    draw
-}
-
 impl<'a, R: rt::Clock> Draws for RealGear<'a, R> {
-    fn draw(&mut self) -> [u64; 48] {
-        let draw = next_words(&mut self.words);
+    fn draw(&mut self) -> RandomWords {
+        let draw = self.words.draw();
         self.draws = self.draws.and(&draw, &());
         draw
     }

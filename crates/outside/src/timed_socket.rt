@@ -109,13 +109,13 @@ fn is_passing(error: &io::Error) -> bool {
 
 impl<'a, R: Clock> Read for TimedSocket<'a, R> {
     fn read(&mut self, buf: &mut [u8]) -> io::Result<usize> {
+        // A phase that begins here isn't late yet, so the clock isn't asked again.
         if self.phase == Phase::Reply {
             self.enter(Phase::Idle);
+        } else if self.is_late() {
+            return Err(io::Error::from(ErrorKind::TimedOut));
         }
         for _ in 0..MOST_CALLS {
-            if self.is_late() {
-                break;
-            }
             match self.stream.read(buf) {
                 Ok(count) => {
                     if self.phase != Phase::Message {
@@ -126,6 +126,9 @@ impl<'a, R: Clock> Read for TimedSocket<'a, R> {
                 Err(error) if is_passing(&error) => {}
                 Err(error) => return Err(error),
             }
+            if self.is_late() {
+                break;
+            }
         }
         Err(io::Error::from(ErrorKind::TimedOut))
     }
@@ -135,14 +138,16 @@ impl<'a, R: Clock> Write for TimedSocket<'a, R> {
     fn write(&mut self, piece: &[u8]) -> io::Result<usize> {
         if self.phase != Phase::Reply {
             self.enter(Phase::Reply);
+        } else if self.is_late() {
+            return Err(io::Error::from(ErrorKind::TimedOut));
         }
         for _ in 0..MOST_CALLS {
-            if self.is_late() {
-                break;
-            }
             match self.stream.write(piece) {
                 Err(error) if is_passing(&error) => {}
                 ended => return ended,
+            }
+            if self.is_late() {
+                break;
             }
         }
         Err(io::Error::from(ErrorKind::TimedOut))

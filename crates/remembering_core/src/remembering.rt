@@ -13,6 +13,7 @@ use gnap_model::calls::Reply;
 use gnap_model::objects::ErrorCode;
 use grant_machine::{Gnap, Grants, Passes};
 use histories::machine::Core;
+use random_words::RandomWords;
 use signed_calls::nonces::Nonces;
 use signed_calls::signed::Signed;
 
@@ -74,7 +75,11 @@ impl<C: Core<M = Grants> + Passes, N: Nonces> Core for Remembering<C, N> {
 
     ghost frugal = { λ signed. C.frugal signed.call × (is_remembered signed.call ≡ false) };
 
-    fn step(&mut self, moment: u64, draw: &[u64; 48], signed: &Signed) -> Result<Reply, Mem> {
+    fn words_to_make(signed: &Signed) -> usize {
+        C::words_to_make(&signed.call)
+    }
+
+    fn step(&mut self, moment: u64, draw: &RandomWords, signed: &Signed) -> Result<Reply, Mem> {
         self.advance(moment);
         match &signed.mark {
             None => self.core.step(moment, draw, &signed.call),

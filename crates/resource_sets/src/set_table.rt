@@ -21,6 +21,7 @@ use gnap_model::rights::Rights;
 use grant_rules::keys::server_names;
 use grant_rules::suiting::serves_each;
 use histories::machine::Core;
+use random_words::RandomWords;
 use std::alloc::Global;
 
 /// So many sets may be there.
@@ -47,7 +48,7 @@ fn is_served(alloc: Global, rules: &Setup, server: &[u8], rights: &Rights) -> bo
 fn add_set(
     alloc: Global,
     sets: &mut Registry,
-    draw: &[u64; 48],
+    draw: &RandomWords,
     print: u64,
     server: &Bytes,
     rights: &Rights,
@@ -62,7 +63,7 @@ fn add_set(
         });
     }
     let serial = sets.len() as u64 + 1;
-    let reference = value_text(serial, draw[0], draw[1]);
+    let reference = value_text(serial, draw.word(0), draw.word(1));
     let set = RegisteredSet::new(alloc, serial, server, rights, reference)?;
     sets.add(print, set)?;
     Ok(SetReply::Registered { reference })
@@ -73,7 +74,7 @@ fn register(
     alloc: Global,
     rules: &Setup,
     sets: &mut Registry,
-    draw: &[u64; 48],
+    draw: &RandomWords,
     server: &Bytes,
     rights: &Rights,
 ) -> Result<SetReply, Mem>
@@ -114,7 +115,7 @@ fn answer_call(
     alloc: Global,
     rules: &Setup,
     sets: &mut Registry,
-    draw: &[u64; 48],
+    draw: &RandomWords,
     call: &SetCall,
 ) -> Result<SetReply, Mem>
     requires kept { AreKept sets.old }
@@ -161,7 +162,15 @@ impl Core for SetTable {
 
     ghost frugal = { λ _. ⊥ };
 
-    fn step(&mut self, moment: u64, draw: &[u64; 48], call: &SetCall) -> Result<SetReply, Mem> {
+    /// A reference takes two words.
+    fn words_to_make(call: &SetCall) -> usize {
+        match call {
+            SetCall::Register { .. } => 2,
+            _ => 0,
+        }
+    }
+
+    fn step(&mut self, moment: u64, draw: &RandomWords, call: &SetCall) -> Result<SetReply, Mem> {
         self.latest = self.latest.max(moment);
         answer_call(self.alloc, &self.rules, &mut self.sets, draw, call)
     }

@@ -10,12 +10,13 @@ use crate::rule::{Draw, EntryOf, Hand, Look, Mark, SeatOf, Told, Top};
 use crate::words::{SERVING, TICKET, word_of};
 use bytes_and_lists::memory::Mem;
 use histories::machine::{Core, Machine};
+use random_words::RandomWords;
 use std::marker::Brand;
 use std::sync::Wait;
 
-/// How often a worker looks before it sleeps, which takes some microseconds, longer than most steps of a core. It looks again at once, without the hint for
-/// such loops, which would take as long as thirty looks: its turn then begins as soon as the one before it ends.
-const LOOKS: u32 = 4000;
+/// How often a worker looks before it sleeps, which takes some twenty microseconds, longer than most steps of a core. It looks again at once, without the hint
+/// for such loops, which would take as long as thirty looks: its turn then begins as soon as the one before it ends.
+const LOOKS: u32 = 16_000;
 
 /// How many turns before its own a worker is woken, so that it looks already when its turn comes.
 const AHEAD: u64 = 1;
@@ -108,7 +109,7 @@ fn hand_on<C: Core, W: Told<EntryOf<C>>>(
     top: &Top<C>,
     seat: &mut SeatOf<C>,
     _moment: u64,
-    _draw: &[u64; 48],
+    _draw: &RandomWords,
     _call: &<C::M as Machine>::Call,
     _reply: &Result<<C::M as Machine>::Reply, Mem>,
 )
@@ -124,7 +125,7 @@ fn hand_on<C: Core, W: Told<EntryOf<C>>>(
 fn make_step<C: Core>(
     core: &mut Box<C>,
     moment: u64,
-    draw: &[u64; 48],
+    draw: &RandomWords,
     call: &<C::M as Machine>::Call,
 ) -> Result<<C::M as Machine>::Reply, Mem>
     requires fits { C.M.law.fits call.now }
@@ -147,7 +148,7 @@ pub(crate) fn call_once<C: Core, R: Wait>(
     top: &Top<C>,
     seat: &mut SeatOf<C>,
     moment: u64,
-    draw: &[u64; 48],
+    draw: &RandomWords,
     call: &<C::M as Machine>::Call,
 ) -> Result<<C::M as Machine>::Reply, Mem>
     requires table { IsTable top.now.table_id seat.old.table_id }

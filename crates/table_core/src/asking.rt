@@ -62,7 +62,7 @@ fn user_code(entering: &Entering) -> Result<[u8; 8], Mem>
     if CODE_COUNT <= grants as u64 {
         return Err(Mem);
     }
-    let first = passed(entering, entering.supply.words[47] % CODE_COUNT);
+    let first = passed(entering, entering.supply.words.word(47) % CODE_COUNT);
     let mut tried = passed(entering, first);
     for _ in 0..grants {
         let code = code_text(tried);

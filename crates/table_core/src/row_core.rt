@@ -24,6 +24,7 @@ use grant_machine::{Grants, Passes};
 use grant_rules::drawing::Supply;
 use grant_states::GrantTable;
 use histories::machine::Core;
+use random_words::RandomWords;
 use std::alloc::Global;
 use token_manager::TokenTable;
 
@@ -158,7 +159,19 @@ impl Core for RowCore {
 
     ghost frugal = { IsFrugal };
 
-    fn step(&mut self, moment: u64, draw: &[u64; 48], call: &Call) -> Result<Reply, Mem> {
+    /// A value takes two words. A token has two values, and a grant has one more (RFC 9635, section 3). How many tokens a continuation issues isn't told before
+    /// its row is found: it gets what one run of ChaCha20 makes.
+    fn words_to_make(call: &Call) -> usize {
+        match call {
+            Call::Begin { request, .. } => 4 * request.asks.len().min(8) + 2,
+            Call::Continue { .. } | Call::Modify { .. } => 32,
+            Call::Rotate { .. } => 4,
+            Call::Decide { .. } => 2,
+            _ => 0,
+        }
+    }
+
+    fn step(&mut self, moment: u64, draw: &RandomWords, call: &Call) -> Result<Reply, Mem> {
         advance(&mut self.grants, &mut self.tokens, self.latest, moment);
         self.latest = self.latest.max(moment);
         let supply = Supply {

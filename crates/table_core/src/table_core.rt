@@ -15,6 +15,7 @@ use grant_machine::Gnap;
 use histories::lone::Lone;
 use histories::machine::{Core, Desk};
 use nonce_store::NonceStore;
+use random_words::RandomWords;
 use remembering_core::Remembering;
 use signed_calls::signed::Signed;
 use std::alloc::Global;
@@ -65,7 +66,11 @@ impl Core for TableCore {
 
     ghost frugal = { λ signed. IsFrugal signed.call };
 
-    fn step(&mut self, moment: u64, draw: &[u64; 48], signed: &Signed) -> Result<Reply, Mem> {
+    fn words_to_make(signed: &Signed) -> usize {
+        RowCore::words_to_make(&signed.call)
+    }
+
+    fn step(&mut self, moment: u64, draw: &RandomWords, signed: &Signed) -> Result<Reply, Mem> {
         self.core.step(moment, draw, signed)
     }
 

@@ -8,6 +8,7 @@ ghost use Rattle.histories.specs.Steps.{Answers, Lapses};
 use crate::adding::{Adding, Call, Reply};
 use bytes_and_lists::memory::Mem;
 use histories::machine::Core;
+use random_words::RandomWords;
 use std::alloc::Global;
 
 /// Keeps the list of amounts, their sum and the greatest moment.
@@ -73,8 +74,12 @@ impl Core for Adder {
 
     ghost frugal = { IsFrugal };
 
+    fn words_to_make(_call: &Call) -> usize {
+        0
+    }
+
     /// It refuses each add that it was told to refuse, and else none for which its list has room.
-    fn step(&mut self, moment: u64, _draw: &[u64; 48], call: &Call) -> Result<Reply, Mem>
+    fn step(&mut self, moment: u64, _draw: &RandomWords, call: &Call) -> Result<Reply, Mem>
         requires no_lapse { call.now ≢ Lapse }
         requires in_time { moment ≤ last_moment }
         ensures rules { ⟦<Adder as Core>⟧.rules self.new ≡ ⟦<Adder as Core>⟧.rules self.old }

@@ -16,6 +16,7 @@ use gnap_objects::read_setup;
 use http_serving::{HttpFront, HttpReader};
 use outside::device::Failed;
 use outside::gear::{Clock, Counted, Door, Draws, Gear};
+use random_words::RandomWords;
 use serving::server_front::ServerFront;
 use serving::threads::serve_gears;
 use std::alloc::Global;
@@ -87,7 +88,7 @@ impl<'a> Clock for OrderedGear<'a> {
 }
 
 impl<'a> Draws for OrderedGear<'a> {
-    fn draw(&mut self) -> [u64; 48] {
+    fn draw(&mut self) -> RandomWords {
         self.gear.draw()
     }
 }

@@ -12,6 +12,7 @@ use gnap_objects::read_setup;
 use http_serving::{HttpFront, HttpReader};
 use outside::device::{Device, Failed, Sink, Source};
 use outside::gear::{Clock, Counted, Door, Draws, Gear};
+use random_words::RandomWords;
 use serving::server_front::ServerFront;
 use serving::threads::serve_gears;
 use std::alloc::Global;
@@ -151,7 +152,7 @@ impl<'a> Clock for GatedGear<'a> {
 }
 
 impl<'a> Draws for GatedGear<'a> {
-    fn draw(&mut self) -> [u64; 48] {
+    fn draw(&mut self) -> RandomWords {
         self.gear.draw()
     }
 }

@@ -1,5 +1,5 @@
 //! Two workers of a load at once: calls of one come between those of a grant that the other puts through.
-ghost use Rattle.std.specs.Prelude.{◌≡◌, [], IfOk};
+ghost use Rattle.std.specs.Prelude.{◌≡◌, ◌≤◌, [], IfOk};
 ghost use Rattle.desk_load.specs.LoadCalls.{load_setup};
 
 use bytes_and_lists::memory::Mem;
@@ -7,6 +7,7 @@ use desk_load::{load_setup, put_load};
 use gnap_model::calls::Reply;
 use grant_machine::Gnap;
 use histories::machine::Core;
+use random_words::RandomWords;
 use signed_calls::signed::Signed;
 use std::alloc::Global;
 use std::hint::spin_loop;
@@ -59,7 +60,13 @@ impl<'a, C: Core<M = Gnap>> Core for CountingCore<'a, C> {
 
     ghost frugal = { C.frugal };
 
-    fn step(&mut self, moment: u64, draw: &[u64; 48], signed: &Signed) -> Result<Reply, Mem> {
+    fn words_to_make(signed: &Signed) -> usize
+        ensures { result ≤ 48 }
+    {
+        C::words_to_make(signed)
+    }
+
+    fn step(&mut self, moment: u64, draw: &RandomWords, signed: &Signed) -> Result<Reply, Mem> {
         if let Some(mark) = &signed.mark {
             self.look(mark.nonce.as_slice());
         }

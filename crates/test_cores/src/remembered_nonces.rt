@@ -14,6 +14,7 @@ use gnap_model::calls::Call;
 use grant_machine::Gnap;
 use histories::machine::Core;
 use itoa::Buffer;
+use random_words::RandomWords;
 use signed_calls::signed::{Mark, Signed};
 use std::alloc::Global;
 use table_core::TableCore;
@@ -79,7 +80,7 @@ fn enter<C: Core<M = Gnap>>(alloc: Global, core: &mut C, sent: Sent, taken: u64)
     ensures { IsOk result → HasTaken (C.stands core.new) (taken + 1) }
 {
     let signed = signed(alloc, sent)?;
-    core.step(sent.at, &[0; 48], &signed)?;
+    core.step(sent.at, &RandomWords::given([0; 48]), &signed)?;
     Ok(())
 }
 

@@ -2,6 +2,7 @@ use bytes_and_lists::memory::Mem;
 use histories::laws::{by_order, one_alone, one_history};
 use histories::lone::Lone;
 use histories::machine::{Core, Desk};
+use random_words::RandomWords;
 use std::alloc::Global;
 use test_adding::adder::Adder;
 use test_adding::adding::{Adding, Call, Reply};
@@ -79,7 +80,7 @@ fn a_sum_takes_no_memory(rt: HostRuntime) {
 }
 
 fn answer_of_a_step(alloc: Global, refuses_each: u64) -> Result<Reply, Mem> {
-    Adder::new(alloc, 1, refuses_each).step(20, &[0; 48], &Call::Add(41))
+    Adder::new(alloc, 1, refuses_each).step(20, &RandomWords::given([0; 48]), &Call::Add(41))
 }
 
 #[test]

@@ -214,7 +214,7 @@ fn four_accepts(gear: &mut MemGear) -> [u8; 4] {
 // Whether a gear whose accepts of these numbers fail accepts so, and gives its draw once and then zeros.
 fn gives(alloc: Global, bad_accepts: &[u64], wanted: [u8; 4]) -> Result<bool, Mem> {
     let mut gear = gear(alloc, bad_accepts)?;
-    let drawn = (gear.draw()[0], gear.draw()[47]);
+    let drawn = (gear.draw().word(0), gear.draw().word(47));
     let accepted = four_accepts(&mut gear);
     Ok(accepted == wanted && gear.now() == 0 && drawn == (9, 0) && gear.served().len() == 2)
 }

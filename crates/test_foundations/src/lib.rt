@@ -7,6 +7,8 @@
 #[cfg(test)]
 mod adding;
 #[cfg(test)]
+mod cipher_words;
+#[cfg(test)]
 mod devices;
 #[cfg(test)]
 mod field_values;

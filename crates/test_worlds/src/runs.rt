@@ -14,14 +14,10 @@ use test_cases::world::world;
 // How many bytes can be written to standard output, and to standard error.
 const ROOM: usize = 1_048_576;
 
-fn owned(alloc: Global, word: &Value) -> Result<String, Fault> {
-    Ok(String::from_str(alloc, text(word)?)?)
-}
-
 fn words(alloc: Global, case: &Case<'_>) -> Result<Vec<String>, Fault> {
     let mut words = Vec::new(alloc);
     for word in case.words {
-        words.push(owned(alloc, word)?)?;
+        words.push(String::from_str(alloc, text(word)?)?)?;
     }
     Ok(words)
 }

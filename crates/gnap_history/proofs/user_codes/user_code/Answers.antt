@@ -9,4 +9,4 @@ returns c =
     let drawing = c.args.drawing.now in
     let codes : c.as_slice-2.result.now ≡ reverse (live_codes (trail drawing) drawing.moment) =
     c.as_slice-2.ensures ∙ (rw c.as_slice.ensures at c.in_ok-taken.ensures) in
-    c.free_code.ensures ∙ free_code-reordered (slice_index drawing.words.now 47) c.as_slice-2.result.now (live_codes (trail drawing) drawing.moment) codes
+    (rw c.word.ensures at c.free_code.ensures) ∙ free_code-reordered (slice_index drawing.words.now 47) c.as_slice-2.result.now (live_codes (trail drawing) drawing.moment) codes

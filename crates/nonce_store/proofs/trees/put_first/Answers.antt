@@ -3,7 +3,7 @@ use Rattle.nonce_store.proofs.trees.put_first.Goals as goal
 
 pub returns-clause-rows : goal.returns-clause-rows
 returns-clause-rows c =
-    until_first c.args.keys.now c.insert.new.self c.args.key.items c.args.nonce.items c.new-untils.result c.put_under.new.untils c.args.end
+    until_first c.args.keys.now c.insert.new.self c.args.key c.args.nonce c.new-untils.result c.put_under.new.untils c.args.end
     c.requires c.new-untils.ensures.empty c.in_ok-insert.ensures.updates c.in_ok-put_under.ensures.rows
 
 pub returns-clause-counts : goal.returns-clause-counts

@@ -3,7 +3,7 @@ use Rattle.nonce_store.proofs.Under.{under_after, sum_inserted}
 use Rattle.nonce_store.proofs.trees.put_under.Goals as goal
 
 pub returns-clause-rows : goal.returns-clause-rows
-returns-clause-rows c = under_after c.args.untils.now c.insert.new.self c.args.nonce.items (Some c.args.end) c.in_ok-insert.ensures.updates
+returns-clause-rows c = under_after c.args.untils.now c.insert.new.self c.args.nonce (Some c.args.end) c.in_ok-insert.ensures.updates
 
 pub returns-clause-counts : goal.returns-clause-counts
 returns-clause-counts c = λ m.

@@ -1,4 +1,4 @@
-use Rattle.std.proofs.Common.{◌≡◌, ◌∙◌, ◌<◌, ◌+◌, ◌-◌, ℕ, suc, true, false, length, sym, ap, arith, rules}
+use Rattle.std.proofs.Common.{◌≡◌, ◌∙◌, ◌<◌, ◌+◌, ◌-◌, ◌%◌, ℕ, suc, true, false, length, sym, ap, arith, rules}
 use Rattle.std.specs.Prelude.{slice_index}
 use Rattle.std.specs.List.{list_any}
 use Rattle.std.proofs.Math.Nat.{mod-eq_of_lt, mod-lt}
@@ -25,7 +25,9 @@ loop-init c =
       in_circle = c.passed-tried.ensures.within;
       same =
           ap (λ n. free_code n c.passed-tried.result taken) all ∙ sym (c.passed-tried.ensures.same.1 grants)
-          ∙ sym (c.passed-first.ensures.same.1 (two + grants)) ∙ free_code-mod (one + (two + grants)) number taken
+          ∙ sym (c.passed-first.ensures.same.1 (two + grants))
+          ∙ ap (λ w. free_code (one + (two + grants)) (w % code_count) taken) c.word.ensures
+          ∙ free_code-mod (one + (two + grants)) number taken
           ∙ enough_tries (one + (two + grants)) number c.args.entering.now.supply.moment rows (omega arith) few;
     }
 
