@@ -67,6 +67,7 @@ impl InlineBytes {
     pub(crate) fn make_ascii_lowercase(&mut self)
         ensures { self.new ≡ map to_ascii_lowercase self.old }
     {
-        self.bytes.make_ascii_lowercase();
+        // Of the bytes that are used alone: all 30 would be gone through one by one, by code that is written out 30 times.
+        self.bytes[..self.len as usize].make_ascii_lowercase();
     }
 }
