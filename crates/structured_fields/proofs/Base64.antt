@@ -29,19 +29,23 @@ pass_bytes (c ∷ b) e (suc i) = pass_bytes b (and_parts (is_byte c) (list_all i
 pub only_bytes_some : (b : List ℕ) → IsBytes b → only_bytes (Some b) ≡ Some b
 only_bytes_some b h = rw (bytes_pass b h) refl
 
--- ---- the code's three answers
+-- ---- the code's answers
 
 pub decoded_first : (s b : List ℕ) → decode_of standard s ≡ Ok b → IsBytes b → decoded s ≡ Some b
 unfolding decoded decoded_of
 decoded_first s b ok bytes = rw (ok) (only_bytes_some b bytes)
 
-pub decoded_second : (s b : List ℕ) (d : DecodeError) → decode_of standard s ≡ Err d → decode_of standard_no_pad s ≡ Ok b → IsBytes b → decoded s ≡ Some b
+-- a text that isn't padded
+pub decoded_unpadded : (s : List ℕ) (d : DecodeError) → decode_of standard s ≡ Err d → decoded s ≡ only_bytes (decoded_of standard_no_pad s)
 unfolding decoded decoded_of
-decoded_second s b d first ok bytes = rw (first, ok) (only_bytes_some b bytes)
+decoded_unpadded s d first = rw (first) refl
 
-pub decoded_none : (s : List ℕ) (d f : DecodeError) → decode_of standard s ≡ Err d → decode_of standard_no_pad s ≡ Err f → decoded s ≡ None
-unfolding decoded decoded_of
-decoded_none s d f first second = rw (first, second) refl
+pub unpadded_first : (s b : List ℕ) → decode_of standard_no_pad s ≡ Ok b → IsBytes b → only_bytes (decoded_of standard_no_pad s) ≡ Some b
+unfolding decoded_of
+unpadded_first s b ok bytes = rw (ok) (only_bytes_some b bytes)
+
+pub decoded_second : (s b : List ℕ) (d : DecodeError) → decode_of standard s ≡ Err d → decode_of standard_no_pad s ≡ Ok b → IsBytes b → decoded s ≡ Some b
+decoded_second s b d first ok bytes = decoded_unpadded s d first ∙ unpadded_first s b ok bytes
 
 -- ---- the laws
 

@@ -1,8 +1,10 @@
 //! Reading keys and bare items from the front of a text.
 ghost use Rattle.std.specs.Prelude.{◌≡◌, ℕ, ◌-◌, ◌*◌, ◌^◌, ◌<◌, ◌≤◌, true, false, length};
 ghost use Rattle.std.specs.List.{list_all};
+ghost use Rattle.base64.specs.Engines.{standard_no_pad};
+ghost use Rattle.base64.specs.GeneralPurpose.{decoded_of};
 ghost use Rattle.structured_fields.specs.Letters.{integer_digits, fraction_digits, number_limit, is_digit, number, signed};
-ghost use Rattle.structured_fields.specs.Reading.{Gives, key_at, decimal_at, unsigned_at, number_at, string_rest, decoded, binary_rest, boolean_rest, date_at, bare_at};
+ghost use Rattle.structured_fields.specs.Reading.{Gives, key_at, decimal_at, unsigned_at, number_at, string_rest, only_bytes, decoded, binary_rest, boolean_rest, date_at, bare_at};
 
 use crate::bare::Bare;
 use crate::display_reading::display_of;
@@ -124,6 +126,19 @@ fn number_in(bytes: &[u8]) -> Result<(Bare, &[u8]), FieldFault>
     }
 }
 
+// A text without padding. It stands apart because a constant's tables are written out in the function that uses it, at its beginning: most texts have their
+// padding, and need no second tables.
+#[tactic(auto, unfolding(base64::specs::GeneralPurpose::decoded_of))]
+fn decode_unpadded(alloc: Global, text: &[u8]) -> Result<Bytes, FieldFault>
+    ensures { Gives (λ b. b) result (only_bytes (decoded_of standard_no_pad text.now)) }
+{
+    match STANDARD_NO_PAD.decode(alloc, text) {
+        Ok(v) => Ok(Bytes::from_vec(v)),
+        Err(DecodeAllocError::OutOfMemory) => Err(FieldFault::OutOfMemory),
+        Err(DecodeAllocError::DecodeError(_)) => Err(FieldFault::NotInGrammar),
+    }
+}
+
 #[tactic(auto, unfolding(crate::specs::Reading::decoded, base64::specs::GeneralPurpose::decoded_of))]
 fn decode(alloc: Global, text: &[u8]) -> Result<Bytes, FieldFault>
     ensures { Gives (λ b. b) result (decoded text.now) }
@@ -131,11 +146,7 @@ fn decode(alloc: Global, text: &[u8]) -> Result<Bytes, FieldFault>
     match STANDARD.decode(alloc, text) {
         Ok(v) => Ok(Bytes::from_vec(v)),
         Err(DecodeAllocError::OutOfMemory) => Err(FieldFault::OutOfMemory),
-        Err(DecodeAllocError::DecodeError(_)) => match STANDARD_NO_PAD.decode(alloc, text) {
-            Ok(v) => Ok(Bytes::from_vec(v)),
-            Err(DecodeAllocError::OutOfMemory) => Err(FieldFault::OutOfMemory),
-            Err(DecodeAllocError::DecodeError(_)) => Err(FieldFault::NotInGrammar),
-        },
+        Err(DecodeAllocError::DecodeError(_)) => decode_unpadded(alloc, text),
     }
 }
 

@@ -3,6 +3,7 @@ ghost use Rattle.std.specs.Prelude.{◌≡◌, ◌++◌, ◌<◌, ◌==◌, if�
 ghost use Rattle.std.specs.List.{flat_map};
 ghost use Rattle.std.specs.Fmt.{decimal};
 ghost use Rattle.std.specs.Char.{digit_char};
+ghost use Rattle.structured_fields.specs.declared.bare.Bare.TheVariants.{Binary};
 ghost use Rattle.structured_fields.specs.Grammar.{in_string, IsItemText, IsInner, IsListText, IsDictionaryText};
 ghost use Rattle.structured_fields.specs.Canonical.{part_text, shown, integer_text, decimal_text, bare_text, value_text, params_text, item_text, separated_text, inner_text, member_text, single_text, entry_text, list_text, dictionary_text, IsItemInRange, IsInnerInRange, IsListInRange, IsDictionaryInRange};
 
@@ -102,6 +103,16 @@ fn put_shown(out: &mut Bytes, s: &[u8]) -> Result<(), Mem>
     Ok(())
 }
 
+// It stands apart because a constant's tables are written out in the function that uses it, at its beginning: the other kinds need none.
+fn put_binary(alloc: Global, out: &mut Bytes, b: &[u8]) -> Result<(), Mem>
+    ensures { OnOk result (out.new ≡ out.old ++ bare_text (Binary b.now)) }
+{
+    let text = STANDARD.encode(alloc, b)?;
+    out.push(b':')?;
+    out.extend(text.as_bytes())?;
+    out.push(b':')
+}
+
 fn put_bare(alloc: Global, out: &mut Bytes, v: &Bare) -> Result<(), Mem>
     ensures { OnOk result (out.new ≡ out.old ++ bare_text v.now) }
 {
@@ -114,12 +125,7 @@ fn put_bare(alloc: Global, out: &mut Bytes, v: &Bare) -> Result<(), Mem>
             out.push(b'"')
         }
         Bare::Token(s) => out.extend(s.as_slice()),
-        Bare::Binary(b) => {
-            let text = STANDARD.encode(alloc, b.as_slice())?;
-            out.push(b':')?;
-            out.extend(text.as_bytes())?;
-            out.push(b':')
-        }
+        Bare::Binary(b) => put_binary(alloc, out, b.as_slice()),
         Bare::Boolean(true) => out.extend(b"?1"),
         Bare::Boolean(false) => out.extend(b"?0"),
         Bare::Date(seconds) => {
