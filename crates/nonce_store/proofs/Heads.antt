@@ -1,6 +1,6 @@
 -- The number of a text's first bytes.
 use Rattle.std.proofs.Common.{◌≡◌, ◌∙◌, ℕ, ◌+◌, ◌-◌, ◌<◌, ◌≤◌, List, ◌++◌, length, min, nat_le, refl, ap, sym, arith, zero, suc, inl, inr, get_or, take, drop, replicate}
-use Rattle.std.specs.Int.{sum_through, byte_worth, from_le_bytes, w64}
+use Rattle.std.specs.Int.{sum_through, byte_worth, from_be_bytes, w64}
 use Rattle.std.proofs.lemmas.Bool.{cases_Bool, leb-true, leb-false}
 use Rattle.std.proofs.lemmas.List.{get_or_append_left, get_or-append_right, get_or-take, get_or-drop, get_or_past, length-take}
 
@@ -33,7 +33,7 @@ filled_at text n i is below = elim (cases_Bool (nat_le n i)) [
 
 -- a text's first eight bytes, over zeros, have its number
 pub filled_number : (text front : List ℕ) (n : ℕ) → n ≡ min (length text) 8 → front ≡ take n text
-    → from_le_bytes w64 (front ++ drop n (replicate 8 0)) ≡ from_le_bytes w64 text
+    → from_be_bytes w64 (front ++ drop n (replicate 8 0)) ≡ from_be_bytes w64 text
 filled_number text front n is copied =
-    same_through (λ i. byte_worth i (get_or (front ++ drop n (replicate 8 0)) i 0)) (λ i. byte_worth i (get_or text i 0)) 7
-    (λ i le. ap (byte_worth i) (ap (λ (xs : List ℕ). get_or (xs ++ drop n (replicate 8 0)) i 0) copied ∙ filled_at text n i is (omega (arith, le))))
+    same_through (λ i. byte_worth (7 - i) (get_or (front ++ drop n (replicate 8 0)) i 0)) (λ i. byte_worth (7 - i) (get_or text i 0)) 7
+    (λ i le. ap (byte_worth (7 - i)) (ap (λ (xs : List ℕ). get_or (xs ++ drop n (replicate 8 0)) i 0) copied ∙ filled_at text n i is (omega (arith, le))))

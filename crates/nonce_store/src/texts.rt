@@ -15,14 +15,15 @@ pub struct Text {
     ghost headed: { head ≡ head_of bytes.items },
 }
 
-// The first eight bytes as a number, with zeros behind a shorter text.
+// The first eight bytes as a number, with zeros behind a shorter text. The first byte weighs most: texts that a client counts up lie side by side in a tree
+// then, and the next one's place is in the processor's caches.
 fn head_of(text: &[u8]) -> u64
     ensures { result ≡ head_of text.now }
 {
     let mut head = [0; 8];
     let len = text.len().min(8);
     head[..len].copy_from_slice(&text[..len]);
-    u64::from_le_bytes(head)
+    u64::from_be_bytes(head)
 }
 
 /// The text, where it is short enough. It takes no memory.

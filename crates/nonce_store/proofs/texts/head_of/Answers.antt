@@ -5,5 +5,5 @@ use Rattle.nonce_store.proofs.texts.head_of.Goals as goal
 
 pub returns : goal.returns
 unfolding head_of
-returns c = c.from_le_bytes.ensures
+returns c = c.from_be_bytes.ensures
     ∙ filled_number c.args.text.now c.copy_from_slice.new.self c.min-len.result c.min-len.ensures c.copy_from_slice.ensures.after
