@@ -8,6 +8,7 @@ pub mod RevokedTokens
 pub mod Rising
 pub mod RotatedTokens
 pub mod RowFacts
+pub mod Served
 pub mod SettledRequests
 pub mod Stepping
 pub mod ToldTokens

@@ -18,6 +18,7 @@ use gnap_model::objects::{Binding, ErrorCode, Setup};
 use gnap_model::rights::{Names, Rights};
 use gnap_tables::rows::TokenRow;
 use grant_rules::keys::server_names;
+use grant_rules::suiting::serves_each;
 use grant_states::GrantTable;
 use introspection::{Judged, judge};
 use std::alloc::Global;
@@ -33,13 +34,23 @@ fn rights_of(alloc: Global, row: Option<&TokenRow>) -> Result<Rights, Mem>
     }
 }
 
+// Those of the rights that the server with these names serves. Where it serves them all, as is the rule, none is copied.
+fn served_of(alloc: Global, names: &Names, rights: Rights) -> Result<Rights, Mem>
+    ensures { IfOk result (λ served. served ≡ part_served names.now rights) }
+{
+    if serves_each(names, rights.as_slice()) {
+        return Ok(rights);
+    }
+    served_part(alloc, &rights, names)
+}
+
 // A token is shown with those of its rights that the server serves.
-fn shown(alloc: Global, names: &Names, row: &TokenRow, rights: &Rights) -> Result<Reply, Mem>
-    requires { rights.now ≡ row.now.rights }
+fn shown(alloc: Global, names: &Names, row: &TokenRow, rights: Rights) -> Result<Reply, Mem>
+    requires { rights ≡ row.now.rights }
     ensures { IfOk result (λ reply. reply ≡ Active (part_served names.now row.now.rights) row.now.issued row.now.until row.now.key row.now.bearer) }
 {
     Ok(Reply::Active {
-        access: served_part(alloc, rights, names)?,
+        access: served_of(alloc, names, rights)?,
         iat: row.issued,
         exp: row.until,
         instance: row.key.copy()?,
@@ -62,10 +73,10 @@ fn reply_by(
     alloc: Global,
     names: &Names,
     row: Option<&TokenRow>,
-    rights: &Rights,
+    rights: Rights,
     judged: Judged,
 ) -> Result<Reply, Mem>
-    requires { (row_is : _) → option_map (λ row. row.now) row ≡ Some row_is → rights.now ≡ row_is.rights }
+    requires { (row_is : _) → option_map (λ row. row.now) row ≡ Some row_is → rights ≡ row_is.rights }
     ensures { IfOk result (λ reply. reply ≡ judged_reply names.now (option_map (λ row. row.now) row.entry) judged) }
 {
     match judged {
@@ -105,5 +116,5 @@ pub fn introspect(
     let approved = grant_approved(grants, row);
     let rights = rights_of(alloc, row)?;
     let judged = judge(row, &rights, approved, now, names, binding, wanted);
-    Ok(undrawn(reply_by(alloc, names, row, &rights, judged)?))
+    Ok(undrawn(reply_by(alloc, names, row, rights, judged)?))
 }
