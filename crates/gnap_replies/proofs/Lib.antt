@@ -1,3 +1,4 @@
+mod Plain
 mod Printing
 mod TokenArrays
 mod Examples

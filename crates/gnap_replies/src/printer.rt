@@ -1,9 +1,10 @@
 //! JSON that is printed straight into its bytes, without a tree.
-ghost use Rattle.std.specs.Prelude.{◌≡◌, ◌++◌, [], ◌∷◌, ℕ, List, IfOk, IsUtf8, false, decimal};
+ghost use Rattle.std.specs.Prelude.{◌≡◌, ◌++◌, ◌&&◌, [], ◌∷◌, ℕ, List, IfOk, IsUtf8, false, true, decimal, length, nat_le};
+ghost use Rattle.std.specs.List.{list_all};
 ghost use Rattle.json.specs.Print.{quoted, token_text, IsPrintable};
 ghost use Rattle.json.specs.Reads.{token_of};
 ghost use Rattle.serde_json.specs.Written.{comma_if};
-ghost use Rattle.gnap_replies.specs.Printing.{Printed, then_value, then_begin, then_end, then_name, HasPrinted};
+ghost use Rattle.gnap_replies.specs.Printing.{Printed, then_value, then_begin, then_end, then_name, HasPrinted, is_plain, short};
 
 use bytes_and_lists::bytes::Bytes;
 use bytes_and_lists::memory::Mem;
@@ -13,6 +14,9 @@ use std::alloc::Global;
 
 // Most replies have fewer bytes.
 const ROOM: usize = 512;
+
+// Names of members and most values have fewer bytes.
+const SHORT: usize = 64;
 
 /// The compact text so far, or that memory ran out. It places the commas and the colons, and leaves the nesting to its caller.
 #[derive(Drop)]
@@ -41,7 +45,47 @@ fn with_piece(text: Result<Vec<u8>, Mem>, after_value: bool, piece: &[u8]) -> Re
     Ok(text)
 }
 
-// A string, or the name of a member with its colon.
+fn is_plain(byte: u8) -> bool
+    ensures { result ≡ is_plain byte }
+{
+    byte >= b' ' && byte != b'"' && byte != b'\\'
+}
+
+fn is_plain_text(text: &[u8]) -> bool
+    ensures { result ≡ list_all is_plain text.now }
+{
+    for byte in text {
+        if !is_plain(*byte) {
+            return false;
+        }
+    }
+    true
+}
+
+fn is_short_and_plain(text: &[u8]) -> bool
+    ensures { result ≡ (nat_le (length text.now) short && list_all is_plain text.now) }
+{
+    text.len() <= SHORT && is_plain_text(text)
+}
+
+// A text as it is between a quote and what closes it.
+fn with_plain(
+    text: Result<Vec<u8>, Mem>,
+    after_value: bool,
+    value: &[u8],
+    close: &[u8],
+) -> Result<Vec<u8>, Mem>
+    ensures { (p : Printed) → IfOk text (λ t. ◌≡◌ {A = Printed} (t.items, after_value) p)
+        → IfOk result (λ t. t.items ≡ p.0 ++ (comma_if p.1 ++ 34 ∷ (value.now ++ close.now))) }
+{
+    let mut text = with_comma(text, after_value)?;
+    text.push(b'"')?;
+    text.extend_from_slice(value)?;
+    text.extend_from_slice(close)?;
+    Ok(text)
+}
+
+// A string, or the name of a member with its colon, by the writer of `json`. It fills room ahead for each.
 fn with_token(
     text: Result<Vec<u8>, Mem>,
     after_value: bool,
@@ -54,6 +98,26 @@ fn with_token(
     let mut out = Writer::new(with_comma(text, after_value)?);
     out.token(token)?;
     Ok(out.into_inner())
+}
+
+fn with_string(text: Result<Vec<u8>, Mem>, after_value: bool, value: &str) -> Result<Vec<u8>, Mem>
+    ensures { (p : Printed) → IfOk text (λ t. ◌≡◌ {A = Printed} (t.items, after_value) p)
+        → IfOk result (λ t. t.items ≡ p.0 ++ (comma_if p.1 ++ quoted value.now)) }
+{
+    if is_short_and_plain(value.as_bytes()) {
+        return with_plain(text, after_value, value.as_bytes(), b"\"");
+    }
+    with_token(text, after_value, Token::String(value))
+}
+
+fn with_name(text: Result<Vec<u8>, Mem>, after_value: bool, name: &str) -> Result<Vec<u8>, Mem>
+    ensures { (p : Printed) → IfOk text (λ t. ◌≡◌ {A = Printed} (t.items, after_value) p)
+        → IfOk result (λ t. t.items ≡ p.0 ++ (comma_if p.1 ++ (quoted name.now ++ 58 ∷ []))) }
+{
+    if is_short_and_plain(name.as_bytes()) {
+        return with_plain(text, after_value, name.as_bytes(), b"\":");
+    }
+    with_token(text, after_value, Token::Key(name))
 }
 
 fn with_room(alloc: Global) -> Result<Vec<u8>, Mem>
@@ -109,7 +173,7 @@ impl Printer {
         ensures { (p : Printed) → HasPrinted self p → HasPrinted result (then_value p (quoted value.now)) }
     {
         Printer {
-            text: with_token(self.text, self.after_value, Token::String(value)),
+            text: with_string(self.text, self.after_value, value),
             after_value: true,
         }
     }
@@ -163,7 +227,7 @@ impl Printer {
         ensures { (p : Printed) → HasPrinted self p → HasPrinted result (then_name p name.now) }
     {
         Printer {
-            text: with_token(self.text, self.after_value, Token::Key(name)),
+            text: with_name(self.text, self.after_value, name),
             after_value: false,
         }
     }

@@ -3,4 +3,4 @@ use Rattle.gnap_replies.proofs.Printing.{paired}
 use Rattle.gnap_replies.proofs.printer.Printer.name.Goals as goal
 
 pub returns : goal.returns
-returns c p printed = paired c.with_token.result (λ t. t.items) false _ (c.with_token.ensures p printed)
+returns c p printed = paired c.with_name.result (λ t. t.items) false _ (c.with_name.ensures p printed)
