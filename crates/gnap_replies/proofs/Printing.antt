@@ -13,7 +13,8 @@ use Rattle.json.specs.Print.{print, print_from, quoted, token_text}
 use Rattle.serde_json.specs.Data.{Data, array, Members, no_members, member, put}
 use Rattle.serde_json.specs.Written.{comma_if, compact_text, items_text, members_text}
 use Rattle.json_objects.specs.Objects.{members_onto, object_of, items}
-use Rattle.gnap_replies.specs.Printing.{Printed, then_value, then_begin, then_end, then_field, then_fields, then_object, then_items, is_ascending, HasPrinted}
+use Rattle.gnap_replies.specs.Printing.{Printed, then_value, then_begin, then_end, then_name, then_field, then_fields, then_object, then_items}
+use Rattle.gnap_replies.specs.Printing.{is_ascending, HasPrinted}
 use Rattle.gnap_replies.specs.declared.printer.Printer.{Printer}
 
 -- ---- members in ascending order are put one behind another
@@ -82,6 +83,32 @@ token_behind p token made before written begun whole same more none = rw (whole,
 one_more_item : (ds : List Data) (d : Data) (p : Printed) → then_items p (ds ++ d ∷ []) ≡ then_value (then_items p ds) (compact_text d)
 one_more_item [] d p = refl
 one_more_item (e ∷ ds) d p = one_more_item ds d _
+
+-- ---- pieces that are put at once
+
+name_begun : (p : Printed) (name : List ℕ) → then_begin p (123 ∷ (quoted name ++ 58 ∷ [])) ≡ then_name (then_begin p (123 ∷ [])) name
+name_begun p name = ap (λ t. (t, false)) (simp append_assoc)
+
+value_named : (p : Printed) (name value : List ℕ) → then_value p (quoted name ++ 58 ∷ value) ≡ then_value (then_name p name) value
+value_named p name value = ap (λ t. (t, true)) (simp append_assoc)
+
+name_behind : (p : Printed) (name value next : List ℕ)
+    → then_begin p (quoted name ++ 58 ∷ (value ++ 44 ∷ (quoted next ++ 58 ∷ []))) ≡ then_name (then_value (then_name p name) value) next
+name_behind p name value next = ap (λ t. (t, false)) (simp append_assoc)
+
+-- a bracket that opens an object, and the name of its first member
+pub first_name : (r : Printer) (p : Printed) (name : List ℕ) → HasPrinted r (then_begin p (123 ∷ (quoted name ++ 58 ∷ [])))
+    → HasPrinted r (then_name (then_begin p (123 ∷ [])) name)
+first_name r p name printed = subst (HasPrinted r) (name_begun p name) printed
+
+pub name_and_value : (r : Printer) (p : Printed) (name value : List ℕ) → HasPrinted r (then_value p (quoted name ++ 58 ∷ value))
+    → HasPrinted r (then_value (then_name p name) value)
+name_and_value r p name value printed = subst (HasPrinted r) (value_named p name value) printed
+
+pub value_and_name : (r : Printer) (p : Printed) (name value next : List ℕ)
+    → HasPrinted r (then_begin p (quoted name ++ 58 ∷ (value ++ 44 ∷ (quoted next ++ 58 ∷ []))))
+    → HasPrinted r (then_name (then_value (then_name p name) value) next)
+value_and_name r p name value next printed = subst (HasPrinted r) (name_behind p name value next) printed
 
 -- ---- what a printer has is the text of the whole
 

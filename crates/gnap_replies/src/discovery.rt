@@ -14,18 +14,18 @@ fn print_for_client(alloc: Global, out: Printer, base: &[u8]) -> Printer
     requires { IsUtf8 base.now }
     ensures { (p : Printed) → HasPrinted out p → HasPrinted result (then_value p (compact_text (client_discovery base.now))) }
 {
-    let out = out.begin(b'{').name("grant_request_endpoint");
+    let out = out.begin(b"{\"grant_request_endpoint\":");
     let out = print_place(alloc, out, base, "/gnap");
     let out = out
-        .name("interaction_finish_methods_supported")
+        .begin(b"\"interaction_finish_methods_supported\":")
         .value(b"[\"redirect\",\"push\"]")
-        .name("interaction_start_modes_supported")
+        .begin(b"\"interaction_start_modes_supported\":")
         .value(b"[\"redirect\",\"user_code\",\"user_code_uri\"]");
-    out.name("key_proofs_supported")
+    out.begin(b"\"key_proofs_supported\":")
         .value(b"[\"httpsig\"]")
-        .name("key_rotation_supported")
+        .begin(b"\"key_rotation_supported\":")
         .value(b"true")
-        .name("sub_id_formats_supported")
+        .begin(b"\"sub_id_formats_supported\":")
         .value(b"[\"opaque\"]")
         .end(b'}')
 }
@@ -34,16 +34,18 @@ fn print_for_server(alloc: Global, out: Printer, base: &[u8]) -> Printer
     requires { IsUtf8 base.now }
     ensures { (p : Printed) → HasPrinted out p → HasPrinted result (then_value p (compact_text (server_discovery base.now))) }
 {
-    let out = out.begin(b'{').name("grant_request_endpoint");
+    let out = out.begin(b"{\"grant_request_endpoint\":");
     let out = print_place(alloc, out, base, "/gnap");
     let out = print_place(
         alloc,
-        out.name("introspection_endpoint"),
+        out.begin(b"\"introspection_endpoint\":"),
         base,
         "/introspect",
     );
-    let out = out.name("key_proofs_supported").value(b"[\"httpsig\"]");
-    let out = out.name("resource_registration_endpoint");
+    let out = out
+        .begin(b"\"key_proofs_supported\":")
+        .value(b"[\"httpsig\"]");
+    let out = out.begin(b"\"resource_registration_endpoint\":");
     print_place(alloc, out, base, "/resource").end(b'}')
 }
 

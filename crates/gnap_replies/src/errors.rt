@@ -11,7 +11,7 @@ use gnap_model::objects::ErrorCode;
 fn print_code(out: Printer, code: ErrorCode) -> Printer
     ensures { (p : Printed) → HasPrinted out p → HasPrinted result (then_value p (compact_text (object_of (code_fields code)))) }
 {
-    let out = out.begin(b'{').name("code");
+    let out = out.begin(b"{\"code\":");
     out.string(code.text().as_bytes()).end(b'}')
 }
 
@@ -19,5 +19,5 @@ fn print_code(out: Printer, code: ErrorCode) -> Printer
 pub fn print_error_body(out: Printer, code: ErrorCode) -> Printer
     ensures { (p : Printed) → HasPrinted out p → HasPrinted result (then_value p (compact_text (object_of (error_fields code)))) }
 {
-    print_code(out.begin(b'{').name("error"), code).end(b'}')
+    print_code(out.begin(b"{\"error\":"), code).end(b'}')
 }

@@ -30,41 +30,42 @@ fn print_continue(alloc: Global, out: Printer, base: &[u8], door: &[u8]) -> Prin
     requires door { IsUtf8 door.now }
     ensures { (p : Printed) → HasPrinted out p → HasPrinted result (then_value p (compact_text (continue_data base.now door.now))) }
 {
-    let out = print_bare_token(out.begin(b'{').name("access_token"), door);
-    let out = print_place(alloc, out.name("uri"), base, "/continue");
-    out.name("wait").number(WAIT).end(b'}')
+    let out = print_bare_token(out.begin(b"{\"access_token\":"), door);
+    let out = print_place(alloc, out.begin(b"\"uri\":"), base, "/continue");
+    out.begin(b"\"wait\":").number(WAIT).end(b'}')
 }
 
 fn print_sub_id(out: Printer, id: &[u8]) -> Printer
     requires { IsUtf8 id.now }
     ensures { (p : Printed) → HasPrinted out p → HasPrinted result (then_value p (compact_text (object_of (sub_id_fields id.now)))) }
 {
-    let out = out.begin(b'{').name("format").value(b"\"opaque\"");
-    out.name("id").string(id).end(b'}')
+    let out = out.begin(b"{\"format\":").value(b"\"opaque\"");
+    out.begin(b"\"id\":").string(id).end(b'}')
 }
 
 fn print_sub_ids(out: Printer, id: &[u8]) -> Printer
     requires { IsUtf8 id.now }
     ensures { (p : Printed) → HasPrinted out p → HasPrinted result (then_value p (compact_text (array (item (object_of (sub_id_fields id.now)) no_items)))) }
 {
-    print_sub_id(out.begin(b'['), id).end(b']')
+    print_sub_id(out.begin(b"["), id).end(b']')
 }
 
 fn print_identified(out: Printer, id: &[u8]) -> Printer
     requires { IsUtf8 id.now }
     ensures { (p : Printed) → HasPrinted out p → HasPrinted result (then_value p (compact_text (subject_data id.now))) }
 {
-    print_sub_ids(out.begin(b'{').name("sub_ids"), id).end(b'}')
+    print_sub_ids(out.begin(b"{\"sub_ids\":"), id).end(b'}')
 }
 
 // The member `subject`, where the user is told of.
+#[tactic(auto, unfolding(json::specs::Print::escape_byte))]
 fn print_subject(out: Printer, subject: &Option<Bytes>) -> Printer
     requires { IsUtf8Or subject.now }
     ensures { (p : Printed) → HasPrinted out p → HasPrinted result (then_field p (codes "subject") (option_map subject_data subject.now)) }
 {
     match subject {
         None => out,
-        Some(id) => print_identified(out.name("subject"), id.as_slice()),
+        Some(id) => print_identified(out.begin(b"\"subject\":"), id.as_slice()),
     }
 }
 
@@ -87,8 +88,8 @@ pub fn print_granted(
     ensures { (p : Printed) → HasPrinted out p
         → HasPrinted result (then_value p (compact_text (object_of (granted_fields base.now door.now tokens.now single subject.now instance.now)))) }
 {
-    let out = print_tokens(alloc, out.begin(b'{'), base, single, tokens);
-    let out = print_continue(alloc, out.name("continue"), base, door);
+    let out = print_tokens(alloc, out.begin(b"{"), base, single, tokens);
+    let out = print_continue(alloc, out.begin(b"\"continue\":"), base, door);
     let out = print_optional(out, "instance_id", instance);
     print_subject(out, subject).end(b'}')
 }
@@ -127,6 +128,7 @@ fn print_interaction_page(alloc: Global, out: Printer, front: &[u8], handle: &[u
 }
 
 // The member `redirect`, where that was offered.
+#[tactic(auto, unfolding(json::specs::Print::escape_byte))]
 fn print_redirect(
     alloc: Global,
     out: Printer,
@@ -142,7 +144,7 @@ fn print_redirect(
     if !offered {
         return out;
     }
-    print_interaction_page(alloc, out.name("redirect"), front, handle)
+    print_interaction_page(alloc, out.begin(b"\"redirect\":"), front, handle)
 }
 
 fn print_code_page(alloc: Global, out: Printer, front: &[u8], code: &[u8]) -> Printer
@@ -150,11 +152,12 @@ fn print_code_page(alloc: Global, out: Printer, front: &[u8], code: &[u8]) -> Pr
     requires code { IsUtf8 code.now }
     ensures { (p : Printed) → HasPrinted out p → HasPrinted result (then_value p (compact_text (object_of (code_page_fields front.now code.now)))) }
 {
-    let out = out.begin(b'{').name("code").string(code);
-    print_place(alloc, out.name("uri"), front, "/code").end(b'}')
+    let out = out.begin(b"{\"code\":").string(code);
+    print_place(alloc, out.begin(b"\"uri\":"), front, "/code").end(b'}')
 }
 
 // The member `user_code_uri`, where that was offered.
+#[tactic(auto, unfolding(json::specs::Print::escape_byte))]
 fn print_user_code_uri(
     alloc: Global,
     out: Printer,
@@ -170,7 +173,7 @@ fn print_user_code_uri(
     if !offered {
         return out;
     }
-    print_code_page(alloc, out.name("user_code_uri"), front, code)
+    print_code_page(alloc, out.begin(b"\"user_code_uri\":"), front, code)
 }
 
 // How the client can interact with the user.
@@ -192,7 +195,7 @@ fn print_interact(
     ensures { (p : Printed) → HasPrinted out p
         → HasPrinted result (then_value p (compact_text (interact_data front.now modes.now handle.now code.now nonce.now expires_in))) }
 {
-    let out = out.begin(b'{').name("expires_in").number(expires_in);
+    let out = out.begin(b"{\"expires_in\":").number(expires_in);
     let out = print_offered(out, modes.finish.is_some(), "finish", nonce);
     let out = print_redirect(alloc, out, modes.redirect, front, handle);
     let out = print_offered(out, modes.user_code, "user_code", code);
@@ -224,8 +227,8 @@ pub fn print_pending(
         → HasPrinted result (then_value p (compact_text (object_of (pending_fields base.now door.now
         (interact_data front.now modes.now handle.now code.now nonce.now expires_in) instance.now)))) }
 {
-    let out = print_continue(alloc, out.begin(b'{').name("continue"), base, door);
-    let out = print_optional(out, "instance_id", instance).name("interact");
+    let out = print_continue(alloc, out.begin(b"{\"continue\":"), base, door);
+    let out = print_optional(out, "instance_id", instance).begin(b"\"interact\":");
     print_interact(alloc, out, front, modes, handle, code, nonce, expires_in).end(b'}')
 }
 
@@ -235,7 +238,7 @@ pub fn print_continuing(alloc: Global, out: Printer, base: &[u8], door: &[u8]) -
     requires door { IsUtf8 door.now }
     ensures { (p : Printed) → HasPrinted out p → HasPrinted result (then_value p (compact_text (object_of (continuing_fields base.now door.now)))) }
 {
-    print_continue(alloc, out.begin(b'{').name("continue"), base, door).end(b'}')
+    print_continue(alloc, out.begin(b"{\"continue\":"), base, door).end(b'}')
 }
 
 /// A token has a successor.
@@ -244,5 +247,5 @@ pub fn print_rotated(alloc: Global, out: Printer, base: &[u8], token: &TokenOut)
     requires token { TokenFits token.now }
     ensures { (p : Printed) → HasPrinted out p → HasPrinted result (then_value p (compact_text (object_of (rotated_fields base.now token.now)))) }
 {
-    print_token(alloc, out.begin(b'{').name("access_token"), base, token).end(b'}')
+    print_token(alloc, out.begin(b"{\"access_token\":"), base, token).end(b'}')
 }

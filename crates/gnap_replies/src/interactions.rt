@@ -29,7 +29,7 @@ fn print_ask(alloc: Global, out: Printer, ask: &Ask) -> Printer
     requires { AskFits ask.now }
     ensures { (p : Printed) → HasPrinted out p → HasPrinted result (then_value p (compact_text (ask_data ask.now))) }
 {
-    let out = print_rights(alloc, out.begin(b'{').name("access"), &ask.rights);
+    let out = print_rights(alloc, out.begin(b"{\"access\":"), &ask.rights);
     let out = print_flags(out, ask.bearer);
     print_optional(out, "label", &ask.label).end(b'}')
 }
@@ -50,7 +50,7 @@ fn print_asks(alloc: Global, out: Printer, asks: &[Ask]) -> Printer
     requires { AllByRecursion AskFits asks.now }
     ensures { (p : Printed) → HasPrinted out p → HasPrinted result (then_value p (compact_text (array (items (map ask_data asks.now))))) }
 {
-    print_each_ask(alloc, out.begin(b'['), asks).end(b']')
+    print_each_ask(alloc, out.begin(b"["), asks).end(b']')
 }
 
 fn print_truth(out: Printer, truth: bool) -> Printer
@@ -79,10 +79,10 @@ pub fn print_shown(
     ensures { (p : Printed) → HasPrinted out p
         → HasPrinted result (then_value p (compact_text (object_of (shown_fields asks.now client.now expires_in subject user.now)))) }
 {
-    let out = print_asks(alloc, out.begin(b'{').name("access_token"), asks);
-    let out = out.name("client").string(client);
-    let out = out.name("expires_in").number(expires_in);
-    let out = print_truth(out.name("subject"), subject);
+    let out = print_asks(alloc, out.begin(b"{\"access_token\":"), asks);
+    let out = out.begin(b"\"client\":").string(client);
+    let out = out.begin(b"\"expires_in\":").number(expires_in);
+    let out = print_truth(out.begin(b"\"subject\":"), subject);
     print_optional(out, "user", user).end(b'}')
 }
 
@@ -91,7 +91,7 @@ pub fn print_handle(out: Printer, handle: &[u8]) -> Printer
     requires { IsUtf8 handle.now }
     ensures { (p : Printed) → HasPrinted out p → HasPrinted result (then_value p (compact_text (object_of (handle_fields handle.now)))) }
 {
-    out.begin(b'{').name("handle").string(handle).end(b'}')
+    out.begin(b"{\"handle\":").string(handle).end(b'}')
 }
 
 // The hash by which the client knows that the reference is for it.
@@ -139,9 +139,9 @@ fn print_pushed(alloc: Global, out: Printer, base: &[u8], finish: &FinishOut) ->
     ensures { (p : Printed) → HasPrinted out p → HasPrinted result (then_value p (compact_text (object_of (pushed_fields base.now finish.now)))) }
 {
     let body = pushed_body(alloc, base, finish);
-    let out = print_made(out.begin(b'{').name("body"), body);
-    let out = out.name("finish").value(b"\"push\"");
-    out.name("uri")
+    let out = print_made(out.begin(b"{\"body\":"), body);
+    let out = out.begin(b"\"finish\":").value(b"\"push\"");
+    out.begin(b"\"uri\":")
         .string(finish.finish.uri.as_slice())
         .end(b'}')
 }
@@ -167,6 +167,7 @@ fn redirected_uri(alloc: Global, base: &[u8], finish: &FinishOut) -> Result<Byte
     }
 }
 
+#[tactic(auto, unfolding(json::specs::Print::escape_byte))]
 fn print_redirected_uri(alloc: Global, out: Printer, base: &[u8], finish: &FinishOut) -> Printer
     requires base { IsUtf8 base.now }
     requires finish { EndingFits (Some finish.now) }
@@ -175,7 +176,7 @@ fn print_redirected_uri(alloc: Global, out: Printer, base: &[u8], finish: &Finis
         (option_map string (finish_uri finish.now.finish.uri (hash_of base.now finish.now) finish.now.reference))) }
 {
     match redirected_uri(alloc, base, finish) {
-        Ok(uri) => out.name("uri").string(uri.as_slice()),
+        Ok(uri) => out.begin(b"\"uri\":").string(uri.as_slice()),
         Err(Mem) => out.starved(),
     }
 }
@@ -185,7 +186,7 @@ fn print_redirected(alloc: Global, out: Printer, base: &[u8], finish: &FinishOut
     requires finish { EndingFits (Some finish.now) }
     ensures { (p : Printed) → HasPrinted out p → HasPrinted result (then_value p (compact_text (object_of (redirected_fields base.now finish.now)))) }
 {
-    let out = out.begin(b'{').name("finish");
+    let out = out.begin(b"{\"finish\":");
     let out = out.value(b"\"redirect\"");
     print_redirected_uri(alloc, out, base, finish).end(b'}')
 }
@@ -193,7 +194,7 @@ fn print_redirected(alloc: Global, out: Printer, base: &[u8], finish: &FinishOut
 fn print_none(out: Printer) -> Printer
     ensures { (p : Printed) → HasPrinted out p → HasPrinted result (then_value p (compact_text (object_of (decided_fields [] None)))) }
 {
-    let out = out.begin(b'{').name("finish");
+    let out = out.begin(b"{\"finish\":");
     out.value(b"\"none\"").end(b'}')
 }
 

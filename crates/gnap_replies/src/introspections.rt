@@ -15,6 +15,7 @@ use gnap_model::rights::Rights;
 use std::alloc::Global;
 
 // The member `key`, where the token isn't a bearer token.
+#[tactic(auto, unfolding(json::specs::Print::escape_byte))]
 fn print_key(out: Printer, bearer: bool, instance: &[u8]) -> Printer
     requires { IsUtf8 instance.now }
     ensures { (p : Printed) → HasPrinted out p → HasPrinted result (then_field p (codes "key") (key_data bearer instance.now)) }
@@ -22,7 +23,7 @@ fn print_key(out: Printer, bearer: bool, instance: &[u8]) -> Printer
     if bearer {
         return out;
     }
-    out.name("key").string(instance)
+    out.begin(b"\"key\":").string(instance)
 }
 
 /// What a resource server is told of an active token.
@@ -42,12 +43,12 @@ pub fn print_active(
     ensures { (p : Printed) → HasPrinted out p
         → HasPrinted result (then_value p (compact_text (object_of (active_fields base.now access.now iat exp instance.now bearer)))) }
 {
-    let out = print_rights(alloc, out.begin(b'{').name("access"), access);
-    let out = out.name("active").value(b"true");
-    let out = print_flags(out.name("exp").number(exp), bearer);
-    let out = out.name("iat").number(iat);
-    let out = out.name("instance_id").string(instance);
-    let out = print_place(alloc, out.name("iss"), base, "/gnap");
+    let out = print_rights(alloc, out.begin(b"{\"access\":"), access);
+    let out = out.begin(b"\"active\":true,\"exp\":").number(exp);
+    let out = print_flags(out, bearer);
+    let out = out.begin(b"\"iat\":").number(iat);
+    let out = out.begin(b"\"instance_id\":").string(instance);
+    let out = print_place(alloc, out.begin(b"\"iss\":"), base, "/gnap");
     print_key(out, bearer, instance).end(b'}')
 }
 
@@ -55,5 +56,5 @@ pub fn print_active(
 pub fn print_inactive(out: Printer) -> Printer
     ensures { (p : Printed) → HasPrinted out p → HasPrinted result (then_value p (compact_text (object_of inactive_fields))) }
 {
-    out.begin(b'{').name("active").value(b"false").end(b'}')
+    out.value(b"{\"active\":false}")
 }

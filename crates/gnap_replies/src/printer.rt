@@ -68,20 +68,40 @@ fn is_short_and_plain(text: &[u8]) -> bool
     text.len() <= SHORT && is_plain_text(text)
 }
 
-// A text as it is between a quote and what closes it.
-fn with_plain(
-    text: Result<Vec<u8>, Mem>,
-    after_value: bool,
-    value: &[u8],
-    close: &[u8],
-) -> Result<Vec<u8>, Mem>
+// A text as it is behind a quote.
+fn with_plain(text: Result<Vec<u8>, Mem>, after_value: bool, value: &[u8]) -> Result<Vec<u8>, Mem>
     ensures { (p : Printed) → IfOk text (λ t. ◌≡◌ {A = Printed} (t.items, after_value) p)
-        → IfOk result (λ t. t.items ≡ p.0 ++ (comma_if p.1 ++ 34 ∷ (value.now ++ close.now))) }
+        → IfOk result (λ t. t.items ≡ p.0 ++ (comma_if p.1 ++ 34 ∷ value.now)) }
 {
     let mut text = with_comma(text, after_value)?;
     text.push(b'"')?;
     text.extend_from_slice(value)?;
-    text.extend_from_slice(close)?;
+    Ok(text)
+}
+
+fn with_plain_string(
+    text: Result<Vec<u8>, Mem>,
+    after_value: bool,
+    value: &[u8],
+) -> Result<Vec<u8>, Mem>
+    ensures { (p : Printed) → IfOk text (λ t. ◌≡◌ {A = Printed} (t.items, after_value) p)
+        → IfOk result (λ t. t.items ≡ p.0 ++ (comma_if p.1 ++ 34 ∷ (value.now ++ 34 ∷ []))) }
+{
+    let mut text = with_plain(text, after_value, value)?;
+    text.push(b'"')?;
+    Ok(text)
+}
+
+fn with_plain_name(
+    text: Result<Vec<u8>, Mem>,
+    after_value: bool,
+    name: &[u8],
+) -> Result<Vec<u8>, Mem>
+    ensures { (p : Printed) → IfOk text (λ t. ◌≡◌ {A = Printed} (t.items, after_value) p)
+        → IfOk result (λ t. t.items ≡ p.0 ++ (comma_if p.1 ++ 34 ∷ (name.now ++ 34 ∷ 58 ∷ []))) }
+{
+    let mut text = with_plain(text, after_value, name)?;
+    text.extend_from_slice(b"\":")?;
     Ok(text)
 }
 
@@ -105,7 +125,7 @@ fn with_string(text: Result<Vec<u8>, Mem>, after_value: bool, value: &str) -> Re
         → IfOk result (λ t. t.items ≡ p.0 ++ (comma_if p.1 ++ quoted value.now)) }
 {
     if is_short_and_plain(value.as_bytes()) {
-        return with_plain(text, after_value, value.as_bytes(), b"\"");
+        return with_plain_string(text, after_value, value.as_bytes());
     }
     with_token(text, after_value, Token::String(value))
 }
@@ -115,7 +135,7 @@ fn with_name(text: Result<Vec<u8>, Mem>, after_value: bool, name: &str) -> Resul
         → IfOk result (λ t. t.items ≡ p.0 ++ (comma_if p.1 ++ (quoted name.now ++ 58 ∷ []))) }
 {
     if is_short_and_plain(name.as_bytes()) {
-        return with_plain(text, after_value, name.as_bytes(), b"\":");
+        return with_plain_name(text, after_value, name.as_bytes());
     }
     with_token(text, after_value, Token::Key(name))
 }
@@ -202,12 +222,12 @@ impl Printer {
         self.value(buffer.format(value).as_bytes())
     }
 
-    /// A bracket that opens an object or an array.
-    pub fn begin(self, bracket: u8) -> Printer
-        ensures { (p : Printed) → HasPrinted self p → HasPrinted result (then_begin p (bracket ∷ [])) }
+    /// What stands before a value, by its compact text: brackets that open, values before it and names of members.
+    pub fn begin(self, text: &[u8]) -> Printer
+        ensures { (p : Printed) → HasPrinted self p → HasPrinted result (then_begin p text.now) }
     {
         Printer {
-            text: with_piece(self.text, self.after_value, &[bracket]),
+            text: with_piece(self.text, self.after_value, text),
             after_value: false,
         }
     }

@@ -52,7 +52,7 @@ pub fn print_rights(alloc: Global, out: Printer, rights: &Rights) -> Printer
     ensures { (p : Printed) → HasPrinted out p → HasPrinted result (then_value p (compact_text (rights_data rights.now))) }
 {
     if are_references(rights.as_slice()) {
-        return print_references(out.begin(b'['), rights.as_slice()).end(b']');
+        return print_references(out.begin(b"["), rights.as_slice()).end(b']');
     }
     out.made_value(rights_text(alloc, rights))
 }

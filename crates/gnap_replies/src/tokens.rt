@@ -24,7 +24,7 @@ pub fn print_flags(out: Printer, bearer: bool) -> Printer
     if !bearer {
         return out;
     }
-    out.name("flags").value(b"[\"bearer\"]")
+    out.value(b"\"flags\":[\"bearer\"]")
 }
 
 /// A member that is a text, where there is one.
@@ -43,7 +43,7 @@ pub fn print_bare_token(out: Printer, value: &[u8]) -> Printer
     requires { IsUtf8 value.now }
     ensures { (p : Printed) → HasPrinted out p → HasPrinted result (then_value p (compact_text (object_of (bare_token_fields value.now)))) }
 {
-    out.begin(b'{').name("value").string(value).end(b'}')
+    out.begin(b"{\"value\":").string(value).end(b'}')
 }
 
 fn print_manage(alloc: Global, out: Printer, base: &[u8], manage: &[u8]) -> Printer
@@ -51,8 +51,8 @@ fn print_manage(alloc: Global, out: Printer, base: &[u8], manage: &[u8]) -> Prin
     requires manage { IsUtf8 manage.now }
     ensures { (p : Printed) → HasPrinted out p → HasPrinted result (then_value p (compact_text (object_of (manage_fields base.now manage.now)))) }
 {
-    let out = print_bare_token(out.begin(b'{').name("access_token"), manage);
-    print_place(alloc, out.name("uri"), base, "/token").end(b'}')
+    let out = print_bare_token(out.begin(b"{\"access_token\":"), manage);
+    print_place(alloc, out.begin(b"\"uri\":"), base, "/token").end(b'}')
 }
 
 /// A token with all that is told of it.
@@ -62,14 +62,21 @@ pub fn print_token(alloc: Global, out: Printer, base: &[u8], token: &TokenOut) -
     requires token { TokenFits token.now }
     ensures { (p : Printed) → HasPrinted out p → HasPrinted result (then_value p (compact_text (token_data base.now token.now))) }
 {
-    let out = print_rights(alloc, out.begin(b'{').name("access"), &token.rights);
+    let out = print_rights(alloc, out.begin(b"{\"access\":"), &token.rights);
     let out = print_flags(
-        out.name("expires_in").number(token.expires_in),
+        out.begin(b"\"expires_in\":").number(token.expires_in),
         token.bearer,
     );
     let out = print_optional(out, "label", &token.label);
-    let out = print_manage(alloc, out.name("manage"), base, token.manage.as_slice());
-    out.name("value").string(token.value.as_slice()).end(b'}')
+    let out = print_manage(
+        alloc,
+        out.begin(b"\"manage\":"),
+        base,
+        token.manage.as_slice(),
+    );
+    out.begin(b"\"value\":")
+        .string(token.value.as_slice())
+        .end(b'}')
 }
 
 // The items of the array.
@@ -86,6 +93,7 @@ fn print_each_token(alloc: Global, out: Printer, base: &[u8], tokens: &[TokenOut
 }
 
 /// The member `access_token`, where there is a token: the one that was asked for outside an array, or an array.
+#[tactic(auto, unfolding(json::specs::Print::escape_byte))]
 pub fn print_tokens(
     alloc: Global,
     out: Printer,
@@ -99,9 +107,9 @@ pub fn print_tokens(
 {
     match tokens {
         [] => out,
-        [token, ..] if single => print_token(alloc, out.name("access_token"), base, token),
+        [token, ..] if single => print_token(alloc, out.begin(b"\"access_token\":"), base, token),
         tokens => {
-            let out = out.name("access_token").begin(b'[');
+            let out = out.begin(b"\"access_token\":").begin(b"[");
             print_each_token(alloc, out, base, tokens).end(b']')
         }
     }

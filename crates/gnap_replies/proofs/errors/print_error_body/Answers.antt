@@ -1,8 +1,10 @@
-use Rattle.std.proofs.Common.{refl}
+use Rattle.std.proofs.Common.{codes, refl}
+use Rattle.json.specs.Print.{escape_byte}
 use Rattle.gnap_replies.specs.Errors.{error_fields}
-use Rattle.gnap_replies.proofs.Printing.{has_object}
+use Rattle.gnap_replies.proofs.Printing.{first_name, has_object}
 use Rattle.gnap_replies.proofs.errors.print_error_body.Goals as goal
 
 pub returns : goal.returns
+unfolding escape_byte
 returns c p printed = has_object c.end.result p (error_fields c.args.code) refl
-    (c.end.ensures _ (c.print_code.ensures _ (c.name.ensures _ (c.begin.ensures p printed))))
+    (c.end.ensures _ (c.print_code.ensures _ (first_name c.begin.result p (codes "error") (c.begin.ensures p printed))))

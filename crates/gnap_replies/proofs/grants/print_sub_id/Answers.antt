@@ -1,10 +1,11 @@
-use Rattle.std.proofs.Common.{refl}
+use Rattle.std.proofs.Common.{codes, refl}
 use Rattle.json.specs.Print.{escape_byte}
 use Rattle.gnap_replies.specs.Grants.{sub_id_fields}
-use Rattle.gnap_replies.proofs.Printing.{has_object}
+use Rattle.gnap_replies.proofs.Printing.{first_name, has_object}
 use Rattle.gnap_replies.proofs.grants.print_sub_id.Goals as goal
 
 pub returns : goal.returns
 unfolding escape_byte
 returns c p printed = has_object c.end.result p (sub_id_fields c.args.id.now) refl
-    (c.end.ensures _ (c.string.ensures _ (c.name-2.ensures _ (c.value-out.ensures _ (c.name.ensures _ (c.begin.ensures p printed))))))
+    (c.end.ensures _ (c.string.ensures _ (c.begin-2.ensures _ (c.value-out.ensures _
+    (first_name c.begin.result p (codes "format") (c.begin.ensures p printed))))))

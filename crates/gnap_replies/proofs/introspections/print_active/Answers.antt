@@ -1,14 +1,21 @@
-use Rattle.std.proofs.Common.{refl}
+use Rattle.std.proofs.Common.{codes, refl}
+use Rattle.json.specs.Print.{escape_byte}
+use Rattle.serde_json.specs.Written.{compact_text}
+use Rattle.access_rights.specs.Printing.{rights_data}
+use Rattle.gnap_replies.specs.Printing.{then_value, then_begin, then_name}
 use Rattle.gnap_replies.specs.Introspections.{active_fields}
-use Rattle.gnap_replies.proofs.Printing.{has_object}
+use Rattle.gnap_replies.proofs.Printing.{first_name, value_and_name, has_object}
 use Rattle.gnap_replies.proofs.introspections.print_active.Goals as goal
 
 pub returns : goal.returns
-returns c p printed = has_object c.end.result p (active_fields c.args.base.now c.args.access.now c.args.iat c.args.exp c.args.instance.now c.args.bearer) refl
+unfolding escape_byte
+returns c p printed =
+    let access = c.print_rights-out.ensures _ (first_name c.begin.result p (codes "access") (c.begin.ensures p printed)) in
+    let shown = then_value (then_name (then_begin p (codes "{")) (codes "access")) (compact_text (rights_data c.args.access.now)) in
+    let active = value_and_name c.begin-2.result shown (codes "active") (codes "true") (codes "exp") (c.begin-2.ensures _ access) in
+    let flags = c.print_flags-out.ensures _ (c.number-out.ensures _ active) in
+    has_object c.end.result p (active_fields c.args.base.now c.args.access.now c.args.iat c.args.exp c.args.instance.now c.args.bearer) refl
     (c.end.ensures _ (c.print_key.ensures _
-    (c.print_place-out.ensures _ (c.name-6.ensures _
-    (c.string-out.ensures _ (c.name-5.ensures _
-    (c.number-out.ensures _ (c.name-4.ensures _
-    (c.print_flags-out.ensures _ (c.number.ensures _ (c.name-3.ensures _
-    (c.value-out.ensures _ (c.name-2.ensures _
-    (c.print_rights-out.ensures _ (c.name.ensures _ (c.begin.ensures p printed))))))))))))))))
+    (c.print_place-out.ensures _ (c.begin-5.ensures _
+    (c.string-out.ensures _ (c.begin-4.ensures _
+    (c.number-out-2.ensures _ (c.begin-3.ensures _ flags))))))))

@@ -1,8 +1,10 @@
-use Rattle.std.proofs.Common.{refl}
+use Rattle.std.proofs.Common.{codes, refl}
+use Rattle.json.specs.Print.{escape_byte}
 use Rattle.gnap_replies.specs.Tokens.{bare_token_fields}
-use Rattle.gnap_replies.proofs.Printing.{has_object}
+use Rattle.gnap_replies.proofs.Printing.{first_name, has_object}
 use Rattle.gnap_replies.proofs.tokens.print_bare_token.Goals as goal
 
 pub returns : goal.returns
+unfolding escape_byte
 returns c p printed = has_object c.end.result p (bare_token_fields c.args.value.now) refl
-    (c.end.ensures _ (c.string.ensures _ (c.name.ensures _ (c.begin.ensures p printed))))
+    (c.end.ensures _ (c.string.ensures _ (first_name c.begin.result p (codes "value") (c.begin.ensures p printed))))
