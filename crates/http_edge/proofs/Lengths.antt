@@ -1,15 +1,16 @@
--- The `Content-Length` fields of a head.
-use Rattle.std.proofs.Common.{◌≡◌, ℕ, zero, suc, ◌<◌, List, [], ◌∷◌, length, get_or, map, ap, arith, Bool, true}
-use Rattle.std.specs.Prelude.{◌||◌}
+-- The `Connection` fields of a head.
+use Rattle.std.proofs.Common.{◌≡◌, ◌∙◌, ℕ, List, [], ◌∷◌, ◌++◌, ap, refl, Bool, false, cond, codes}
 use Rattle.std.specs.List.{list_any}
-use Rattle.httparse.specs.declared.spans.HeaderSpan.{HeaderSpan}
-use Rattle.http1.specs.Fields.{Header}
-use Rattle.http_edge.specs.Framing.{is_coded}
-use Rattle.std.proofs.lemmas.Bool.{or_right}
+use Rattle.std.proofs.lemmas.Bool.{or_parts}
+use Rattle.http1.specs.Fields.{Header, is_named, elements, elements_named, has_option}
+use Rattle.http_edge.specs.Framing.{asks_to_close}
 
--- one of the fields names a coding
-pub any_here : (read : HeaderSpan → Header) (fields : List HeaderSpan) (i : ℕ) (d : HeaderSpan) → i < length fields
-    → is_coded (read (get_or fields i d)) ≡ true → list_any is_coded (map read fields) ≡ true
-any_here read [] i d within e = absurd (omega arith)
-any_here read (x ∷ fields) zero d within e = ap (λ (b : Bool). b || list_any is_coded (map read fields)) e
-any_here read (x ∷ fields) (suc i) d within e = or_right (is_coded (read x)) _ (any_here read fields i d (omega arith) e)
+none_named : (name : List ℕ) (headers : List Header) → list_any (is_named name) headers ≡ false → elements_named name headers ≡ []
+none_named name [] none = refl
+none_named name (h ∷ headers) none =
+    let parts = or_parts (is_named name h) (list_any (is_named name) headers) none in
+    ap (λ (b : Bool). cond b (elements h.1) [] ++ elements_named name headers) parts.0 ∙ none_named name headers parts.1
+
+-- where there is none, none asks to close
+pub none_asks : (headers : List Header) → list_any (is_named (codes "connection")) headers ≡ false → asks_to_close headers ≡ false
+none_asks headers none = ap (has_option (codes "close")) (none_named (codes "connection") headers none)

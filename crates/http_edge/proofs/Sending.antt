@@ -1,6 +1,6 @@
 -- Bytes on their way to a sink.
 use Rattle.std.proofs.Common.{◌≡◌, ℕ, ◌<◌, suc, List, [], ◌++◌, length, take, drop, get_or, refl, sym, ap, ◌∙◌, subst, append_assoc, append-nil}
-use Rattle.std.specs.Prelude.{Result, Ok, Err}
+use Rattle.std.specs.Prelude.{Result, Ok, Err, codes, decimal}
 use Rattle.std.specs.Borrow.{Bor}
 use Rattle.std.proofs.Math.Seq.{drop-cons}
 use Rattle.std.proofs.lemmas.List.{take-append-drop}
@@ -8,6 +8,8 @@ use Rattle.std.proofs.lemmas.Grind.{flat_map-append}
 use Rattle.bytes_and_lists.specs.Prefixes.{IsPrefix}
 use Rattle.outside.specs.Outside.{Told, Writes, HasSent}
 use Rattle.outside.proofs.Devices.{writes_none, writes_then}
+use Rattle.http_edge.specs.declared.reply.HttpReply.{HttpReply}
+use Rattle.http_edge.specs.Replies.{status_line, type_line, extra_line, close_line, length_line, body_bytes, head_bytes, reply_bytes}
 use Rattle.http_edge.specs.Writes.{bytes_of_pieces, IsUnderWay}
 
 -- a beginning of a text was written
@@ -65,8 +67,17 @@ pieces_split i ps d inside =
     ∙ ap (λ (l : List (Bor (List ℕ))). bytes_of_pieces (take i ps) ++ bytes_of_pieces l) (drop-cons ps i d inside)
     ∙ sym (append_assoc (bytes_of_pieces (take i ps)) (get_or ps i d).now (bytes_of_pieces (drop (suc i) ps)))
 
--- the sixteen pieces of a reply
-pub reply_pieces : (v s t p e b c d f g h i j k n l : List ℕ)
-    → v ++ (s ++ (t ++ (p ++ (e ++ (b ++ (c ++ (d ++ (f ++ (g ++ (h ++ (i ++ (j ++ (k ++ (n ++ (l ++ [])))))))))))))))
-    ≡ ((v ++ (s ++ (t ++ (p ++ e)))) ++ (b ++ (c ++ ((d ++ (f ++ g)) ++ (h ++ ((i ++ (j ++ k)) ++ n)))))) ++ l
-reply_pieces v s t p e b c d f g h i j k n l = simp (append_assoc, append-nil)
+-- the ten pieces of a reply
+pub reply_pieces : (s k d f g c i j n b : List ℕ)
+    → s ++ (k ++ (d ++ (f ++ (g ++ (c ++ (i ++ (j ++ (n ++ (b ++ []))))))))) ≡ (s ++ (k ++ ((d ++ (f ++ g)) ++ (c ++ (i ++ (j ++ n)))))) ++ b
+reply_pieces s k d f g c i j n b = simp (append_assoc, append-nil)
+
+-- the bytes of a reply from its parts
+pub reply_parts : (r : HttpReply) (status kind extra close size body : List ℕ) → status ≡ status_line r.status
+    → kind ≡ type_line r.body ++ codes "Cache-Control: no-store\r\n" → extra ≡ extra_line r.extra → close ≡ close_line r.last
+    → size ≡ length_line r.status (decimal (length (body_bytes r.body))) ++ codes "\r\n" → body ≡ body_bytes r.body
+    → (status ++ (kind ++ (extra ++ (close ++ size)))) ++ body ≡ reply_bytes r
+unfolding reply_bytes head_bytes
+reply_parts r status kind extra close size body status_is kind_is extra_is close_is size_is body_is =
+    (λ x. (status_is x ++ (kind_is x ++ (extra_is x ++ (close_is x ++ size_is x)))) ++ body_is x)
+    ∙ ap (λ (t : List ℕ). (status_line r.status ++ t) ++ body_bytes r.body) (append_assoc (type_line r.body) (codes "Cache-Control: no-store\r\n") _)

@@ -1,5 +1,5 @@
 //! What the fields of a head say of the body behind it (RFC 9112, section 6).
-ghost use Rattle.std.specs.Prelude.{◌≡◌, ◌-◌, ◌^◌, ◌≤◌, ◌==◌, ◌||◌, min, length, map, All, IfOk, Some, None, if◌then◌else◌};
+ghost use Rattle.std.specs.Prelude.{◌≡◌, ◌-◌, ◌^◌, ◌≤◌, ◌==◌, ◌||◌, min, length, map, All, IfOk, Some, None, if◌then◌else◌, codes};
 ghost use Rattle.std.specs.List.{list_any};
 ghost use Rattle.std.specs.Char.{to_ascii_lowercase};
 ghost use Rattle.std.specs.Str.Parse.{digits_value};
@@ -39,6 +39,16 @@ pub enum LengthField {
     Several,
 }
 
+/// Which fields there are that say something of the body or of the connection.
+#[derive(Clone, Copy)]
+pub struct FramingFields {
+    /// A coding of the body is named.
+    pub coded: bool,
+    pub length: LengthField,
+    /// There is a `Connection` field.
+    pub connection: bool,
+}
+
 fn is_named(head: &[u8], field: &HeaderSpan, name: &[u8]) -> bool
     requires { IsHeaderWithin (length head.now) field.now }
     ensures { result ≡ is_named name.now (header_bytes head.now field.now) }
@@ -53,34 +63,31 @@ fn is_coded(head: &[u8], field: &HeaderSpan) -> bool
     is_named(head, field, b"transfer-encoding") || is_named(head, field, b"content-encoding")
 }
 
-/// A coding of the body is named.
-pub(crate) fn any_coded(head: &[u8], fields: &[HeaderSpan]) -> bool
+/// The fields that say something of the body or of the connection, in one pass.
+pub(crate) fn framing_fields(head: &[u8], fields: &[HeaderSpan]) -> FramingFields
     requires { All (IsHeaderWithin (length head.now)) fields.now }
-    ensures { result ≡ list_any is_coded (map (header_bytes head.now) fields.now) }
+    ensures coded { result.coded ≡ list_any is_coded (map (header_bytes head.now) fields.now) }
+    ensures lengths { HasLengths head.now result.length (lengths_of (map (header_bytes head.now) fields.now)) }
+    ensures connection { result.connection ≡ list_any (is_named (codes "connection")) (map (header_bytes head.now) fields.now) }
 {
+    let mut coded = false;
+    let mut length = LengthField::Absent;
+    let mut connection = false;
     for field in fields {
-        if is_coded(head, field) {
-            return true;
-        }
-    }
-    false
-}
-
-/// The `Content-Length` fields.
-pub(crate) fn length_field(head: &[u8], fields: &[HeaderSpan]) -> LengthField
-    requires { All (IsHeaderWithin (length head.now)) fields.now }
-    ensures { HasLengths head.now result (lengths_of (map (header_bytes head.now) fields.now)) }
-{
-    let mut found = LengthField::Absent;
-    for field in fields {
+        coded |= is_coded(head, field);
+        connection |= is_named(head, field, b"connection");
         if is_named(head, field, b"content-length") {
-            found = match found {
+            length = match length {
                 LengthField::Absent => LengthField::One(field.value),
                 _ => LengthField::Several,
             };
         }
     }
-    found
+    FramingFields {
+        coded,
+        length,
+        connection,
+    }
 }
 
 /// The number that the digits give, where there are digits alone. One past 2^64 - 1 counts as that.
@@ -118,30 +125,46 @@ fn length_framing(value: &[u8]) -> Framing
     }
 }
 
-/// What the fields of a request say of its body, of which there are at most 64.
-pub(crate) fn request_framing(head: &[u8], fields: &[HeaderSpan]) -> Framing
+/// What the fields of a request, of which there are at most 64, say of its body; and whether a `Connection` field is among them.
+pub(crate) fn request_framing(head: &[u8], fields: &[HeaderSpan]) -> (Framing, bool)
     requires within { All (IsHeaderWithin (length head.now)) fields.now }
     requires few { length fields.now ≤ field_limit }
-    ensures value { result ≡ framing_of (map (header_bytes head.now) fields.now) }
-    ensures bound { IsBounded result }
+    ensures value { result.0 ≡ framing_of (map (header_bytes head.now) fields.now) }
+    ensures bound { IsBounded result.0 }
+    ensures connection { result.1 ≡ list_any (is_named (codes "connection")) (map (header_bytes head.now) fields.now) }
 {
-    if any_coded(head, fields) {
-        return Framing::Refused(EdgeFault::Coded);
+    let known = framing_fields(head, fields);
+    if known.coded {
+        return (Framing::Refused(EdgeFault::Coded), known.connection);
     }
-    match length_field(head, fields) {
+    let framing = match known.length {
         LengthField::Absent => Framing::Body(0),
         LengthField::One(span) => length_framing(span.of(head)),
         LengthField::Several => Framing::Refused(EdgeFault::BadHead),
-    }
+    };
+    (framing, known.connection)
 }
 
-/// The connection closes after the reply to a request of this minor version.
+// A `Connection` field asks to close. They are read where one is there.
 #[tactic(auto, unfolding(http1::specs::Fields::known_fields))]
-pub(crate) fn is_last(minor: u8, head: &[u8], fields: &[HeaderSpan]) -> bool
-    requires { All (IsHeaderWithin (length head.now)) fields.now }
+fn asks_to_close(head: &[u8], fields: &[HeaderSpan], connection: bool) -> bool
+    requires within { All (IsHeaderWithin (length head.now)) fields.now }
+    requires connection { connection ≡ list_any (is_named (codes "connection")) (map (header_bytes head.now) fields.now) }
+    ensures { result ≡ asks_to_close (map (header_bytes head.now) fields.now) }
+{
+    if !connection {
+        return false;
+    }
+    KnownFields::from_spans(head, fields).close
+}
+
+/// The connection closes after the reply to a request of this minor version, in which a `Connection` field is or isn't.
+pub(crate) fn is_last(minor: u8, head: &[u8], fields: &[HeaderSpan], connection: bool) -> bool
+    requires within { All (IsHeaderWithin (length head.now)) fields.now }
+    requires connection { connection ≡ list_any (is_named (codes "connection")) (map (header_bytes head.now) fields.now) }
     ensures { result ≡ (minor == 0 || asks_to_close (map (header_bytes head.now) fields.now)) }
 {
-    minor == 0 || KnownFields::from_spans(head, fields).close
+    minor == 0 || asks_to_close(head, fields, connection)
 }
 
 /// The fields that the spans cover, with their names in lower case.

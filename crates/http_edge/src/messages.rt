@@ -3,11 +3,13 @@ ghost use Rattle.std.specs.Prelude.{◌≡◌, ◌≤◌, length, take, IfOk};
 ghost use Rattle.httparse.specs.Spans.{IsRequestWithin, IsRequestOf};
 ghost use Rattle.http_edge.specs.Limits.{head_limit, field_limit};
 ghost use Rattle.http_edge.specs.Streams.{window};
-ghost use Rattle.http_edge.specs.Steps.{IsBeginningOf};
+ghost use Rattle.http_edge.specs.Steps.{IsLeadingHead, IsBeginningOf};
 
 use crate::fault::EdgeFault;
 use crate::framing::{Framing, fields_of, is_last, request_framing};
-use crate::request_heads::{FIELD_LIMIT, HEAD_LIMIT, LeadingHead, leading_head};
+use crate::request_heads::{
+    FEW_FIELDS, FIELD_LIMIT, HEAD_LIMIT, LeadingHead, leading_head, leading_head_in,
+};
 use bytes_and_lists::bytes::Bytes;
 use bytes_and_lists::memory::Mem;
 use bytes_and_lists::message::Message;
@@ -53,13 +55,14 @@ fn read_message(
 ) -> Result<Beginning, Mem>
     requires window { w.now ≡ window b.now }
     requires short { length w.now ≤ head_limit }
-    requires room { length room.now ≡ field_limit }
+    requires room { length room.now ≤ field_limit }
     requires within { IsRequestWithin w.now room.now spans }
     requires of { IsRequestOf w.now room.now spans }
     ensures { IfOk result (IsBeginningOf b.now) }
 {
     let found = &room[..spans.headers];
-    match request_framing(w, found) {
+    let (framing, connection) = request_framing(w, found);
+    match framing {
         Framing::Refused(fault) => Ok(Beginning::Refused(fault)),
         Framing::Body(length) => {
             let end = spans.len + length;
@@ -70,7 +73,7 @@ fn read_message(
             let target = Bytes::from_slice(alloc, spans.path.of(w))?;
             let fields = fields_of(alloc, w, found)?;
             let body = Bytes::from_slice(alloc, &b[spans.len..end])?;
-            let last = is_last(spans.version, w, found);
+            let last = is_last(spans.version, w, found, connection);
             let message = Message {
                 method,
                 target,
@@ -83,17 +86,22 @@ fn read_message(
     }
 }
 
-/// What stands at the front of the bytes. Of a message that isn't whole nothing is copied.
-pub(crate) fn take_message(alloc: Global, b: &[u8]) -> Result<Beginning, Mem>
+// What stands at the front of the bytes, by what stands at the front of their window.
+fn message_by_head(
+    alloc: Global,
+    b: &[u8],
+    w: &[u8],
+    room: &[HeaderSpan],
+    head: LeadingHead,
+) -> Result<Beginning, Mem>
+    requires window { w.now ≡ window b.now }
+    requires short { length w.now ≤ head_limit }
+    requires room { length room.now ≤ field_limit }
+    requires head { IsLeadingHead w.now room.now head }
     ensures { IfOk result (IsBeginningOf b.now) }
 {
-    if b.is_empty() {
-        return Ok(Beginning::Unfinished(Want::MoreOfHead));
-    }
-    let w = window(b);
-    let mut room = [EMPTY_HEADER_SPAN; FIELD_LIMIT];
-    match leading_head(alloc, w, &mut room)? {
-        LeadingHead::Head(spans) => read_message(alloc, b, w, &room, spans),
+    match head {
+        LeadingHead::Head(spans) => read_message(alloc, b, w, room, spans),
         LeadingHead::ManyFields => Ok(Beginning::Refused(EdgeFault::TooLarge)),
         LeadingHead::Never => Ok(Beginning::Refused(EdgeFault::BadHead)),
         LeadingHead::Undecided => {
@@ -103,5 +111,31 @@ pub(crate) fn take_message(alloc: Global, b: &[u8]) -> Result<Beginning, Mem>
                 Ok(Beginning::Refused(EdgeFault::TooLarge))
             }
         }
+    }
+}
+
+// The same where a head has more than a few fields.
+fn message_of_many_fields(alloc: Global, b: &[u8], w: &[u8]) -> Result<Beginning, Mem>
+    requires window { w.now ≡ window b.now }
+    requires short { length w.now ≤ head_limit }
+    ensures { IfOk result (IsBeginningOf b.now) }
+{
+    let mut room = [EMPTY_HEADER_SPAN; FIELD_LIMIT];
+    let head = leading_head(alloc, w, &mut room)?;
+    message_by_head(alloc, b, w, &room, head)
+}
+
+/// What stands at the front of the bytes. Of a message that isn't whole nothing is copied.
+pub(crate) fn take_message(alloc: Global, b: &[u8]) -> Result<Beginning, Mem>
+    ensures { IfOk result (IsBeginningOf b.now) }
+{
+    if b.is_empty() {
+        return Ok(Beginning::Unfinished(Want::MoreOfHead));
+    }
+    let w = window(b);
+    let mut room = [EMPTY_HEADER_SPAN; FEW_FIELDS];
+    match leading_head_in(w, &mut room) {
+        Some(head) => message_by_head(alloc, b, w, &room, head),
+        None => message_of_many_fields(alloc, b, w),
     }
 }

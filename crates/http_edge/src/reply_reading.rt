@@ -2,10 +2,9 @@
 ghost use Rattle.std.specs.Prelude.{◌≡◌, ◌<◌, ◌^◌, ◌≤◌, length, map, ◌-◌, IfSome, IfNone, All};
 ghost use Rattle.httparse.specs.Spans.{IsHeaderWithin, header_bytes, IsResponseWithin, IsResponseOf};
 ghost use Rattle.http_edge.specs.Limits.{field_limit};
-ghost use Rattle.http_edge.specs.Framing.{lengths_of};
-ghost use Rattle.http_edge.specs.ReadReplies.{says_length, fits_parts, HasNoRoom, GivesReply};
+ghost use Rattle.http_edge.specs.ReadReplies.{frames, fits_parts, HasNoRoom, GivesReply};
 
-use crate::framing::{LengthField, any_coded, decimal_number, length_field};
+use crate::framing::{LengthField, decimal_number, framing_fields};
 use crate::request_heads::{FIELD_LIMIT, HEAD_LIMIT};
 use bytes_and_lists::bytes::Bytes;
 use bytes_and_lists::memory::Mem;
@@ -49,13 +48,17 @@ fn reply_head(bytes: &[u8], room: &mut [HeaderSpan]) -> Option<ResponseSpans>
     }
 }
 
-// A body of so many bytes is what the `Content-Length` fields say.
-fn says_length(head: &[u8], fields: &[HeaderSpan], count: usize) -> bool
+// A body of so many bytes is what the fields say.
+fn frames(head: &[u8], fields: &[HeaderSpan], count: usize) -> bool
     requires within { All (IsHeaderWithin (length head.now)) fields.now }
     requires bounded { count < 2 ^ 63 }
-    ensures { result ≡ says_length (lengths_of (map (header_bytes head.now) fields.now)) count }
+    ensures { result ≡ frames (map (header_bytes head.now) fields.now) count }
 {
-    match length_field(head, fields) {
+    let known = framing_fields(head, fields);
+    if known.coded {
+        return false;
+    }
+    match known.length {
         LengthField::Absent => true,
         LengthField::One(span) => decimal_number(span.of(head)) == Some(count as u64),
         LengthField::Several => false,
@@ -71,8 +74,7 @@ fn fits_body(bytes: &[u8], fields: &[HeaderSpan], spans: &ResponseSpans) -> bool
     let count = bytes.len() - spans.len;
     spans.len <= HEAD_LIMIT
         && fields.len() <= FIELD_LIMIT
-        && !any_coded(bytes, fields)
-        && says_length(bytes, fields, count)
+        && frames(bytes, fields, count)
         && (spans.code != 204 || count == 0)
 }
 

@@ -16,6 +16,9 @@ pub(crate) const HEAD_LIMIT: usize = 16_384;
 /// The most fields of a head.
 pub(crate) const FIELD_LIMIT: usize = 64;
 
+/// Most heads have no more fields than this. Room for more is made only where a head has more.
+pub(crate) const FEW_FIELDS: usize = 16;
+
 // So many fields have room in 16,384 bytes, three bytes each.
 const ALL_FIELDS: usize = 5_462;
 
@@ -32,8 +35,8 @@ pub enum LeadingHead {
     Undecided,
 }
 
-// What stands at the front, with room for so many fields. None says that it has more.
-fn leading_head_in(w: &[u8], room: &mut [HeaderSpan]) -> Option<LeadingHead>
+/// What stands at the front, with room for so many fields. `None` says that it has more.
+pub(crate) fn leading_head_in(w: &[u8], room: &mut [HeaderSpan]) -> Option<LeadingHead>
     ensures some { IfSome result (IsLeadingHead w.now room.new) }
     ensures over { IfNone result (RequestOverflows (length room.old) w.now) }
     ensures exceeds { IfNone result (RequestExceeds (length room.old) w.now) }

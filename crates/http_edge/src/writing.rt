@@ -1,13 +1,11 @@
 //! Replies into bytes.
 ghost use Rattle.std.specs.Prelude.{◌≡◌, ◌+◌, ◌≤◌, ◌++◌, [], length, true, codes, OnOk};
-ghost use Rattle.http.specs.StatusCode.{code_digits};
 ghost use Rattle.outside.specs.Outside.{HasSent, HasCause};
-ghost use Rattle.http_edge.specs.Replies.{is_used, phrase_of, type_line, extra_line, close_line, length_line, body_bytes, reply_bytes, MayWrite};
+ghost use Rattle.http_edge.specs.Replies.{is_used, status_line, type_line, extra_line, close_line, length_line, body_bytes, reply_bytes, MayWrite};
 ghost use Rattle.http_edge.specs.Writes.{room, bytes_of_pieces, HasPut};
 
 use crate::reply::{Extra, HttpReply};
 use bytes_and_lists::bytes::Bytes;
-use http::StatusCode;
 use itoa::Buffer;
 use outside::device::{Failed, Sink, write_all};
 use std::marker::Model;
@@ -104,27 +102,34 @@ fn write_pieces<S: Sink>(sink: &mut S, pieces: &[&[u8]]) -> Result<(), Failed>
     outgoing.flush(sink)
 }
 
-// The digits and the phrase of a status.
-fn digits_and_phrase(status: u16) -> (&'static [u8], &'static [u8])
+// The status line.
+fn status_line(status: u16) -> &'static [u8]
     requires { is_used status ≡ true }
-    ensures digits { result.0.now ≡ code_digits status }
-    ensures phrase { result.1.now ≡ phrase_of status }
+    ensures { result.now ≡ status_line status }
 {
-    match StatusCode::from_u16(status) {
-        Ok(code) => (
-            code.as_str().as_bytes(),
-            code.canonical_reason().unwrap_or("").as_bytes(),
-        ),
-        Err(_) => unreachable!(),
+    match status {
+        200 => b"HTTP/1.1 200 OK\r\n",
+        204 => b"HTTP/1.1 204 No Content\r\n",
+        400 => b"HTTP/1.1 400 Bad Request\r\n",
+        401 => b"HTTP/1.1 401 Unauthorized\r\n",
+        403 => b"HTTP/1.1 403 Forbidden\r\n",
+        404 => b"HTTP/1.1 404 Not Found\r\n",
+        405 => b"HTTP/1.1 405 Method Not Allowed\r\n",
+        413 => b"HTTP/1.1 413 Payload Too Large\r\n",
+        501 => b"HTTP/1.1 501 Not Implemented\r\n",
+        502 => b"HTTP/1.1 502 Bad Gateway\r\n",
+        503 => b"HTTP/1.1 503 Service Unavailable\r\n",
+        _ => unreachable!(),
     }
 }
 
-fn type_line(body: &Option<Bytes>) -> &'static [u8]
-    ensures { result.now ≡ type_line body.now }
+// The line of the type, where there is a body, and that of the cache.
+fn type_and_cache(body: &Option<Bytes>) -> &'static [u8]
+    ensures { result.now ≡ type_line body.now ++ codes "Cache-Control: no-store\r\n" }
 {
     match body {
-        None => b"",
-        Some(_) => b"Content-Type: application/json\r\n",
+        None => b"Cache-Control: no-store\r\n",
+        Some(_) => b"Content-Type: application/json\r\nCache-Control: no-store\r\n",
     }
 }
 
@@ -154,42 +159,35 @@ fn close_line(last: bool) -> &'static [u8]
     if last { b"Connection: close\r\n" } else { b"" }
 }
 
-// The line of the length in three parts.
-fn length_parts(status: u16, digits: &[u8]) -> (&'static [u8], &[u8], &'static [u8])
-    ensures { result.0.now ++ (result.1.now ++ result.2.now) ≡ length_line status digits.now }
+// The line of the length and the empty line, in three parts.
+fn length_and_end(status: u16, digits: &[u8]) -> (&'static [u8], &[u8], &'static [u8])
+    ensures { result.0.now ++ (result.1.now ++ result.2.now) ≡ length_line status digits.now ++ codes "\r\n" }
 {
     if status == 204 {
-        (b"", b"", b"")
+        (b"", b"", b"\r\n")
     } else {
-        (b"Content-Length: ", digits, b"\r\n")
+        (b"Content-Length: ", digits, b"\r\n\r\n")
     }
 }
 
-// Writes the parts of a reply that differ, and those between them.
+// Writes the parts of a reply.
 fn write_parts<'a, S: Sink>(
     sink: &mut S,
-    status: (&'a [u8], &'a [u8]),
+    status: &'a [u8],
     kind: &'a [u8],
     extra: (&'a [u8], &'a [u8], &'a [u8]),
     close: &'a [u8],
     size: (&'a [u8], &'a [u8], &'a [u8]),
     body: &'a [u8],
 ) -> Result<(), Failed>
-    ensures sent { HasSent ((codes "HTTP/1.1 " ++ (status.entry.0.now ++ (codes " " ++ (status.entry.1.now ++ codes "\r\n"))))
-        ++ (kind.now ++ (codes "Cache-Control: no-store\r\n" ++ ((extra.entry.0.now ++ (extra.entry.1.now ++ extra.entry.2.now))
-        ++ (close.now ++ ((size.entry.0.now ++ (size.entry.1.now ++ size.entry.2.now)) ++ codes "\r\n"))))) ++ body.now) (S.told sink.old) (S.told sink.new)
-        result }
+    ensures sent { HasSent ((status.now ++ (kind.now ++ ((extra.entry.0.now ++ (extra.entry.1.now ++ extra.entry.2.now))
+        ++ (close.now ++ (size.entry.0.now ++ (size.entry.1.now ++ size.entry.2.now)))))) ++ body.now) (S.told sink.old) (S.told sink.new) result }
     ensures cause { HasCause (S.faults sink.old) (S.faults sink.new) result }
 {
-    let version: &'a [u8] = b"HTTP/1.1 ";
-    let blank: &'a [u8] = b" ";
-    let cache: &'a [u8] = b"Cache-Control: no-store\r\n";
-    let end: &'a [u8] = b"\r\n";
     write_pieces(
         sink,
         &[
-            version, status.0, blank, status.1, end, kind, cache, extra.0, extra.1, extra.2, close,
-            size.0, size.1, size.2, end, body,
+            status, kind, extra.0, extra.1, extra.2, close, size.0, size.1, size.2, body,
         ],
     )
 }
@@ -205,11 +203,11 @@ pub fn write_reply<S: Sink>(sink: &mut S, reply: &HttpReply) -> Result<(), Write
     let digits = buffer.format(body.len()).as_bytes();
     write_parts(
         sink,
-        digits_and_phrase(reply.status),
-        type_line(&reply.body),
+        status_line(reply.status),
+        type_and_cache(&reply.body),
         extra_parts(&reply.extra),
         close_line(reply.last),
-        length_parts(reply.status, digits),
+        length_and_end(reply.status, digits),
         body,
     )?;
     Ok(())

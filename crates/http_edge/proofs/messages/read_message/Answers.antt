@@ -1,9 +1,10 @@
-use Rattle.std.proofs.Common.{ℕ, List, take, drop, map, ◌≡◌, ◌∙◌, sym, ap, arith}
+use Rattle.std.proofs.Common.{ℕ, List, take, drop, map, ◌≡◌, ◌∙◌, ◌≤◌, sym, ap, arith}
 use Rattle.std.specs.Prelude.{◌==◌, ◌||◌}
 use Rattle.httparse.specs.Spans.{header_bytes}
 use Rattle.http1.specs.Fields.{Header}
 use Rattle.http_edge.specs.declared.framing.Framing.TheVariants.{Body}
 use Rattle.http_edge.specs.Framing.{framing_of, asks_to_close}
+use Rattle.http_edge.specs.Limits.{body_limit}
 use Rattle.http_edge.specs.Streams.{BeginsWith, headers_of, field_of, by_head}
 use Rattle.http_edge.proofs.Fronts.{head_here, ends_at, whole_message}
 use Rattle.http_edge.proofs.messages.read_message.Goals as goal
@@ -14,10 +15,11 @@ returns-then-b-end c =
     let of = c.requires.of in
     let begins : BeginsWith b of.0 (drop c.args.spans.len b) =
     head_here b c.args.w.now c.args.room.now c.args.spans c.requires.window of c.requires.within.section.len_fits in
-    let framed : framing_of (headers_of of.0) ≡ Body c.in-Body.length = sym (ap framing_of of.1.fields) ∙ sym c.in-Body.ensures.value in (
+    let framed : framing_of (headers_of of.0) ≡ Body c.in-Body.length = sym (ap framing_of of.1.fields) ∙ sym c.request_framing-framing.ensures.value ∙ c.in-Body.is in
+    let bound : c.in-Body.length ≤ body_limit = rw c.in-Body.is at c.request_framing-framing.ensures.bound in (
       ends_at b of.0 c.args.spans.len c.in-Body.length begins of.1.len framed,
       c.if-b-end.true,
-      omega (arith, begins.short, of.1.len, c.in-Body.ensures.bound),
+      omega (arith, begins.short, of.1.len, bound),
     )
 
 pub returns-in-Refused : goal.returns-in-Refused
@@ -26,8 +28,8 @@ returns-in-Refused c =
     let of = c.requires.of in (
       by_head c.in-Refused.fault of.0 (drop c.args.spans.len b)
           (head_here b c.args.w.now c.args.room.now c.args.spans c.requires.window of c.requires.within.section.len_fits)
-          (sym (ap framing_of of.1.fields) ∙ sym c.in-Refused.ensures.value),
-      c.in-Refused.ensures.bound,
+          (sym (ap framing_of of.1.fields) ∙ sym c.request_framing-framing.ensures.value ∙ c.in-Refused.is),
+      rw c.in-Refused.is at c.request_framing-framing.ensures.bound,
     )
 
 pub returns-in_ok-body-in-Body : goal.returns-in_ok-body-in-Body
@@ -36,7 +38,7 @@ returns-in_ok-body-in-Body c =
     let of = c.requires.of in
     let begins : BeginsWith b of.0 (drop c.args.spans.len b) =
     head_here b c.args.w.now c.args.room.now c.args.spans c.requires.window of c.requires.within.section.len_fits in
-    let framed : framing_of (headers_of of.0) ≡ Body c.in-Body.length = sym (ap framing_of of.1.fields) ∙ sym c.in-Body.ensures.value in (
+    let framed : framing_of (headers_of of.0) ≡ Body c.in-Body.length = sym (ap framing_of of.1.fields) ∙ sym c.request_framing-framing.ensures.value ∙ c.in-Body.is in (
       c.if-b-end.false,
       whole_message b of.0 c.args.spans.len c.in-Body.length _ begins framed c.if-b-end.false
           (c.in_ok-method-in-Body.ensures ∙ c.of.ensures ∙ of.1.method)
