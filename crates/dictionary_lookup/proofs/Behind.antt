@@ -275,7 +275,7 @@ module _ (len i : ℕ) (t u : List ℕ) (total : Items) (is : u ≡ behind is_sp
 pub items_over : (n : ℕ) (t : List ℕ) (total : Items) → n ≡ 0 → ItemsSoFar n t total → rest_of total ≡ None
 items_over n t total z so_far = ap rest_of (items_spent n so_far.held t total z so_far.reads)
 
--- ---- inner lists and members
+-- ---- inner lists
 
 module _ (name s : List ℕ) where
   pub inner_is : (t r : List ℕ) → rest_of (items_at t) ≡ Some r
@@ -295,63 +295,4 @@ module _ (name s : List ℕ) where
   inner_fails OutOfMemory t h = tt
   inner_fails NotInGrammar t h = let none : items_at t ≡ None = fails_mapped (λ (x : List Item × List ℕ). x.1) NotInGrammar (items_at t) h in rw none refl
 
-  pub as_inner : (o : Option (InnerList × List ℕ))
-      → option_map (member_matched name s) (option_map (λ x. (Inner x.0, x.1)) o) ≡ option_map (inner_matched name s) o
-  as_inner None = refl
-  as_inner (Some x) = refl
-
-  pub as_single : (o : Option (Item × List ℕ)) (r : List ℕ) → rest_of o ≡ Some r
-      → option_map (member_matched name s) (option_map (λ x. (Single x.0, x.1)) o) ≡ Some (false, r)
-  as_single None r e = absurd cc
-  as_single (Some x) r e = ap (λ (u : List ℕ). Some (false, u)) (some_is x.1 r e)
-
-  pub single_fails : (e : FieldFault) (o : Option (Item × List ℕ)) → Fails e (rest_of o)
-      → Fails e (option_map (member_matched name s) (option_map (λ x. (Single x.0, x.1)) o))
-  single_fails OutOfMemory o h = tt
-  single_fails NotInGrammar o h = let none : o ≡ None = fails_mapped (λ (x : Item × List ℕ). x.1) NotInGrammar o h in rw none refl
-
-  pub as_true : (o : Option (List (List ℕ × Bare) × List ℕ)) (r : List ℕ) → rest_of o ≡ Some r
-      → option_map (member_matched name s) (option_map (λ p. (Single (record { bare = Boolean true; params = p.0 }), p.1)) o) ≡ Some (false, r)
-  as_true None r e = absurd cc
-  as_true (Some p) r e = ap (λ (u : List ℕ). Some (false, u)) (some_is p.1 r e)
-
-  pub true_fails : (e : FieldFault) (o : Option (List (List ℕ × Bare) × List ℕ)) → Fails e (rest_of o)
-      → Fails e (option_map (member_matched name s) (option_map (λ p. (Single (record { bare = Boolean true; params = p.0 }), p.1)) o))
-  true_fails OutOfMemory o h = tt
-  true_fails NotInGrammar o h = let none : o ≡ None = fails_mapped (λ (x : List (List ℕ × Bare) × List ℕ). x.1) NotInGrammar o h in rw none refl
-
-  pub member_is_inner : (t u : List ℕ) → begins 40 t ≡ true → u ≡ drop 1 t
-      → option_map (member_matched name s) (member_at t) ≡ option_map (inner_matched name s) (inner_at u)
-  unfolding member_at
-  member_is_inner t u h is = rw (h, is) (as_inner (inner_at (drop 1 t)))
-
-  pub member_is_single : (t r : List ℕ) → begins 40 t ≡ false → rest_of (item_at t) ≡ Some r
-      → option_map (member_matched name s) (member_at t) ≡ Some (false, r)
-  unfolding member_at
-  member_is_single t r h e = rw h (as_single (item_at t) r e)
-
-  pub member_fails : (e : FieldFault) (t : List ℕ) → begins 40 t ≡ false → Fails e (rest_of (item_at t))
-      → Fails e (option_map (member_matched name s) (member_at t))
-  unfolding member_at
-  member_fails e t h f = rw h (single_fails e (item_at t) f)
-
-  pub entry_is_given : (t u : List ℕ) → begins 61 t ≡ true → u ≡ drop 1 t
-      → option_map (member_matched name s) (entry_value_at t) ≡ option_map (member_matched name s) (member_at u)
-  unfolding entry_value_at
-  entry_is_given t u h is = rw (h, is) refl
-
-  pub entry_is_true : (t r : List ℕ) → begins 61 t ≡ false → rest_of (params_at t) ≡ Some r
-      → option_map (member_matched name s) (entry_value_at t) ≡ Some (false, r)
-  unfolding entry_value_at
-  entry_is_true t r h e = rw h (as_true (params_at t) r e)
-
-  pub entry_fails : (e : FieldFault) (t : List ℕ) → begins 61 t ≡ false → Fails e (rest_of (params_at t))
-      → Fails e (option_map (member_matched name s) (entry_value_at t))
-  unfolding entry_value_at
-  entry_fails e t h f = rw h (true_fails e (params_at t) f)
-
 pub ruleset inner_steps = (inner_is, inner_fails)
-
-pub ruleset member_steps = (member_is_inner, member_is_single, member_fails)
-
-pub ruleset entry_steps = (entry_is_given, entry_is_true, entry_fails)

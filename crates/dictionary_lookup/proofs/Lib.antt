@@ -1,3 +1,4 @@
 pub mod Behind
+pub mod Members
 pub mod SkippedEntries
 pub mod StringLists

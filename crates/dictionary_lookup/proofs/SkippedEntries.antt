@@ -1,27 +1,23 @@
--- Entries skipped one after the other: which of them are matched, and what stands under a key.
-use Rattle.std.proofs.Common.{◌≡◌, ℕ, ◌+◌, ◌-◌, ◌<◌, Bool, true, false, cond, List, [], ◌∷◌, length, drop, Option, Some, None, Result, Ok, Err, refl, sym, ap, subst, ◌∙◌, true≢false}
-use Rattle.std.specs.Result.{IfOk}
+-- Entries gone through one after the other: which of them are matched, and what stands under a key.
+use Rattle.std.proofs.Common.{◌≡◌, ℕ, ◌+◌, ◌-◌, ◌<◌, Bool, true, false, cond, List, [], ◌∷◌, length, Option, Some, None, refl, sym, ap, subst, ◌∙◌, true≢false}
 use Rattle.std.specs.Option.{option_map}
 use Rattle.std.specs.Str.{bytes_eq}
 use Rattle.std.proofs.lemmas.Slice.Eq.{bytes_eq-Decides}
 use Rattle.structured_fields.specs.declared.fault.FieldFault.{FieldFault}
 use Rattle.structured_fields.specs.declared.fault.FieldFault.TheVariants.{NotInGrammar, OutOfMemory}
 use Rattle.structured_fields.specs.declared.bare.Bare.{Bare}
-use Rattle.structured_fields.specs.declared.bare.Bare.TheVariants.{Boolean}
 use Rattle.structured_fields.specs.declared.item.InnerList.{InnerList}
-use Rattle.structured_fields.specs.declared.item.Item.{Item}
 use Rattle.structured_fields.specs.declared.item.Member.{Member}
-use Rattle.structured_fields.specs.declared.item.Member.TheVariants.{Item as Single, Inner}
 use Rattle.structured_fields.specs.Named.{value_at, with_value}
-use Rattle.dictionary_lookup.specs.Skipping.{single_of, bare_found, is_match, member_matched, entry_matched, matches_among, IsUnder}
-use Rattle.structured_fields.specs.Reading.{◌>>=◌, Fails, Gives, begins, bare_at, params_at, item_at, inner_at, member_at, key_at, entry_value_at, entry_at, next_at, members_from, with_entry, dictionary_of}
+use Rattle.dictionary_lookup.specs.declared.lookup.Matched.{Matched}
+use Rattle.dictionary_lookup.specs.declared.lookup.Matched.TheVariants.{Nowhere, Once, Unsettled}
+use Rattle.dictionary_lookup.specs.declared.lookup.MatchedList.{MatchedList}
+use Rattle.dictionary_lookup.specs.Skipping.{Entries, Enters, Tells, bare_found, is_match, entry_matched, matches_among, member_matched, member_read, single_of, single_read, strings_in}
+use Rattle.structured_fields.specs.Reading.{◌>>=◌, Fails, key_at, entry_value_at, entry_at, next_at, members_from, with_entry}
 use Rattle.structured_fields.proofs.Entries.{turned, value_set, value_after}
-use Rattle.structured_fields.proofs.Fronts.{mapped, bind_some, some_is}
+use Rattle.structured_fields.proofs.Fronts.{mapped, some_is}
 use Rattle.structured_fields.proofs.Loop.{members_start, members_failed, members_more, members_done, members_refused, members_spent}
 use Rattle.dictionary_lookup.proofs.Behind.{fails_map, fails_mapped}
-
-abbrev Entries : Type 0
-Entries = List (List ℕ × Member)
 
 -- ---- the entries that are matched, once one more was set
 
@@ -81,46 +77,127 @@ module _ (name s : List ℕ) where
 
 -- ---- the text of an entry
 
-pub entry_there : (t : List ℕ) (e : (List ℕ × Member) × List ℕ) (key value : List ℕ) → entry_at t ≡ Some e → key_at t ≡ Some (key, value)
-    → (key ≡ e.0.0) × (entry_value_at value ≡ Some (e.0.1, e.1))
+pub entry_none : (t : List ℕ) → key_at t ≡ None → entry_at t ≡ None
 unfolding entry_at
-entry_there t e key value read key_is =
-    let a = bind_some (key_at t) (λ k. entry_value_at k.1 >>= λ m. Some ((k.0, m.0), m.1)) e read in
-    let b = bind_some (entry_value_at a.0.1) (λ m. Some ((a.0.0, m.0), m.1)) e a.2 in
-    let told : List ℕ × List ℕ = (key, value) in
-    let same : told ≡ a.0 = some_is told a.0 (sym key_is ∙ a.1) in
-    let made : (List ℕ × Member) × List ℕ = ((a.0.0, b.0.0), b.0.1) in
-    let is : made ≡ e = some_is made e b.2 in (
-      ap (λ (k : List ℕ × List ℕ). k.0) same ∙ ap (λ (y : (List ℕ × Member) × List ℕ). y.0.0) is,
-      ap (λ (k : List ℕ × List ℕ). entry_value_at k.1) same ∙ b.1 ∙ ap (λ (y : (List ℕ × Member) × List ℕ). Some (y.0.1, y.1)) is,
-    )
+entry_none t h = rw h refl
 
-pub entry_is : (name s t key value : List ℕ) → key_at t ≡ Some (key, value)
-    → option_map (entry_matched name s) (entry_at t) ≡ option_map (λ m. ((key, m.0), m.1)) (option_map (member_matched name s) (entry_value_at value))
-unfolding entry_at
-entry_is name s t key value e = rw e (by (entry_value_at value))
-  where
-    by : (o : Option (Member × List ℕ))
-        → option_map (entry_matched name s) (o >>= λ m. Some ((key, m.0), m.1)) ≡ option_map (λ m. ((key, m.0), m.1)) (option_map (member_matched name s) o)
-    by None = refl
-    by (Some m) = refl
+module _ (t key value : List ℕ) (key_is : key_at t ≡ Some (key, value)) where
+  abbrev keyed : Member × List ℕ → (List ℕ × Member) × List ℕ
+  keyed m = ((key, m.0), m.1)
 
-pub entry_none : (name s t : List ℕ) → key_at t ≡ None → option_map (entry_matched name s) (entry_at t) ≡ None
-unfolding entry_at
-entry_none name s t e = rw e refl
+  under_key : entry_at t ≡ option_map keyed (entry_value_at value)
+  unfolding entry_at
+  under_key = rw key_is (by (entry_value_at value))
+    where
+      by : (o : Option (Member × List ℕ)) → (o >>= λ m. Some (keyed m)) ≡ option_map keyed o
+      by None = refl
+      by (Some m) = refl
 
-abbrev named_so : List ℕ → Bool × List ℕ → (List ℕ × Bool) × List ℕ
-named_so key m = ((key, m.0), m.1)
+  pub entry_failed : {A : Type 0} (made : Member × List ℕ → A) (e : FieldFault) → Fails e (option_map made (entry_value_at value)) → Fails e (entry_at t)
+  entry_failed made e h =
+      subst (Fails e) (sym under_key) (fails_map keyed e (entry_value_at value) (fails_mapped made e (entry_value_at value) h))
 
-pub entry_read : (name s t key value : List ℕ) (matched : Bool) (rest : List ℕ) → key_at t ≡ Some (key, value)
-    → option_map (member_matched name s) (entry_value_at value) ≡ Some (matched, rest)
-    → option_map (entry_matched name s) (entry_at t) ≡ Some ((key, matched), rest)
-entry_read name s t key value matched rest key_is e = entry_is name s t key value key_is ∙ ap (option_map (named_so key)) e
+  -- the entry of which this was made
+  abbrev made_of : {A : Type 0} → (Member → A) → Member × List ℕ → A × List ℕ
+  made_of made m = (made m.0, m.1)
 
-pub entry_failed : (name s t key value : List ℕ) (e : FieldFault) → key_at t ≡ Some (key, value)
-    → Fails e (option_map (member_matched name s) (entry_value_at value)) → Fails e (option_map (entry_matched name s) (entry_at t))
-entry_failed name s t key value e key_is h =
-    subst (Fails e) (sym (entry_is name s t key value key_is)) (fails_map (named_so key) e (option_map (member_matched name s) (entry_value_at value)) h)
+  entry_made : {A : Type 0} (made : Member → A) (a : A) (rest : List ℕ) → option_map (made_of made) (entry_value_at value) ≡ Some (a, rest)
+      → (m : Member) × (entry_at t ≡ Some ((key, m), rest)) × (made m ≡ a)
+  entry_made {A = A} made a rest h =
+      let x = mapped (made_of made) (entry_value_at value) (a, rest) h in
+      let ends : x.0.1 ≡ rest = ap (λ (y : A × List ℕ). y.1) x.2 in (
+        x.0.0,
+        under_key ∙ ap (option_map keyed) x.1 ∙ ap (λ (r : List ℕ). Some ((key, x.0.0), r)) ends,
+        ap (λ (y : A × List ℕ). y.0) x.2,
+      )
+
+  -- ---- the first list that is matched
+
+  module _ (name s : List ℕ) where
+    abbrev member_of : List ℕ → Option InnerList → Bool → Type 0
+    member_of rest strings matched = option_map (member_read name s) (entry_value_at value) ≡ Some ((strings, matched), rest)
+
+    abbrev list_and_match : Member → Option InnerList × Bool
+    list_and_match m = (strings_in m, is_match name s m)
+
+    pub entry_passed : (rest : List ℕ) (strings : Option InnerList) (matched : Bool) → member_of rest strings matched → matched ≡ false
+        → Enters t rest (Tells name s Nowhere) (Tells name s Nowhere)
+    entry_passed rest strings matched h plain =
+        let e = entry_made list_and_match (strings, matched) rest h in
+        (key, e.0, e.1, λ d none. stays_none name s d key e.0 none (ap (λ (y : Option InnerList × Bool). y.1) e.2 ∙ plain))
+
+    pub entry_first : (rest : List ℕ) (one : MatchedList) (matched : Bool) → one.key.now ≡ key → member_of rest one.strings matched → matched ≡ true
+        → Enters t rest (Tells name s Nowhere) (Tells name s (Once one))
+    entry_first rest one matched same h marked =
+        let e = entry_made list_and_match (one.strings, matched) rest h in (
+          key,
+          e.0,
+          e.1,
+          λ d none. (
+            e.0,
+            first_one name s d key e.0 none (ap (λ (y : Option InnerList × Bool). y.1) e.2 ∙ marked) ∙ ap (λ (k : List ℕ). (k, e.0) ∷ []) (sym same),
+            sym (ap (λ (y : Option InnerList × Bool). y.0) e.2),
+          ),
+        )
+
+    -- ---- an entry that is skipped
+
+    pub entry_read : (matched : Bool) (rest : List ℕ) → option_map (member_matched name s) (entry_value_at value) ≡ Some (matched, rest)
+        → option_map (entry_matched name s) (entry_at t) ≡ Some ((key, matched), rest)
+    entry_read matched rest h =
+        let e = entry_made (is_match name s) matched rest h in
+        ap (option_map (entry_matched name s)) e.1 ∙ ap (λ (b : Bool). Some ((key, b), rest)) e.2
+
+    pub skip_failed : (e : FieldFault) → Fails e (option_map (member_matched name s) (entry_value_at value))
+        → Fails e (option_map (entry_matched name s) (entry_at t))
+    skip_failed e h = fails_map (entry_matched name s) e (entry_at t) (entry_failed (member_matched name s) e h)
+
+  -- ---- the bare item under a key
+
+  module _ (k : List ℕ) where
+    abbrev Finds : Option Bare → Entries → Type 0
+    Finds found d = found ≡ bare_found (value_at d k)
+
+    pub single_there : (found o : Option Bare) (rest : List ℕ) → bytes_eq key k ≡ true → option_map single_read (entry_value_at value) ≡ Some (o, rest)
+        → Enters t rest (Finds found) (Finds o)
+    single_there found o rest same h =
+        let e = entry_made single_of o rest h in (
+          key,
+          e.0,
+          e.1,
+          λ d before. sym e.2 ∙ ap bare_found (sym (ap (value_at (with_value d key e.0)) (sym ((bytes_eq-Decides key k).0 same)) ∙ value_set d key e.0)),
+        )
+
+    pub single_elsewhere : (found : Option Bare) (matched : Bool) (rest : List ℕ) → bytes_eq key k ≡ false
+        → option_map (member_matched [] []) (entry_value_at value) ≡ Some (matched, rest) → Enters t rest (Finds found) (Finds found)
+    single_elsewhere found matched rest apart h =
+        let e = entry_made (is_match [] []) matched rest h in
+        (key, e.0, e.1, λ d before. before ∙ ap bare_found (sym (value_after d key e.0 k (turned key k apart))))
+
+-- ---- behind one that is matched
+
+module _ (name s t : List ℕ) (key : List ℕ) (matched : Bool) (rest : List ℕ)
+    (skipped : option_map (entry_matched name s) (entry_at t) ≡ Some ((key, matched), rest)) where
+  entry_found : (m : Member) × (entry_at t ≡ Some ((key, m), rest)) × (is_match name s m ≡ matched)
+  entry_found =
+      let x = mapped (entry_matched name s) (entry_at t) ((key, matched), rest) skipped in
+      let names : x.0.0.0 ≡ key = ap (λ (y : (List ℕ × Bool) × List ℕ). y.0.0) x.2 in
+      let ends : x.0.1 ≡ rest = ap (λ (y : (List ℕ × Bool) × List ℕ). y.1) x.2 in (
+        x.0.0.1,
+        x.1 ∙ ap (λ (k : List ℕ). Some ((k, x.0.0.1), x.0.1)) names ∙ ap (λ (r : List ℕ). Some ((key, x.0.0.1), r)) ends,
+        ap (λ (y : (List ℕ × Bool) × List ℕ). y.0.1) x.2,
+      )
+
+  pub left_open : (found : Matched) → Enters t rest (Tells name s found) (Tells name s Unsettled)
+  left_open found = (key, entry_found.0, entry_found.1, λ d told. tt)
+
+  pub still_one : (one : MatchedList) → matched ≡ false → bytes_eq one.key.now key ≡ false → Enters t rest (Tells name s (Once one)) (Tells name s (Once one))
+  still_one one plain apart = (
+    key,
+    entry_found.0,
+    entry_found.1,
+    λ d told. (told.0, stays_one name s d key entry_found.0 one.key.now told.0 told.1 apart (entry_found.2 ∙ plain), told.2),
+  )
 
 -- ---- the loops: entries were read before these, and of them P is so
 
@@ -137,131 +214,33 @@ module _ (P : Entries → Type 0) where
   entries_over n t total z so_far = members_spent entry_at with_entry n so_far.held t total z so_far.reads
 
   module _ (len i : ℕ) (t : List ℕ) (total : Option Entries) (lt : i < len) (so_far : EntriesSoFar (len - i) t total) where
-    pub entries_fail : (name s : List ℕ) (e : FieldFault) → Fails e (option_map (entry_matched name s) (entry_at t)) → Fails e total
-    entries_fail name s e g = members_failed entry_at with_entry len i so_far.held t total lt so_far.reads e
-        (fails_mapped (entry_matched name s) e (entry_at t) g)
+    pub entries_fail : (e : FieldFault) → Fails e (entry_at t) → Fails e total
+    entries_fail e h = members_failed entry_at with_entry len i so_far.held t total lt so_far.reads e h
 
 -- one entry more, of which now Q is so
-module _ (P Q : Entries → Type 0) (name s : List ℕ) (len i : ℕ) (t : List ℕ) (total : Option Entries) (lt : i < len) (so_far : EntriesSoFar P (len - i) t total)
-    (key value : List ℕ) (matched : Bool) (rest : List ℕ)
-    (key_is : key_at t ≡ Some (key, value)) (entry : option_map (entry_matched name s) (entry_at t) ≡ Some ((key, matched), rest))
-    (step : (d : Entries) (m : Member) (r : List ℕ) → entry_value_at value ≡ Some (m, r) → is_match name s m ≡ matched → P d → Q (with_value d key m)) where
-  record Entered : Type 0 where
-    member : Member
-    read : entry_at t ≡ Some ((key, member), rest)
-    says : Q (with_value so_far.held key member)
-
-  entered : Entered
-  entered =
-      let a = mapped (entry_matched name s) (entry_at t) ((key, matched), rest) entry in
-      let there = entry_there t a.0 key value a.1 key_is in
-      let ends : a.0.1 ≡ rest = ap (λ (x : (List ℕ × Bool) × List ℕ). x.1) a.2 in
-      let marks : is_match name s a.0.0.1 ≡ matched = ap (λ (x : (List ℕ × Bool) × List ℕ). x.0.1) a.2 in
-      record {
-        member = a.0.0.1;
-        read = a.1 ∙ ap (λ (l : List ℕ). Some ((l, a.0.0.1), a.0.1)) (sym there.0) ∙ ap (λ (r : List ℕ). Some ((key, a.0.0.1), r)) ends;
-        says = step so_far.held a.0.0.1 a.0.1 there.1 marks so_far.says;
-      }
+module _ (P Q : Entries → Type 0) (len i : ℕ) (t : List ℕ) (total : Option Entries) (lt : i < len) (so_far : EntriesSoFar P (len - i) t total)
+    (rest : List ℕ) (enters : Enters t rest P Q) where
+  abbrev entry : List ℕ × Member
+  entry = (enters.0, enters.1)
 
   pub entries_more : (u : List ℕ) → next_at rest ≡ Some (Some u) → EntriesSoFar Q (len - (i + 1)) u total
   entries_more u e = record {
-    held = with_value so_far.held key entered.member;
-    reads = members_more entry_at with_entry len i so_far.held t total lt so_far.reads (key, entered.member) rest entered.read u e;
-    says = entered.says;
+    held = with_value so_far.held enters.0 enters.1;
+    reads = members_more entry_at with_entry len i so_far.held t total lt so_far.reads entry rest enters.2 u e;
+    says = enters.3 so_far.held so_far.says;
   }
 
   pub entries_done : next_at rest ≡ Some None → (d : Entries) × (total ≡ Some d) × Q d
   entries_done e = (
-    with_value so_far.held key entered.member,
-    members_done entry_at with_entry len i so_far.held t total lt so_far.reads (key, entered.member)
-        rest entered.read e,
-    entered.says,
+    with_value so_far.held enters.0 enters.1,
+    members_done entry_at with_entry len i so_far.held t total lt so_far.reads entry rest enters.2 e,
+    enters.3 so_far.held so_far.says,
   )
 
   pub entries_refused : (e : FieldFault) → Fails e (next_at rest) → Fails e total
-  entries_refused e g = members_refused entry_at with_entry len i so_far.held t total lt so_far.reads (key, entered.member) rest entered.read e g
+  entries_refused e g = members_refused entry_at with_entry len i so_far.held t total lt so_far.reads entry rest enters.2 e g
 
--- ---- what is said of the matched ones
-
-module _ (name s : List ℕ) where
-  pub told_first : (key value : List ℕ) (d : Entries) (m : Member) (r : List ℕ) → entry_value_at value ≡ Some (m, r) → is_match name s m ≡ true
-      → matches_among name s d ≡ []
-      → (x : Member) × (rest : List ℕ) × (entry_value_at value ≡ Some (x, rest)) × (matches_among name s (with_value d key m) ≡ (key, x) ∷ [])
-  told_first key value d m r read matched none = (m, r, read, first_one name s d key m none matched)
-
--- ---- what is said of a key
-
-pub under_one : (d : Entries) (m : Member) (r value key : List ℕ) (k : List ℕ) → entry_value_at value ≡ Some (m, r) → bytes_eq key k ≡ true
-    → IsUnder (Some value) (value_at (with_value d key m) k)
-under_one d m r value key k read t =
-    (m, r, read, ap (value_at (with_value d key m)) (sym ((bytes_eq-Decides key k).0 t)) ∙ value_set d key m)
-
-pub under_other : (found : Option (List ℕ)) (d : Entries) (m : Member) (key k : List ℕ) → bytes_eq key k ≡ false → IsUnder found (value_at d k)
-    → IsUnder found (value_at (with_value d key m) k)
-under_other found d m key k t is = subst (IsUnder found) (sym (value_after d key m k (turned key k t))) is
-
--- ---- the bare item of a member
-
-pub inner_single : (t : List ℕ) (m : Member) (rest : List ℕ) → begins 40 t ≡ true → member_at t ≡ Some (m, rest) → None ≡ single_of m
-unfolding member_at
-inner_single t m rest h e =
-    let a = mapped (λ (x : InnerList × List ℕ). (Inner x.0, x.1)) (inner_at (drop 1 t)) (m, rest) (rw h at e) in
-    ap single_of (ap (λ (y : Member × List ℕ). y.0) a.2)
-
-item_read : (t : List ℕ) (m : Member) (rest : List ℕ) → begins 40 t ≡ false → member_at t ≡ Some (m, rest)
-    → (b : Bare × List ℕ) × (bare_at t ≡ Some b) × (Some b.0 ≡ single_of m)
-unfolding member_at item_at
-item_read t m rest h e =
-    let a = mapped (λ (x : Item × List ℕ). (Single x.0, x.1)) (item_at t) (m, rest) (rw h at e) in
-    let b = bind_some (bare_at t) (λ b. params_at b.1 >>= λ p. Some (record { bare = b.0; params = p.0 }, p.1)) a.0 a.1 in
-    let c = bind_some (params_at b.0.1) (λ p. Some (record { bare = b.0.0; params = p.0 }, p.1)) a.0 b.2 in
-    let made : Item × List ℕ = (record { bare = b.0.0; params = c.0.0 }, c.0.1) in
-    let is : made ≡ a.0 = some_is made a.0 c.2 in
-    (b.0, b.1, ap (λ (y : Item × List ℕ). Some y.0.bare) is ∙ ap single_of (ap (λ (y : Member × List ℕ). y.0) a.2))
-
-pub single_is : (t : List ℕ) (m : Member) (rest : List ℕ) (v : Bare) (r : List ℕ) → begins 40 t ≡ false → member_at t ≡ Some (m, rest) → bare_at t ≡ Some (v, r)
-    → Some v ≡ single_of m
-single_is t m rest v r h e read =
-    let a = item_read t m rest h e in
-    let found : Bare × List ℕ = (v, r) in
-    ap (λ (b : Bare × List ℕ). Some b.0) (some_is found a.0 (sym read ∙ a.1)) ∙ a.2
-
-pub single_there : (t : List ℕ) (m : Member) (rest : List ℕ) → begins 40 t ≡ false → member_at t ≡ Some (m, rest) → bare_at t ≡ None → ⊥
-single_there t m rest h e none = let a = item_read t m rest h e in absurd cc
-
-pub ruleset single_steps = (inner_single, single_is, single_there)
-
-pub entry_given : (t u : List ℕ) → begins 61 t ≡ true → u ≡ drop 1 t → entry_value_at t ≡ member_at u
-unfolding entry_value_at
-entry_given t u h is = rw (h, is) refl
-
-pub entry_true : (t : List ℕ) (m : Member) (rest : List ℕ) → begins 61 t ≡ false → entry_value_at t ≡ Some (m, rest) → Some (Boolean true) ≡ single_of m
-unfolding entry_value_at
-entry_true t m rest h e =
-    let a = mapped (λ (p : List (List ℕ × Bare) × List ℕ). (Single (record { bare = Boolean true; params = p.0 }), p.1)) (params_at t) (m, rest) (rw h at e) in
-    ap single_of (ap (λ (y : Member × List ℕ). y.0) a.2)
-
-pub ruleset single_entry_steps = (entry_given, entry_true)
-
--- ---- the bare item under a key, by the text of its member
-
-module _ (text key : List ℕ) where
-  abbrev found_in : Entries → Option Bare
-  found_in d = bare_found (value_at d key)
-
-  pub single_absent : (d : Entries) → dictionary_of text ≡ Some d → IsUnder None (value_at d key)
-      → option_map (λ d. bare_found (value_at d key)) (dictionary_of text) ≡ Some None
-  single_absent d reads none = ap (option_map found_in) reads ∙ ap (λ (o : Option Member). Some (bare_found o)) none
-
-  pub single_fails : (e : FieldFault) → Fails e (dictionary_of text) → Fails e (option_map (λ d. bare_found (value_at d key)) (dictionary_of text))
-  single_fails e h = fails_map found_in e (dictionary_of text) h
-
-  pub single_given : (r : Result (Option Bare) FieldFault) (value : List ℕ) (d : Entries) → dictionary_of text ≡ Some d → IsUnder (Some value) (value_at d key)
-      → ((m : Member) (rest : List ℕ) → entry_value_at value ≡ Some (m, rest) → IfOk r (λ o. o ≡ single_of m))
-      → ((m : Member) (rest : List ℕ) → entry_value_at value ≡ Some (m, rest) → r ≡ Err NotInGrammar → ⊥)
-      → Gives (λ o. o) r (option_map (λ d. bare_found (value_at d key)) (dictionary_of text))
-  single_given (Ok o) value d reads there ok err =
-      let is : Option Bare → Option (Option Bare) = λ x. Some x in
-      ap (option_map found_in) reads ∙ ap (λ (x : Option Member). Some (bare_found x)) there.3 ∙ ap is (sym (ok there.0 there.1 there.2))
-  single_given (Err OutOfMemory) value d reads there ok err = tt
-  single_given (Err NotInGrammar) value d reads there ok err = absurd (err there.0 there.1 there.2 refl)
+-- what stands under a key, by all entries
+pub found_is : (key : List ℕ) (found : Option Bare) (total : Option Entries) → (d : Entries) × (total ≡ Some d) × (found ≡ bare_found (value_at d key))
+    → option_map (λ d. bare_found (value_at d key)) total ≡ Some found
+found_is key found total h = ap (option_map (λ d. bare_found (value_at d key))) h.1 ∙ ap (λ (o : Option Bare). Some o) (sym h.2)

@@ -9,8 +9,8 @@ use Rattle.structured_fields.specs.declared.item.Member.TheVariants.{Item as Sin
 use Rattle.dictionary_lookup.specs.declared.lookup.Matched.{Matched}
 use Rattle.dictionary_lookup.specs.declared.lookup.Matched.TheVariants.{Nowhere, Once, Unsettled}
 use Rattle.structured_fields.specs.Letters.{is_token_start}
-use Rattle.structured_fields.specs.Named.{value_at}
-use Rattle.structured_fields.specs.Reading.{entry_value_at}
+use Rattle.structured_fields.specs.Named.{value_at, with_value}
+use Rattle.structured_fields.specs.Reading.{entry_at}
 use Rattle.structured_fields.specs.Strings.{are_strings, holds_string}
 
 -- what stands behind what was read
@@ -52,12 +52,6 @@ entry_matched name s e = ((e.0.0, is_match name s e.0.1), e.1)
 abbrev pub matches_among : List ℕ → List ℕ → List (List ℕ × Member) → List (List ℕ × Member)
 matches_among name s d = filter (λ e. is_match name s e.1) d
 
--- what was found of the entries that are such: none; one alone, by its key and the text of its member; or it is left open
-abbrev pub Tells : List ℕ → List ℕ → Matched → List (List ℕ × Member) → Type 0
-Tells name s Nowhere d = matches_among name s d ≡ []
-Tells name s (Once at) d = (m : Member) × (rest : List ℕ) × (entry_value_at at.value.now ≡ Some (m, rest)) × (matches_among name s d ≡ (at.key.now, m) ∷ [])
-Tells name s Unsettled d = Unit {0}
-
 -- ---- an inner list of Strings
 
 -- what is made of items, where all of them are Strings
@@ -81,6 +75,16 @@ abbrev pub strings_in : Member → Option InnerList
 strings_in (Inner list) = only_strings list.items (cut_list list)
 strings_in (Single item) = None
 
+-- what was read of items, of a list, of a member, with what stands behind it
+abbrev pub strings_read : List Item × List ℕ → Option (List Item) × List ℕ
+strings_read l = (only_strings l.0 (up_to_parameters l.0), l.1)
+
+abbrev pub list_read : List ℕ → List ℕ → InnerList × List ℕ → (Option InnerList × Bool) × List ℕ
+list_read name s l = ((only_strings l.0.items (cut_list l.0), holds_string s (value_at l.0.params name)), l.1)
+
+abbrev pub member_read : List ℕ → List ℕ → Member × List ℕ → (Option InnerList × Bool) × List ℕ
+member_read name s m = ((strings_in m.0, is_match name s m.0), m.1)
+
 -- ---- the bare item under a key
 
 -- the bare item of a member that is an item
@@ -92,7 +96,24 @@ abbrev pub bare_found : Option Member → Option Bare
 bare_found None = None
 bare_found (Some m) = single_of m
 
--- the text is that of this member, or there is none
-abbrev pub IsUnder : Option (List ℕ) → Option Member → Type 0
-IsUnder None o = o ≡ None
-IsUnder (Some value) o = (m : Member) × (rest : List ℕ) × (entry_value_at value ≡ Some (m, rest)) × (o ≡ Some m)
+-- what was read of an item, of a member, with what stands behind it
+abbrev pub bare_read : Item × List ℕ → Option Bare × List ℕ
+bare_read i = (Some i.0.bare, i.1)
+
+abbrev pub single_read : Member × List ℕ → Option Bare × List ℕ
+single_read m = (single_of m.0, m.1)
+
+-- ---- what is found in a dictionary
+
+abbrev pub Entries : Type 0
+Entries = List (List ℕ × Member)
+
+-- an entry is read, behind which this stands; and with it Q is so of all entries, where P is so of those before it
+abbrev pub Enters : List ℕ → List ℕ → (Entries → Type 0) → (Entries → Type 0) → Type 0
+Enters t rest P Q = (key : List ℕ) × (m : Member) × (entry_at t ≡ Some ((key, m), rest)) × ((d : Entries) → P d → Q (with_value d key m))
+
+-- what was found of the entries that are such: none; one alone, by its key and its list; or it is left open
+abbrev pub Tells : List ℕ → List ℕ → Matched → Entries → Type 0
+Tells name s Nowhere d = matches_among name s d ≡ []
+Tells name s (Once one) d = (m : Member) × (matches_among name s d ≡ (one.key.now, m) ∷ []) × (one.strings ≡ strings_in m)
+Tells name s Unsettled d = Unit {0}

@@ -158,7 +158,7 @@ pub(crate) fn params_matched<'a>(
 }
 
 #[tactic(auto, using(crate::proofs::Behind::params_steps))]
-fn behind_params(alloc: Global, bytes: &[u8]) -> Result<&[u8], FieldFault>
+pub(crate) fn behind_params(alloc: Global, bytes: &[u8]) -> Result<&[u8], FieldFault>
     ensures { Gives (λ r. r.now) result (rest_of (params_at bytes.now)) }
 {
     let (_, rest) = params_matched(alloc, bytes, b"", b"")?;
@@ -168,7 +168,7 @@ fn behind_params(alloc: Global, bytes: &[u8]) -> Result<&[u8], FieldFault>
 // ---- items, members
 
 #[tactic(auto, using(crate::proofs::Behind::item_steps))]
-fn behind_item(alloc: Global, bytes: &[u8]) -> Result<&[u8], FieldFault>
+pub(crate) fn behind_item(alloc: Global, bytes: &[u8]) -> Result<&[u8], FieldFault>
     ensures { Gives (λ r. r.now) result (rest_of (item_at bytes.now)) }
 {
     let rest = behind_bare(alloc, bytes)?;
@@ -196,7 +196,7 @@ fn behind_items(alloc: Global, bytes: &[u8]) -> Result<&[u8], FieldFault>
 
 // Whether the inner list behind a `(` has the parameter, and what stands behind it.
 #[tactic(auto, using(crate::proofs::Behind::inner_steps))]
-fn inner_matched<'a>(
+pub(crate) fn inner_matched<'a>(
     alloc: Global,
     bytes: &'a [u8],
     name: &[u8],
@@ -208,7 +208,7 @@ fn inner_matched<'a>(
     params_matched(alloc, rest, name, s)
 }
 
-#[tactic(auto, using(crate::proofs::Behind::member_steps))]
+#[tactic(auto, using(crate::proofs::Members::member_steps))]
 fn member_matched<'a>(
     alloc: Global,
     bytes: &'a [u8],
@@ -224,7 +224,7 @@ fn member_matched<'a>(
 }
 
 /// Whether the member behind a key is an inner list with this parameter, which is this String; and what stands behind it.
-#[tactic(auto, using(crate::proofs::Behind::entry_steps))]
+#[tactic(auto, using(crate::proofs::Members::entry_steps))]
 pub(crate) fn entry_value_matched<'a>(
     alloc: Global,
     bytes: &'a [u8],

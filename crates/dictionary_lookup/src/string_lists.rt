@@ -1,16 +1,16 @@
-//! Reading an inner list of Strings, up to the first item that is none, and keeping its items up to the first one that has parameters.
-ghost use Rattle.std.specs.Prelude.{◌≡◌, ℕ, ◌||◌, if◌then◌else◌, List, [], ◌∷◌, ◌++◌, Some, Err, IfOk, OnOk};
-ghost use Rattle.std.specs.Option.{option_map};
+//! Reading an inner list: whether it has a parameter, and its items up to the first one that has parameters, where all are Strings.
+ghost use Rattle.std.specs.Prelude.{◌≡◌, ◌&&◌, ◌||◌, if◌then◌else◌, [], ◌∷◌, ◌++◌, Some, None, Err, IfOk, OnOk};
+ghost use Rattle.std.specs.Option.{option_copied, option_map};
 ghost use Rattle.structured_fields.specs.declared.fault.FieldFault.TheVariants.{NotInGrammar as Refused};
-ghost use Rattle.structured_fields.specs.declared.item.Item.{Item as ItemValue};
-ghost use Rattle.structured_fields.specs.declared.item.InnerList.{InnerList as ListValue};
-ghost use Rattle.structured_fields.specs.declared.item.Member.{Member as MemberValue};
-ghost use Rattle.structured_fields.specs.Reading.{items_at, inner_at, entry_value_at};
-ghost use Rattle.dictionary_lookup.specs.Skipping.{only_strings, cut_list, has_parameters, strings_in, up_to_parameters};
+ghost use Rattle.structured_fields.specs.Reading.{Gives, items_at, inner_at};
+ghost use Rattle.structured_fields.specs.Strings.{holds_string, is_any_string};
+ghost use Rattle.dictionary_lookup.specs.Skipping.{strings_read, list_read, has_parameters};
 
 use std::alloc::Global;
 use structured_fields::front::{is_item_end, item_in, params_of, strip, without_spaces};
-use structured_fields::{FieldFault, InnerList, Item, Items, is_any_string};
+use structured_fields::{
+    Bare, FieldFault, InnerList, Item, Items, Params, is_any_string, is_string,
+};
 
 // Keeps one more item, unless one that has parameters was kept before; and whether one is kept now.
 fn keep(items: &mut Items, cut: bool, item: Item) -> Result<bool, FieldFault>
@@ -26,60 +26,67 @@ fn keep(items: &mut Items, cut: bool, item: Item) -> Result<bool, FieldFault>
     Ok(last)
 }
 
-// The items up to the first one that has parameters, and what stands behind the `)`. All items are read: None where one is no String, and what stands behind
-// that one isn't read.
-fn strings_of(alloc: Global, bytes: &[u8]) -> Result<Option<(Items, &[u8])>, FieldFault>
-    ensures ok { (items : List ItemValue) (rest : List ℕ) → items_at bytes.now ≡ Some (items, rest)
-        → IfOk result (λ o. option_map {U = List ItemValue × List ℕ} (λ x. (x.0, x.1.now)) o ≡ only_strings items (up_to_parameters items, rest)) }
-    ensures err { (items : List ItemValue) (rest : List ℕ) → items_at bytes.now ≡ Some (items, rest) → result ≡ Err Refused → ⊥ }
+// Whether all were Strings before, and the item is one.
+fn are_still_strings(strings: bool, item: &Item) -> bool
+    ensures { result ≡ (strings && is_any_string item.now.bare) }
+{
+    strings && is_any_string(&item.bare)
+}
+
+// The items up to the first one that has parameters, where all are Strings; and what stands behind the `)`. None where one is no String.
+fn strings_of(alloc: Global, bytes: &[u8]) -> Result<(Option<Items>, &[u8]), FieldFault>
+    ensures { Gives (λ x. (x.0, x.1.now)) result (option_map strings_read (items_at bytes.now)) }
 {
     let mut items = Items::new(alloc);
     let mut cut = false;
+    let mut strings = true;
     let mut left = bytes;
     for _ in 0..bytes.len() {
         let next = without_spaces(left);
         if let Some(after) = strip(b')', next) {
-            return Ok(Some((items, after)));
+            return Ok((strings.then_some(items), after));
         }
         let (item, rest) = item_in(alloc, next)?;
         if !is_item_end(rest) {
             return Err(FieldFault::NotInGrammar);
         }
-        if !is_any_string(&item.bare) {
-            return Ok(None);
-        }
+        strings = are_still_strings(strings, &item);
         cut = keep(&mut items, cut, item)?;
         left = rest;
     }
     Err(FieldFault::NotInGrammar)
 }
 
-// The inner list behind a `(`, with its items up to the first one that has parameters. None where an item is no String.
-fn inner_strings(alloc: Global, bytes: &[u8]) -> Result<Option<InnerList>, FieldFault>
-    ensures ok { (list : ListValue) (rest : List ℕ) → inner_at bytes.now ≡ Some (list, rest) → IfOk result (λ o. o ≡ only_strings list.items (cut_list list)) }
-    ensures err { (list : ListValue) (rest : List ℕ) → inner_at bytes.now ≡ Some (list, rest) → result ≡ Err Refused → ⊥ }
+/// Whether a parameter is there and is this String.
+pub fn holds_string(s: &[u8], v: Option<&Bare>) -> bool
+    ensures { result ≡ holds_string s.now (option_copied v.entry) }
 {
-    let Some((items, rest)) = strings_of(alloc, bytes)? else {
-        return Ok(None);
-    };
-    let (params, _) = params_of(alloc, rest)?;
-    Ok(Some(InnerList { items, params }))
+    match v {
+        Some(v) => is_string(s, v),
+        None => false,
+    }
 }
 
-/// The inner list of Strings that is the member at the front of a text behind a key (RFC 9651, section 4.2.2), with its items up to the first one that has
-/// parameters: those behind it are read and not kept. None where another member is there, or an item of the list is no String; what stands behind that item
-/// isn't read.
-///
-/// Errors: NotInGrammar only where no member is there. OutOfMemory may come in place of any answer.
-pub fn strings_behind(alloc: Global, value: &[u8]) -> Result<Option<InnerList>, FieldFault>
-    ensures ok { (m : MemberValue) (rest : List ℕ) → entry_value_at value.now ≡ Some (m, rest) → IfOk result (λ o. o ≡ strings_in m) }
-    ensures err { (m : MemberValue) (rest : List ℕ) → entry_value_at value.now ≡ Some (m, rest) → result ≡ Err Refused → ⊥ }
+// The list of items that are Strings.
+fn list_of(items: Option<Items>, params: Params) -> Option<InnerList>
+    ensures { result ≡ option_map (λ i. record { items = i; params = params }) items }
 {
-    let Some(member) = strip(b'=', value) else {
-        return Ok(None);
-    };
-    let Some(items) = strip(b'(', member) else {
-        return Ok(None);
-    };
-    inner_strings(alloc, items)
+    let items = items?;
+    Some(InnerList { items, params })
+}
+
+/// The inner list behind a `(`, with its items up to the first one that has parameters, or None where an item is no String; whether it has the parameter of
+/// this name, and that is this String; and what stands behind it.
+pub(crate) fn list_read<'a>(
+    alloc: Global,
+    bytes: &'a [u8],
+    name: &[u8],
+    s: &[u8],
+) -> Result<(Option<InnerList>, bool, &'a [u8]), FieldFault>
+    ensures { Gives (λ x. ((x.0, x.1), x.2.now)) result (option_map (list_read name.now s.now) (inner_at bytes.now)) }
+{
+    let (items, rest) = strings_of(alloc, bytes)?;
+    let (params, rest) = params_of(alloc, rest)?;
+    let matched = holds_string(s, params.get(name));
+    Ok((list_of(items, params), matched, rest))
 }

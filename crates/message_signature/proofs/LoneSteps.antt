@@ -21,7 +21,7 @@ use Rattle.message_signature.specs.declared.reading.ReadSignature.TheVariants.{A
 use Rattle.message_signature.specs.declared.tags.SignatureFields.{SignatureFields}
 use Rattle.message_signature.specs.Components.{field_value}
 use Rattle.message_signature.specs.Faults.{◌>>=◌, need, must, Fails}
-use Rattle.message_signature.specs.Lone.{read_tagged, bytes_in, formed, lone_seen, IsLone, IsRead, tagged_read}
+use Rattle.message_signature.specs.Lone.{read_tagged, bytes_in, formed, formed_strings, lone_seen, IsLone, IsRead, tagged_read}
 use Rattle.message_signature.specs.Verified.{Signature, is_well_formed, with_tag, signature_under, signature_fields, tagged_in, tagged, judged, verified}
 use Rattle.message_signature.specs.Marked.{judged_with_mark, id_and_mark, verified_marked}
 use Rattle.message_signature.proofs.CutLists.{cut_is_formed, judged_cut, marked_cut}
@@ -221,6 +221,24 @@ module _ (input signature tag : List ℕ) where
         → matches_among (codes "tag") tag d ≡ (label, m) ∷ [] → None ≡ strings_in m → read_tagged input signature tag ≡ Err Malformed
     malformed_once label (Single item) o h one none = absurd (never_single tag d label item one)
     malformed_once label (Inner list) o h one none = tagged_once label list o h one ∙ rw (no_strings list none) refl
+
+    -- by what was read of the list
+    module _ (label : List ℕ) (m : Member) (o : Option (List ℕ))
+        (bytes : need NotAField (option_map (signature_under label) (dictionary_of signature)) ≡ Ok o)
+        (once : matches_among (codes "tag") tag d ≡ (label, m) ∷ []) where
+      pub once_lone : (strings : Option InnerList) (one : LoneSignature) → strings ≡ strings_in m → formed_strings label strings o ≡ Ok (lone_seen label one)
+          → IsLone (read_tagged input signature tag) one
+      once_lone None one is h = absurd cc
+      once_lone (Some list) one is h =
+          let cut = cut_of m list is in
+          rw (tagged_once label cut.0 o bytes (once_is tag label d cut.0 m cut.1 once)) (formed_is label list cut.0 cut.2 cut.3 o one h)
+
+      pub once_refused : (strings : Option InnerList) (e : SigFault) → strings ≡ strings_in m → Fails e (formed_strings label strings o)
+          → Fails e (read_tagged input signature tag)
+      once_refused None e is h = subst (Fails e) (sym (malformed_once label m o bytes once is)) h
+      once_refused (Some list) e is h =
+          let cut = cut_of m list is in
+          once_fails label cut.0 o e bytes (once_is tag label d cut.0 m cut.1 once) (formed_fails label list cut.0 cut.2 cut.3 o e h)
 
 -- ---- by the fields of a message
 

@@ -32,6 +32,12 @@ formed label list o = do
   bytes ← need Malformed o
   Ok (record { label = label; list = list; bytes = bytes })
 
+-- the same of a list that is there where all its items are Strings
+abbrev pub formed_strings : List ℕ → Option InnerList → Option (List ℕ) → Result Signature SigFault
+formed_strings label strings o = do
+  list ← need Malformed strings
+  formed label list o
+
 -- a signature as the code holds it, which stands under a label
 abbrev pub lone_seen : List ℕ → LoneSignature → Signature
 lone_seen label one = record { label = label; list = one.list; bytes = one.bytes }

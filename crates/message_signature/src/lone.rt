@@ -3,19 +3,18 @@
 ghost use Rattle.std.specs.Prelude.{◌≡◌, ℕ, List, Some, codes, IfOk, IfErr, IfSome};
 ghost use Rattle.std.specs.Option.{option_map};
 ghost use Rattle.structured_fields.specs.declared.item.Member.{Member as MemberValue};
-ghost use Rattle.structured_fields.specs.Reading.{dictionary_of, entry_value_at};
-ghost use Rattle.dictionary_lookup.specs.Skipping.{Tells, strings_in};
+ghost use Rattle.structured_fields.specs.Reading.{dictionary_of};
+ghost use Rattle.dictionary_lookup.specs.Skipping.{Tells};
 ghost use Rattle.message_signature.specs.declared.fault.SigFault.TheVariants.{NotAField};
 ghost use Rattle.message_signature.specs.Faults.{Fails, Gives, need};
-ghost use Rattle.message_signature.specs.Lone.{IsLone, bytes_in, formed, lone_seen, read_tagged};
+ghost use Rattle.message_signature.specs.Lone.{IsLone, bytes_in, formed_strings, lone_seen, read_tagged};
 ghost use Rattle.message_signature.specs.Verified.{signature_under, tagged};
 
 use crate::fault::SigFault;
 use crate::tags::{is_well_formed, must, value_of};
 use bytes_and_lists::bytes::Bytes;
-use bytes_and_lists::memory::Mem;
 use bytes_and_lists::message::Message;
-use dictionary_lookup::{Matched, matching_list, single_under, strings_behind};
+use dictionary_lookup::{Matched, matching_list, single_under};
 use std::alloc::Global;
 use structured_fields::{Bare, FieldFault, InnerList};
 
@@ -57,20 +56,12 @@ fn bytes_under(alloc: Global, signature: &[u8], label: &[u8]) -> Result<Option<B
     }
 }
 
-// The inner list of Strings that is the member at the front of a text behind a label, up to the first String that has parameters.
-fn list_behind(alloc: Global, value: &[u8]) -> Result<Option<InnerList>, Mem>
-    ensures { (m : MemberValue) (rest : List ℕ) → entry_value_at value.now ≡ Some (m, rest) → IfOk result (λ o. o ≡ strings_in m) }
+fn formed(strings: Option<InnerList>, bytes: Option<Bytes>) -> Result<LoneSignature, SigFault>
+    ensures { (label : List ℕ) → Gives (lone_seen label) result (formed_strings label strings bytes) }
 {
-    match strings_behind(alloc, value) {
-        Ok(list) => Ok(list),
-        Err(FieldFault::OutOfMemory) => Err(Mem),
-        Err(FieldFault::NotInGrammar) => Ok(None),
-    }
-}
-
-fn formed(list: InnerList, bytes: Option<Bytes>) -> Result<LoneSignature, SigFault>
-    ensures { (label : List ℕ) → Gives (lone_seen label) result (formed label list bytes) }
-{
+    let Some(list) = strings else {
+        return Err(SigFault::Malformed);
+    };
     must(SigFault::Malformed, is_well_formed(&list))?;
     match bytes {
         Some(bytes) => Ok(LoneSignature { list, bytes }),
@@ -94,13 +85,10 @@ fn lone_in(
             bytes_under(alloc, signature, b"")?;
             Err(SigFault::NoTag)
         }
-        Matched::Once(at) => {
-            let bytes = bytes_under(alloc, signature, at.key)?;
-            let Some(list) = list_behind(alloc, at.value)? else {
-                return Err(SigFault::Malformed);
-            };
-            let one = formed(list, bytes)?;
-            Ok(Some(one))
+        Matched::Once(one) => {
+            let bytes = bytes_under(alloc, signature, one.key)?;
+            let lone = formed(one.strings, bytes)?;
+            Ok(Some(lone))
         }
     }
 }

@@ -2,7 +2,7 @@
 ghost use Rattle.std.specs.Prelude.{◌≡◌};
 ghost use Rattle.std.specs.Option.{option_copied};
 ghost use Rattle.structured_fields.specs.Reading.{dictionary_of};
-ghost use Rattle.structured_fields.specs.Strings.{is_any_string, are_strings, holds_string};
+ghost use Rattle.structured_fields.specs.Strings.{is_any_string, are_strings};
 ghost use Rattle.message_signature.specs.declared.fault.SigFault.TheVariants.{NoField, NotAField};
 ghost use Rattle.message_signature.specs.Components.{field_value, text_of};
 ghost use Rattle.message_signature.specs.Faults.{Gives, need, must};
@@ -13,10 +13,10 @@ use crate::components::{FieldValue, field_value};
 use crate::fault::SigFault;
 use bytes_and_lists::bytes::Bytes;
 use bytes_and_lists::message::Message;
+use dictionary_lookup::holds_string;
 use std::alloc::Global;
 use structured_fields::{
-    Bare, Dictionary, FieldFault, InnerList, Item, Items, Member, is_any_string, is_string,
-    read_dictionary,
+    Bare, Dictionary, FieldFault, InnerList, Item, Items, Member, is_any_string, read_dictionary,
 };
 
 /// The two fields of a message's signatures, as dictionaries.
@@ -76,15 +76,6 @@ pub fn signature_fields(alloc: Global, message: &Message) -> Result<SignatureFie
 }
 
 // ---- the signature with the tag
-
-fn holds_string(s: &[u8], v: Option<&Bare>) -> bool
-    ensures { result ≡ holds_string s.now (option_copied v.entry) }
-{
-    match v {
-        Some(v) => is_string(s, v),
-        None => false,
-    }
-}
 
 fn tagged_list<'a>(tag: &[u8], member: &'a Member) -> Option<&'a InnerList>
     ensures { option_copied result ≡ tagged_list tag.now member.now }
