@@ -1,12 +1,13 @@
 -- A step of the core over tables.
 use Rattle.std.proofs.Common.{ℕ, ◌≡◌, ◌<◌, ◌≤◌, ◌+◌, ◌^◌, max, Bool, true, false, List, length, refl, sym, ◌∙◌, ap, subst, arith}
-use Rattle.std.specs.Prelude.{nat_lt}
+use Rattle.std.specs.Prelude.{nat_lt, Result, Ok, Err, OnErr}
 use Rattle.std.specs.List.{count_by}
 use Rattle.std.proofs.lemmas.Bool.Decides.{nat_tests}
 use Rattle.histories.specs.History.{last_moment, notes_of, now as latest_of}
 use Rattle.histories.specs.Steps.{Answers, Lapses}
 use Rattle.gnap_model.specs.declared.objects.Setup.{Setup}
 use Rattle.gnap_model.specs.declared.calls.Call.{Call}
+use Rattle.gnap_model.specs.declared.calls.Reply.{Reply}
 use Rattle.gnap_model.specs.Notes.{Event}
 use Rattle.gnap_model.specs.Standing.{is_opening}
 use Rattle.gnap_tables.specs.Tables.{Tables, sweep, after_notes}
@@ -18,14 +19,16 @@ use Rattle.grant_machine.proofs.Weaker.{grant_legal}
 use Rattle.grant_states.specs.Grants.{StoredGrants}
 use Rattle.token_manager.specs.Tokens.{StoredTokens}
 use Rattle.table_core.specs.CallEffects.{ActsBy, HasRoom, tables_in, kept_in, moved}
+use Rattle.table_core.specs.OtherCalls.{LeadsTo}
 use Rattle.table_core.specs.StandsInTables.{StandsInTables}
 use Rattle.table_core.specs.declared.answered.Answered.{Answered}
 use Rattle.table_core.proofs.RowFacts.{KeepsRoom, room_of}
+use Rattle.table_core.proofs.Undrawn.{undrawn_of}
 
 few : FitFew GnapFits
 few call fits = fits.0
 
-abbrev kept_with : Tables → ℕ → ℕ → ℕ → Kept
+abbrev pub kept_with : Tables → ℕ → ℕ → ℕ → Kept
 kept_with tables next first latest = record { tables = tables; next = next; first = first; latest = latest }
 
 -- the tables that moved are those at the later moment
@@ -75,7 +78,7 @@ step_room rules grants after tokens issued next first latest later moment h stan
       approved = room.approved;
     }
 
-pub step_ok : (rules : Setup) (grants after : StoredGrants) (tokens issued : StoredTokens) (moved_tables : Tables) (next first latest later moment : ℕ)
+step_ok : (rules : Setup) (grants after : StoredGrants) (tokens issued : StoredTokens) (moved_tables : Tables) (next first latest later moment : ℕ)
     (draw : List ℕ) (call : Call) (answered : Answered) (h : List Event)
     → StandsInTables rules grants tokens next first latest h → GnapFits call → moment ≤ last_moment → later ≡ max latest moment
     → moved_tables ≡ moved latest moment (tables_in grants.rows tokens.rows)
@@ -101,6 +104,34 @@ step_ok rules grants after tokens issued moved_tables next first latest later mo
     answered.reply few stands.rows fit time told changed in
     record { reply_is = made.reply_is; stands_now = λ k. record { rows = made.stands_now k; doors = below } }
 
+pub step_led : (rules then_rules : Setup) (grants after : StoredGrants) (tokens issued : StoredTokens) (moved_tables : Tables)
+    (next first then_next then_first latest later then_latest moment : ℕ) (draw : List ℕ) (call : Call) (reply : Reply) (h : List Event)
+    → StandsInTables rules grants tokens next first latest h → GnapFits call → moment ≤ last_moment → later ≡ max latest moment
+    → moved_tables ≡ moved latest moment (tables_in grants.rows tokens.rows)
+    → LeadsTo rules draw call reply (kept_with moved_tables next first later) (kept_in after.rows issued.rows then_next then_first later)
+    → after.doors_below ≤ then_first → then_rules ≡ rules → then_latest ≡ later
+    → Answers (machine_of GnapFits) rules h moment draw call reply (StandsInTables then_rules after issued then_next then_first then_latest)
+step_led rules then_rules grants after tokens issued moved_tables next first then_next then_first latest later then_latest moment draw call reply h stands fit
+    time top went leads below same_rules same_latest =
+    let counts = leads.first in
+    rw (same_rules, same_latest, leads.next, leads.first, sym leads.replies)
+    (step_ok rules grants after tokens issued moved_tables next first latest later moment draw call leads.answered h stands fit time top went leads.acts
+    (omega (arith, below, counts)))
+
+-- the same of a call that neither opens nor draws
+pub step_told : (rules : Setup) (grants after : StoredGrants) (tokens issued : StoredTokens) (next first latest later moment : ℕ)
+    (draw : List ℕ) (call : Call) (reply : Reply) (h : List Event)
+    → StandsInTables rules grants tokens next first latest h → GnapFits call → moment ≤ last_moment → later ≡ max latest moment
+    → tables_in after.rows issued.rows ≡ moved latest moment (tables_in grants.rows tokens.rows) → after.doors_below ≡ grants.doors_below
+    → ActsBy (row_supply first (tables_in after.rows issued.rows) later draw) (row_action rules next (tables_in after.rows issued.rows) later call)
+    (tables_in after.rows issued.rows) (tables_in after.rows issued.rows) (undrawn_of reply)
+    → Answers (machine_of GnapFits) rules h moment draw call reply (StandsInTables rules after issued next first later)
+step_told rules grants after tokens issued next first latest later moment draw call reply h stands fit time top went same_doors acts =
+    let below = stands.doors in
+    step_led rules rules grants after tokens issued (tables_in after.rows issued.rows) next first next first latest later later moment draw call reply h stands
+    fit time top went (record { answered = undrawn_of reply; replies = refl; acts = acts; next = omega arith; first = omega arith })
+    (omega (arith, below, same_doors)) refl refl
+
 pub step_err : (rules : Setup) (grants after : StoredGrants) (tokens issued : StoredTokens) (moved_tables : Tables) (next first latest later moment : ℕ)
     (draw : List ℕ) (h : List Event)
     → StandsInTables rules grants tokens next first latest h → moment ≤ last_moment → later ≡ max latest moment
@@ -117,3 +148,21 @@ step_err rules grants after tokens issued moved_tables next first latest later m
       rows = lapses-by_rows GnapFits rules kept (kept_in after.rows issued.rows next first later) h moment draw few stands.rows (tt, tt) time changed k;
       doors = omega (arith, below, same_doors);
     }
+
+-- the same where nothing that is kept was changed since the time went on
+pub step_lapsed : (rules then_rules : Setup) (grants after : StoredGrants) (tokens issued : StoredTokens) (moved_tables : Tables)
+    (next first then_next then_first latest later then_latest moment : ℕ) (draw : List ℕ) (h : List Event)
+    → StandsInTables rules grants tokens next first latest h → moment ≤ last_moment → later ≡ max latest moment
+    → moved_tables ≡ moved latest moment (tables_in grants.rows tokens.rows)
+    → kept_in after.rows issued.rows then_next then_first later ≡ kept_with moved_tables next first later → after.doors_below ≡ grants.doors_below
+    → then_rules ≡ rules → then_latest ≡ later
+    → Lapses (machine_of GnapFits) rules h moment draw (StandsInTables then_rules after issued then_next then_first then_latest)
+step_lapsed rules then_rules grants after tokens issued moved_tables next first then_next then_first latest later then_latest moment draw h stands time top went
+    same same_doors same_rules same_latest =
+    rw (same_rules, same_latest, ap (λ (kept : Kept). kept.next) same, ap (λ (kept : Kept). kept.first) same)
+    (step_err rules grants after tokens issued moved_tables next first latest later moment draw h stands time top went (ap (λ (kept : Kept). kept.tables) same)
+    same_doors)
+
+pub on_err_always : {A E P : Type 0} (r : Result A E) → P → OnErr r P
+on_err_always (Ok x) is = tt
+on_err_always (Err e) is = is

@@ -102,3 +102,12 @@ told_from supply rules next server value server' value' now grants tokens names 
     (tables_in grants tokens) (undrawn_of reply)) (sym at)
     (told_as supply rules next server value now grants tokens names binding wanted reply are
     (named ∙ ap (λ (s : Text). server_names (key_of rules s)) same_server) by_row)
+
+-- a token is shown with those of its rights that the server serves
+pub shown : (names : List Text) (access rights : List Right) (key : Text) (row : TokenRow) (found : Option TokenRow) (judgement : Judged) → found ≡ Some row
+    → judgement ≡ Active → access ≡ served_part names rights → rights ≡ row.rights → key ≡ row.key
+    → ToldActive access row.issued row.until key row.bearer ≡ judged_reply names found judgement
+shown names access rights key row found judgement found_is active served same_rights same_key =
+    ap (λ (a : List Right). ToldActive a row.issued row.until key row.bearer) (served ∙ ap (served_part names) same_rights)
+    ∙ (ap (λ (k : Text). ToldActive (served_part names row.rights) row.issued row.until k row.bearer) same_key
+    ∙ (sym (ap (λ (f : Option TokenRow). judged_reply names f Active) found_is) ∙ sym (ap (judged_reply names found) active)))

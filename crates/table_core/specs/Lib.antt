@@ -8,5 +8,6 @@ pub mod Plans
 pub mod Fronts
 pub mod Continued
 pub mod Askings
+pub mod OtherCalls
 pub mod Planned
 pub mod Renumbered

@@ -1,14 +1,12 @@
 //! The answer to an introspection (RFC 9767, section 3.3).
 ghost use Rattle.std.specs.Prelude.{◌≡◌, ℕ, option_map, Some, IfOk};
 ghost use Rattle.gnap_model.specs.Rights.{served_part as part_served};
-ghost use Rattle.gnap_model.specs.declared.calls.Reply.TheVariants.{Active};
 ghost use Rattle.gnap_model.specs.Actions.{Supply};
 ghost use Rattle.gnap_model.specs.declared.calls.Call.TheVariants.{Introspect};
 ghost use Rattle.gnap_tables.specs.ActionsByRows.{row_action};
 ghost use Rattle.table_core.specs.CallEffects.{ActsBy, tables_in};
-ghost use Rattle.table_core.specs.Choices.{judged_reply, approved_of};
+ghost use Rattle.table_core.specs.Choices.{approved_of};
 
-use crate::answered::{Answered, undrawn};
 use access_rights::served::served_part;
 use bytes_and_lists::bytes::Bytes;
 use bytes_and_lists::memory::{Duplicate, Mem};
@@ -44,20 +42,6 @@ fn served_of(alloc: Global, names: &Names, rights: Rights) -> Result<Rights, Mem
     served_part(alloc, &rights, names)
 }
 
-// A token is shown with those of its rights that the server serves.
-fn shown(alloc: Global, names: &Names, row: &TokenRow, rights: Rights) -> Result<Reply, Mem>
-    requires { rights ≡ row.now.rights }
-    ensures { IfOk result (λ reply. reply ≡ Active (part_served names.now row.now.rights) row.now.issued row.now.until row.now.key row.now.bearer) }
-{
-    Ok(Reply::Active {
-        access: served_of(alloc, names, rights)?,
-        iat: row.issued,
-        exp: row.until,
-        instance: row.key.copy()?,
-        bearer: row.bearer,
-    })
-}
-
 // The grant of the row is approved.
 fn grant_approved(grants: &GrantTable, row: Option<&TokenRow>) -> bool
     ensures { result ≡ approved_of grants.now.rows (option_map (λ row. row.now) row.entry) }
@@ -65,29 +49,6 @@ fn grant_approved(grants: &GrantTable, row: Option<&TokenRow>) -> bool
     match row {
         Some(row) => grants.is_approved(row.grant),
         None => false,
-    }
-}
-
-// The reply by a judgement.
-fn reply_by(
-    alloc: Global,
-    names: &Names,
-    row: Option<&TokenRow>,
-    rights: Rights,
-    judged: Judged,
-) -> Result<Reply, Mem>
-    requires { (row_is : _) → option_map (λ row. row.now) row ≡ Some row_is → rights ≡ row_is.rights }
-    ensures { IfOk result (λ reply. reply ≡ judged_reply names.now (option_map (λ row. row.now) row.entry) judged) }
-{
-    match judged {
-        Judged::NotServed => Ok(Reply::Error {
-            code: ErrorCode::InvalidAccess,
-        }),
-        Judged::Inactive => Ok(Reply::Inactive),
-        Judged::Active => match row {
-            Some(row) => shown(alloc, names, row, rights),
-            None => Ok(Reply::Inactive),
-        },
     }
 }
 
@@ -102,11 +63,10 @@ pub fn introspect(
     value: &Bytes,
     binding: Option<Binding>,
     wanted: &Option<Rights>,
-) -> Result<Answered, Mem>
-    ensures few { IfOk result (λ answered. (answered.opened ≡ 0) × (answered.drawn ≡ 0)) }
-    ensures acts { IfOk result (λ answered. (next : ℕ) (supply : Supply) → supply.now ≡ now
+) -> Result<Reply, Mem>
+    ensures { IfOk result (λ reply. (next : ℕ) (supply : Supply) → supply.now ≡ now
         → ActsBy supply (row_action rules.now next (tables_in grants.now.rows tokens.now.rows) supply.now (Introspect server.now value.now binding wanted.now))
-        (tables_in grants.now.rows tokens.now.rows) (tables_in grants.now.rows tokens.now.rows) answered) }
+        (tables_in grants.now.rows tokens.now.rows) (tables_in grants.now.rows tokens.now.rows) (record { reply = reply; opened = 0; drawn = 0 })) }
 {
     // The count says that the rows stand in the order of their serials.
     let _count = tokens.len();
@@ -116,5 +76,27 @@ pub fn introspect(
     let approved = grant_approved(grants, row);
     let rights = rights_of(alloc, row)?;
     let judged = judge(row, &rights, approved, now, names, binding, wanted);
-    Ok(undrawn(reply_by(alloc, names, row, rights, judged)?))
+    // Each arm returns at once: a reply that arms have in common is copied.
+    match judged {
+        Judged::NotServed => {
+            return Ok(Reply::Error {
+                code: ErrorCode::InvalidAccess,
+            });
+        }
+        Judged::Inactive => return Ok(Reply::Inactive),
+        Judged::Active => match row {
+            Some(row) => {
+                let access = served_of(alloc, names, rights)?;
+                let instance = row.key.copy()?;
+                return Ok(Reply::Active {
+                    access,
+                    iat: row.issued,
+                    exp: row.until,
+                    instance,
+                    bearer: row.bearer,
+                });
+            }
+            None => return Ok(Reply::Inactive),
+        },
+    }
 }

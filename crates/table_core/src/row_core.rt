@@ -3,9 +3,10 @@ ghost use Rattle.std.specs.Prelude.{◌≡◌, ◌≢◌, ◌≤◌, ◌+◌, �
 ghost use Rattle.histories.specs.History.{last_moment};
 ghost use Rattle.gnap_model.specs.declared.calls.Call.TheVariants.{Lapse};
 ghost use Rattle.grant_machine.specs.Gnap.{GnapFits};
-ghost use Rattle.table_core.specs.CallEffects.{tables_in, moved, HasRoom, AnswersCall};
+ghost use Rattle.table_core.specs.CallEffects.{tables_in, kept_in, moved, HasRoom, AnswersCall};
 ghost use Rattle.table_core.specs.Frugal.{IsFrugal};
 ghost use Rattle.table_core.specs.Planned.{IsPlanned};
+ghost use Rattle.table_core.specs.OtherCalls.{IsNoIntrospection, LeadsTo};
 ghost use Rattle.table_core.specs.StandsInTables.{StandsInTables};
 ghost use Rattle.table_core.specs.Renumbered.{stands-renumbered};
 
@@ -82,7 +83,7 @@ fn answer_by_plan(
     carry_out(grants, tokens, next, supply.first, plan)
 }
 
-// Answers a call at the greatest moment so far. An `Err` changes no row.
+// Answers a call other than an introspection, at the greatest moment so far. An `Err` changes no row.
 fn answer_call(
     alloc: Global,
     rules: &Setup,
@@ -94,6 +95,7 @@ fn answer_call(
 ) -> Result<Answered, Mem>
     requires fits { GnapFits call.now }
     requires no_lapse { call.now ≢ Lapse }
+    requires no_introspection { IsNoIntrospection call.now }
     requires room { HasRoom next supply.now.first grants.old tokens.old }
     ensures ok { IfOk result (AnswersCall rules.now next supply.now call.now (tables_in grants.old.rows tokens.old.rows)
         (tables_in grants.new.rows tokens.new.rows)) }
@@ -104,22 +106,6 @@ fn answer_call(
     ensures frugal { IsFrugal call.now → IsOk result }
 {
     match call {
-        Call::Introspect {
-            server,
-            value,
-            binding,
-            wanted,
-        } => introspect(
-            alloc,
-            rules,
-            grants,
-            tokens,
-            supply.moment,
-            server,
-            value,
-            *binding,
-            wanted,
-        ),
         Call::Cancel { key, value } => Ok(cancel(grants, tokens, key, value)),
         Call::Revoke { key, value } => Ok(revoke(grants, tokens, key, value)),
         Call::Rotate {
@@ -127,7 +113,6 @@ fn answer_call(
             value,
             new_key,
         } => rotate(alloc, rules, grants, tokens, supply, key, value, new_key),
-        Call::Lapse => unreachable!(),
         _ => answer_by_plan(alloc, rules, supply, next, grants, tokens, call),
     }
 }
@@ -147,6 +132,42 @@ impl RowCore {
             grants: GrantTable::new(alloc),
             tokens: TokenTable::new(alloc),
         }
+    }
+
+    // Answers a call other than an introspection, at the greatest moment so far, and counts what it opens and draws. An `Err` changes nothing.
+    fn act(&mut self, draw: &RandomWords, call: &Call) -> Result<Reply, Mem>
+        requires fits { GnapFits call.now }
+        requires no_lapse { call.now ≢ Lapse }
+        requires no_introspection { IsNoIntrospection call.now }
+        requires room { HasRoom self.old.next self.old.first self.old.grants self.old.tokens }
+        ensures rules { self.new.rules ≡ self.old.rules }
+        ensures latest { self.new.latest ≡ self.old.latest }
+        ensures ok { IfOk result (λ reply. LeadsTo self.old.rules draw.now call.now reply
+            (kept_in self.old.grants.rows self.old.tokens.rows self.old.next self.old.first self.old.latest)
+            (kept_in self.new.grants.rows self.new.tokens.rows self.new.next self.new.first self.old.latest)
+            × (self.new.grants.doors_below ≤ self.new.first)) }
+        ensures err { OnErr result ((kept_in self.new.grants.rows self.new.tokens.rows self.new.next self.new.first self.old.latest
+            ≡ kept_in self.old.grants.rows self.old.tokens.rows self.old.next self.old.first self.old.latest)
+            × (self.new.grants.doors_below ≡ self.old.grants.doors_below)) }
+        ensures frugal { IsFrugal call.now → IsOk result }
+    {
+        let supply = Supply {
+            moment: self.latest,
+            first: self.first,
+            words: draw,
+        };
+        let answered = answer_call(
+            self.alloc,
+            &self.rules,
+            &supply,
+            self.next,
+            &mut self.grants,
+            &mut self.tokens,
+            call,
+        )?;
+        self.next += answered.opened;
+        self.first += answered.drawn;
+        Ok(answered.reply)
     }
 }
 
@@ -174,23 +195,27 @@ impl Core for RowCore {
     fn step(&mut self, moment: u64, draw: &RandomWords, call: &Call) -> Result<Reply, Mem> {
         advance(&mut self.grants, &mut self.tokens, self.latest, moment);
         self.latest = self.latest.max(moment);
-        let supply = Supply {
-            moment: self.latest,
-            first: self.first,
-            words: draw,
-        };
-        let answered = answer_call(
-            self.alloc,
-            &self.rules,
-            &supply,
-            self.next,
-            &mut self.grants,
-            &mut self.tokens,
-            call,
-        )?;
-        self.next += answered.opened;
-        self.first += answered.drawn;
-        Ok(answered.reply)
+        // An introspection is answered here, since its reply would else be copied with those of the other calls.
+        if let Call::Introspect {
+            server,
+            value,
+            binding,
+            wanted,
+        } = call
+        {
+            return introspect(
+                self.alloc,
+                &self.rules,
+                &self.grants,
+                &self.tokens,
+                self.latest,
+                server,
+                value,
+                *binding,
+                wanted,
+            );
+        }
+        self.act(draw, call)
     }
 
     ghost legal = { λ core h stands. stands.rows.is_legal };

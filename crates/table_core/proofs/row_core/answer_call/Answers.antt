@@ -1,26 +1,9 @@
-use Rattle.std.proofs.Common.{arith, ap, refl}
+use Rattle.std.proofs.Common.{arith, ap}
 use Rattle.std.proofs.lemmas.Result.{IfOk-weaker, on_err_weaker}
 use Rattle.gnap_tables.specs.ActionsByRows.{row_supply}
 use Rattle.table_core.specs.CallEffects.{tables_in}
 use Rattle.table_core.proofs.PlannedCalls.{planned_else, frugal_unplanned}
 use Rattle.table_core.proofs.row_core.answer_call.Goals as goal
-
-pub returns-in-Introspect-clause-ok : goal.returns-in-Introspect-clause-ok
-returns-in-Introspect-clause-ok c =
-    let supply = c.args.supply.now in
-    rw c.in-Introspect.is
-    (IfOk-weaker c.introspect.result _ _
-    (λ answered acts. acts c.args.next (row_supply supply.first (tables_in c.args.grants.now.rows c.args.tokens.now.rows) supply.moment supply.words.now)
-    refl)
-    c.introspect.ensures.acts)
-
-pub returns-in-Introspect-clause-doors : goal.returns-in-Introspect-clause-doors
-returns-in-Introspect-clause-doors c =
-    let below = c.requires.room.doors in
-    IfOk-weaker c.introspect.result _ _ (λ answered few. omega (arith, below)) c.introspect.ensures.few
-
-pub returns-in-Introspect-clause-few : goal.returns-in-Introspect-clause-few
-returns-in-Introspect-clause-few c = IfOk-weaker c.introspect.result _ _ (λ answered few. (omega (arith, few.0), omega (arith, few.1))) c.introspect.ensures.few
 
 pub returns-in-Cancel-clause-ok : goal.returns-in-Cancel-clause-ok
 returns-in-Cancel-clause-ok c =
@@ -53,10 +36,10 @@ returns-in-Rotate-clause-err c = on_err_weaker c.rotate.result (λ same. ap (tab
 
 pub answer_by_plan-requires-clause-planned : goal.answer_by_plan-requires-clause-planned
 answer_by_plan-requires-clause-planned c =
-    planned_else c.args.call.now c.in_default.not-Introspect c.in_default.not-Cancel c.in_default.not-Revoke c.in_default.not-Rotate c.requires.no_lapse
+    planned_else c.args.call.now c.requires.no_introspection c.in_default.not-Cancel c.in_default.not-Revoke c.in_default.not-Rotate c.requires.no_lapse
 
 pub returns-in_default-clause-frugal : goal.returns-in_default-clause-frugal
 returns-in_default-clause-frugal c = λ frugal.
     absurd (frugal_unplanned c.args.call.now
-    (planned_else c.args.call.now c.in_default.not-Introspect c.in_default.not-Cancel c.in_default.not-Revoke c.in_default.not-Rotate c.requires.no_lapse)
+    (planned_else c.args.call.now c.requires.no_introspection c.in_default.not-Cancel c.in_default.not-Revoke c.in_default.not-Rotate c.requires.no_lapse)
     frugal)
