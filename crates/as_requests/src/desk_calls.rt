@@ -1,10 +1,11 @@
 //! What a request asks of the authorization server.
-ghost use Rattle.std.specs.Prelude.{◌≡◌, IfOk, IsUtf8};
-ghost use Rattle.grant_machine.specs.Gnap.{MarkFits};
-ghost use Rattle.gnap_objects.specs.CallReading.{IsTaken, call_of};
-ghost use Rattle.as_requests.specs.Signers.{needs_mark, signer};
+ghost use Rattle.std.specs.Prelude.{◌≡◌, Ok, None, IfOk, IsUtf8};
+ghost use Rattle.std.specs.Result.{result_map_both};
+ghost use Rattle.gnap_objects.specs.CallReading.{IsTaken, call_of, stranger};
 ghost use Rattle.as_requests.specs.Presented.{presented_value};
-ghost use Rattle.as_requests.specs.DeskCalls.{message_body, step_of, signed_step, rotation_step, route_step, desk_call, IsAskable};
+ghost use Rattle.as_requests.specs.declared.desk_calls.RequestStep.TheVariants.{Direct};
+ghost use Rattle.as_requests.specs.declared.desk_calls.DirectAnswer.TheVariants as direct;
+ghost use Rattle.as_requests.specs.DeskCalls.{message_body, step_of, desk_call, IsAskable};
 
 use crate::authorization::presented_value;
 use crate::edge::Edge;
@@ -14,10 +15,11 @@ use crate::signers::{Signer, find_signer, needs_mark};
 use body_reading::BodyReader;
 use bytes_and_lists::memory::Mem;
 use bytes_and_lists::message::Message;
+use gnap_model::calls::Call;
 use gnap_objects::{BodyForm, CallKind, CallOrRefusal, ErrorCode, read_call, stranger};
 use json_objects::BodyFault;
 use message_signature::target_path;
-use signed_calls::signed::{Mark, Signed};
+use signed_calls::signed::Signed;
 use std::alloc::Global;
 
 /// An answer that needs no state.
@@ -44,17 +46,40 @@ pub enum RequestStep {
     Ask(Signed),
 }
 
-// A call is asked with the mark, and a refusal is answered by its code.
-fn step_of(mark: Option<Mark>, answer: CallOrRefusal) -> RequestStep
-    requires mark { MarkFits mark }
-    requires taken { IsTaken answer }
-    ensures step { result ≡ step_of mark answer }
-    ensures askable { IsAskable result }
+// A step that asks no call, or that memory ran out. All exits make it here: a function zeroes room for each step that it makes itself, whichever it answers.
+fn direct_step(answer: Result<DirectAnswer, Mem>) -> Result<RequestStep, Mem>
+    ensures { result ≡ result_map_both Direct (λ e. e) answer }
 {
     match answer {
-        CallOrRefusal::Accepted(call) => RequestStep::Ask(Signed { mark, call }),
-        CallOrRefusal::Refused(code) => RequestStep::Direct(DirectAnswer::Error(code)),
+        Ok(answer) => Ok(RequestStep::Direct(answer)),
+        Err(Mem) => Err(Mem),
     }
+}
+
+// An error that is answered at once.
+fn error_step(code: ErrorCode) -> Result<RequestStep, Mem>
+    ensures { result ≡ Ok (Direct (direct.Error code)) }
+{
+    direct_step(Ok(DirectAnswer::Error(code)))
+}
+
+// The refusal of one who isn't who such a call has to come from.
+fn stranger_step(kind: CallKind) -> Result<RequestStep, Mem>
+    ensures step { IfOk result (λ s. s ≡ step_of None (stranger kind)) }
+    ensures askable { IfOk result IsAskable }
+{
+    match stranger(kind) {
+        CallOrRefusal::Accepted(call) => Ok(RequestStep::Ask(Signed { mark: None, call })),
+        CallOrRefusal::Refused(code) => error_step(code),
+    }
+}
+
+// The step in place of a call that isn't asked. An exit that lets a call go writes its drop out, for each kind of call: `drop` is one call.
+fn step_without(call: Call, answer: Result<DirectAnswer, Mem>) -> Result<RequestStep, Mem>
+    ensures { result ≡ result_map_both Direct (λ e. e) answer }
+{
+    drop(call);
+    direct_step(answer)
 }
 
 // The call that the message makes under this key.
@@ -70,96 +95,25 @@ fn call_by(
     ensures call { IfOk result (λ c. c ≡ call_of edge.now kind key.now (presented_value message.now) (message_body message.now.body)) }
     ensures taken { IfOk result IsTaken }
 {
-    let value = presented_value(message);
-    if message.body.len() == 0 {
-        return read_call(alloc, edge.setup(), kind, key, value, BodyForm::Absent);
-    }
-    match bodies.read(alloc, message.body.as_slice()) {
-        Ok(object) => {
-            let body = BodyForm::Object(&object);
-            read_call(alloc, edge.setup(), kind, key, value, body)
-        }
-        Err(BodyFault::OutOfMemory) => Err(Mem),
-        Err(BodyFault::NotAnObject | BodyFault::Number) => {
-            read_call(alloc, edge.setup(), kind, key, value, BodyForm::NotOfForm)
-        }
-    }
-}
-
-// The call that the message makes, where its signer may make it.
-fn signed_step(
-    alloc: Global,
-    bodies: &mut BodyReader,
-    edge: &Edge,
-    kind: CallKind,
-    message: &Message,
-    moment: u64,
-) -> Result<RequestStep, Mem>
-    ensures step { IfOk result (λ s. s ≡ signed_step edge.now kind message.now (signer edge.now (needs_mark kind) message.now moment)) }
-    ensures askable { IfOk result IsAskable }
-{
-    match find_signer(alloc, edge, needs_mark(kind), message, moment)? {
-        None => Ok(step_of(None, stranger(kind))),
-        Some(Signer { key, mark }) => {
-            let call = call_by(alloc, bodies, edge, kind, key.as_slice(), message)?;
-            Ok(step_of(mark, call))
-        }
-    }
-}
-
-// The step, where it doesn't ask a rotation that names a key, or that key signed too.
-fn rotation_step(
-    alloc: Global,
-    edge: &Edge,
-    message: &Message,
-    moment: u64,
-    step: RequestStep,
-) -> Result<RequestStep, Mem>
-    requires { IsAskable step }
-    ensures step { IfOk result (λ s. s ≡ rotation_step edge.now message.now moment step) }
-    ensures askable { IfOk result IsAskable }
-{
-    match step {
-        RequestStep::Direct(answer) => Ok(RequestStep::Direct(answer)),
-        RequestStep::Ask(signed) => {
-            // An exit that lets a call go writes its drop out, for each kind of call: `drop` is one call.
-            match is_signed_by_named(alloc, edge, message, moment, &signed.call) {
-                Ok(true) => Ok(RequestStep::Ask(signed)),
-                Ok(false) => {
-                    drop(signed);
-                    let refusal = DirectAnswer::Error(ErrorCode::InvalidClient);
-                    Ok(RequestStep::Direct(refusal))
-                }
-                Err(Mem) => {
-                    drop(signed);
-                    Err(Mem)
-                }
-            }
-        }
-    }
-}
-
-// What the message asks of the route.
-fn route_step(
-    alloc: Global,
-    bodies: &mut BodyReader,
-    edge: &Edge,
-    route: Route,
-    message: &Message,
-    moment: u64,
-) -> Result<RequestStep, Mem>
-    ensures step { IfOk result (λ s. s ≡ route_step edge.now message.now moment (Some route)) }
-    ensures askable { IfOk result IsAskable }
-{
-    match route.purpose(message.method.as_slice()) {
-        None => Ok(RequestStep::Direct(DirectAnswer::NotAllowed(route))),
-        Some(Purpose::Discovery) => Ok(RequestStep::Direct(DirectAnswer::Discovery)),
-        Some(Purpose::RsDiscovery) => Ok(RequestStep::Direct(DirectAnswer::RsDiscovery)),
-        Some(Purpose::Calls(kind)) => {
-            let step = signed_step(alloc, bodies, edge, kind, message, moment)?;
-            rotation_step(alloc, edge, message, moment, step)
-        }
-    }
+    let read = if message.body.len() == 0 {
+        None
+    } else {
+        Some(bodies.read(alloc, message.body.as_slice()))
+    };
+    let body = match &read {
+        None => BodyForm::Absent,
+        Some(Ok(object)) => BodyForm::Object(object),
+        Some(Err(BodyFault::OutOfMemory)) => Err(Mem)?,
+        Some(Err(BodyFault::NotAnObject | BodyFault::Number)) => BodyForm::NotOfForm,
+    };
+    read_call(
+        alloc,
+        edge.setup(),
+        kind,
+        key,
+        presented_value(message),
+        body,
+    )
 }
 
 /// What the message asks of the authorization server at this moment, in seconds since 1970: the first of these that applies. `NotFound` where no route has
@@ -182,8 +136,28 @@ pub fn desk_call(
     ensures step { IfOk result (λ s. s ≡ desk_call edge.now message.now moment) }
     ensures askable { IfOk result IsAskable }
 {
-    match Route::at(target_path(message.target.as_slice())) {
-        None => Ok(RequestStep::Direct(DirectAnswer::NotFound)),
-        Some(route) => route_step(alloc, bodies, edge, route, message, moment),
+    let Some(route) = Route::at(target_path(message.target.as_slice())) else {
+        return direct_step(Ok(DirectAnswer::NotFound));
+    };
+    let kind = match route.purpose(message.method.as_slice()) {
+        Some(Purpose::Calls(kind)) => kind,
+        Some(Purpose::Discovery) => return direct_step(Ok(DirectAnswer::Discovery)),
+        Some(Purpose::RsDiscovery) => return direct_step(Ok(DirectAnswer::RsDiscovery)),
+        None => return direct_step(Ok(DirectAnswer::NotAllowed(route))),
+    };
+    let Some(Signer { key, mark }) = find_signer(alloc, edge, needs_mark(kind), message, moment)?
+    else {
+        return stranger_step(kind);
+    };
+    let call = match call_by(alloc, bodies, edge, kind, key.as_slice(), message) {
+        Ok(CallOrRefusal::Accepted(call)) => call,
+        Ok(CallOrRefusal::Refused(code)) => return error_step(code),
+        Err(Mem) => return direct_step(Err(Mem)),
+    };
+    match is_signed_by_named(alloc, edge, message, moment, &call) {
+        Ok(true) => {}
+        Ok(false) => return step_without(call, Ok(DirectAnswer::Error(ErrorCode::InvalidClient))),
+        Err(Mem) => return step_without(call, Err(Mem)),
     }
+    Ok(RequestStep::Ask(Signed { mark, call }))
 }
