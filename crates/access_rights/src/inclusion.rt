@@ -29,9 +29,9 @@ fn covers_right(granted: &Rights, wanted: &Right) -> bool
 {
     match wanted {
         Right::Reference(name) => has_reference(granted, name),
-        Right::Object(object) => match covers_by_masks(granted, object) {
+        Right::Object(object) => match covers_by_masks(granted, object.get()) {
             Some(covered) => covered,
-            None => covers_object(granted, object),
+            None => covers_object(granted, object.get()),
         },
     }
 }
@@ -160,6 +160,7 @@ fn right_has_parts(
     match right {
         Right::Reference(_) => false,
         Right::Object(own) => {
+            let own = own.get();
             is_of_kind(wanted, own)
                 && is_value(action, &own.actions)
                 && is_value(location, &own.locations)

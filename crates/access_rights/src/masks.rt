@@ -37,7 +37,7 @@ fn is_alike(wanted: &RightObject, right: &Right) -> bool
 {
     match right {
         Right::Reference(_) => false,
-        Right::Object(own) => is_of_kind(wanted, own),
+        Right::Object(own) => is_of_kind(wanted, own.get()),
     }
 }
 
@@ -46,7 +46,7 @@ fn has_value(right: &Right, dimension: Dimension, value: Option<&Bytes>) -> bool
 {
     match right {
         Right::Reference(_) => false,
-        Right::Object(own) => is_value(value, dimension.texts_in(own)),
+        Right::Object(own) => is_value(value, dimension.texts_in(own.get())),
     }
 }
 

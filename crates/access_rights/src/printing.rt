@@ -69,7 +69,7 @@ fn right_value(alloc: Global, right: &Right) -> Result<Value, Mem>
 {
     match right {
         Right::Reference(text) => text_value(alloc, text.as_slice()),
-        Right::Object(right) => object_value(alloc, right),
+        Right::Object(right) => object_value(alloc, right.get()),
     }
 }
 

@@ -15,6 +15,7 @@ use crate::further::further_of;
 use bytes_and_lists::bytes::Bytes;
 use bytes_and_lists::memory::Mem;
 use bytes_and_lists::seq::Seq;
+use gnap_model::boxed::Boxed;
 use gnap_model::rights::{Right, RightObject, Rights, Texts};
 use serde_json::{Map, Value};
 use std::alloc::Global;
@@ -227,7 +228,7 @@ fn right_of(alloc: Global, value: &Value) -> Result<Right, RightsFault>
     let Some(members) = value.as_object() else {
         return Err(RightsFault::Wrong);
     };
-    Ok(Right::Object(right_object_of(alloc, value, members)?))
+    Ok(Right::Object(Boxed::new(alloc, right_object_of(alloc, value, members)?)?))
 }
 
 fn each_right(alloc: Global, items: &Vec<Value>) -> Result<Rights, RightsFault>

@@ -28,7 +28,7 @@ fn name_of(right: &Right) -> &Bytes
 {
     match right {
         Right::Reference(name) => name,
-        Right::Object(object) => &object.kind,
+        Right::Object(object) => &object.get().kind,
     }
 }
 

@@ -54,7 +54,7 @@ pub fn right_size(right: &Right) -> usize
 {
     match right {
         Right::Reference(text) => text_size(text.as_slice()),
-        Right::Object(right) => object_size(right),
+        Right::Object(right) => object_size(right.get()),
     }
 }
 

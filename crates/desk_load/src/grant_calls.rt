@@ -6,6 +6,7 @@ use crate::setup::{reference_to, two_texts};
 use bytes_and_lists::bytes::Bytes;
 use bytes_and_lists::memory::Mem;
 use bytes_and_lists::seq::Seq;
+use gnap_model::boxed::Boxed;
 use gnap_model::calls::{Call, Reply, TokenOut};
 use gnap_model::objects::{Ask, GrantRequest};
 use itoa::Buffer;
@@ -102,7 +103,7 @@ pub fn opening_call(alloc: Global, grant: u32) -> Result<Signed, Mem>
     let key = Bytes::from_slice(alloc, b"c1")?;
     let call = Call::Begin {
         key,
-        request: photos_request(alloc)?,
+        request: Boxed::new(alloc, photos_request(alloc)?)?,
         not_after: None,
     };
     Ok(Signed {

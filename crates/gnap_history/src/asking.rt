@@ -55,7 +55,7 @@ pub fn pending(
 {
     let round = round(alloc, drawing, opening, modes)?;
     let door = drawing.value(0);
-    let reply = pending_reply(&round, drawing.moment, door, instance)?;
+    let reply = pending_reply(alloc, &round, drawing.moment, door, instance)?;
     let mut notes = before;
     notes.push(drawing.door(opening, door))?;
     notes.push(Note::Pended(round))?;

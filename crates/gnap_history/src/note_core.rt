@@ -64,7 +64,7 @@ fn answer_call(
             key,
             request,
             not_after,
-        } => begin(alloc, rules, drawing, key, request, *not_after),
+        } => begin(alloc, rules, drawing, key, request.get(), *not_after),
         Call::Continue {
             key,
             value,
@@ -74,7 +74,7 @@ fn answer_call(
             key,
             value,
             request,
-        } => modify(alloc, rules, drawing, key, value, request),
+        } => modify(alloc, rules, drawing, key, value, request.get()),
         Call::Cancel { key, value } => cancel(alloc, drawing, key, value),
         Call::Rotate {
             key,
@@ -90,7 +90,7 @@ fn answer_call(
         } => introspect(alloc, rules, drawing, server, value, *binding, wanted),
         Call::Look { front: _, handle } => look(alloc, drawing, handle),
         Call::FindCode { front: _, code } => Ok(find_code(alloc, drawing, code)),
-        Call::Decide { front: _, request } => decide(alloc, drawing, request),
+        Call::Decide { front: _, request } => decide(alloc, drawing, request.get()),
         Call::Lapse => unreachable!(),
     }
 }

@@ -21,6 +21,7 @@ use crate::introspections::read_introspect;
 use crate::user_codes::read_code;
 use bytes_and_lists::bytes::Bytes;
 use bytes_and_lists::memory::Mem;
+use gnap_model::boxed::Boxed;
 use gnap_model::calls::Call;
 use gnap_model::objects::{ErrorCode, KeyRow, Role, Setup};
 use serde_json::Value;
@@ -169,7 +170,7 @@ fn begin_by(alloc: Global, key: &[u8], body: &Value) -> Result<Call, NoCall>
     };
     Ok(Call::Begin {
         key,
-        request: body.request,
+        request: Boxed::new(alloc, body.request)?,
         not_after: None,
     })
 }
@@ -201,7 +202,7 @@ fn modify_by(alloc: Global, key: &[u8], value: &[u8], body: &Value) -> Result<Ca
     Ok(Call::Modify {
         key,
         value,
-        request: wanted.request,
+        request: Boxed::new(alloc, wanted.request)?,
     })
 }
 
@@ -302,6 +303,7 @@ fn decide_by(alloc: Global, key: &[u8], body: &Value) -> Result<Call, NoCall>
 {
     let request = read_decide(alloc, body)?;
     let front = Bytes::from_slice(alloc, key)?;
+    let request = Boxed::new(alloc, request)?;
     Ok(Call::Decide { front, request })
 }
 

@@ -81,7 +81,7 @@ fn print_body(alloc: Global, out: Printer, setup: &Setup, reply: &Reply) -> Prin
                 base,
                 setup.front.as_slice(),
                 door.as_slice(),
-                modes,
+                modes.get(),
                 handle.as_slice(),
                 code.as_slice(),
                 nonce.as_slice(),

@@ -9,10 +9,12 @@ pub use crate::supply::Supply;
 use bytes_and_lists::bytes::Bytes;
 use bytes_and_lists::memory::{Duplicate, Mem};
 use drawn_texts::value_text;
+use gnap_model::boxed::Boxed;
 use gnap_model::calls::{FinishOut, Reply};
 use gnap_model::notes::{RoundNote, TokenNote};
 use gnap_model::objects::{Finish, Modes};
 use gnap_model::rights::Rights;
+use std::alloc::Global;
 
 impl<'a> Supply<'a> {
     ghost use Rattle.gnap_model.specs.Values.{drawn};
@@ -106,6 +108,7 @@ impl<'a> Supply<'a> {
 
 /// The reply that the user is asked in this round, with a new continuation value (RFC 9635, sections 3.1 and 3.3).
 pub fn pending_reply(
+    alloc: Global,
     round: &RoundNote,
     now: u64,
     door: [u8; 32],
@@ -116,7 +119,7 @@ pub fn pending_reply(
 {
     Ok(Reply::Pending {
         door,
-        modes: round.modes.copy()?,
+        modes: Boxed::new(alloc, round.modes.copy()?)?,
         handle: round.handle,
         code: round.code.unwrap_or([0; 8]),
         nonce: round.nonce.unwrap_or([0; 32]),

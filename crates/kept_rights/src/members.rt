@@ -3,6 +3,7 @@ use crate::form::Form;
 use crate::lengths::byte_of;
 use bytes_and_lists::bytes::Bytes;
 use bytes_and_lists::memory::Mem;
+use gnap_model::boxed::Boxed;
 use gnap_model::objects::Ask;
 use gnap_model::rights::{Right, RightObject, Rights, Texts};
 use std::alloc::Global;
@@ -88,7 +89,7 @@ impl Form for Right {
             }
             Right::Object(object) => {
                 bytes.push(1)?;
-                object.put(bytes)
+                object.get().put(bytes)
             }
         }
     }
@@ -101,7 +102,7 @@ impl Form for Right {
             return Ok((Right::Reference(name), rest));
         }
         let (object, rest) = RightObject::read(alloc, rest)?;
-        Ok((Right::Object(object), rest))
+        Ok((Right::Object(Boxed::new(alloc, object)?), rest))
     }
 }
 

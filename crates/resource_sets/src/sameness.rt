@@ -59,7 +59,7 @@ impl Same for Right {
     fn is_same(&self, other: &Right) -> bool {
         match (self, other) {
             (Right::Reference(one), Right::Reference(two)) => one.is_same(two),
-            (Right::Object(one), Right::Object(two)) => one.is_same(two),
+            (Right::Object(one), Right::Object(two)) => one.get().is_same(two.get()),
             _ => false,
         }
     }

@@ -115,7 +115,7 @@ pub fn ask(
     ensures round { IfOk result (λ asking. asking.round ≡ round_row 0 None (begun_round entering.now number end modes.now)) }
 {
     let round = begin_round(entering, number, end, modes)?;
-    let reply = pending_reply(&round, entering.supply.moment, door, instance)?;
+    let reply = pending_reply(alloc, &round, entering.supply.moment, door, instance)?;
     match stored_round(alloc, round) {
         Ok(round) => Ok(Asking {
             reply,

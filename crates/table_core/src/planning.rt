@@ -38,7 +38,7 @@ pub fn plan_call(
             key,
             request,
             not_after,
-        } => begin(alloc, setup, entering, key, request, *not_after),
+        } => begin(alloc, setup, entering, key, request.get(), *not_after),
         Call::Continue {
             key,
             value,
@@ -48,10 +48,10 @@ pub fn plan_call(
             key,
             value,
             request,
-        } => modify(alloc, setup, entering, key, value, request),
+        } => modify(alloc, setup, entering, key, value, request.get()),
         Call::Look { front: _, handle } => look(alloc, entering, handle),
         Call::FindCode { front: _, code } => Ok(find_code(entering, code)),
-        Call::Decide { front: _, request } => decide(alloc, entering, request),
+        Call::Decide { front: _, request } => decide(alloc, entering, request.get()),
         _ => unreachable!(),
     }
 }

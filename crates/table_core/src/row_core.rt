@@ -184,7 +184,7 @@ impl Core for RowCore {
     /// its row is found: it gets what one run of ChaCha20 makes.
     fn words_to_make(call: &Call) -> usize {
         match call {
-            Call::Begin { request, .. } => 4 * request.asks.len().min(8) + 2,
+            Call::Begin { request, .. } => 4 * request.get().asks.len().min(8) + 2,
             Call::Continue { .. } | Call::Modify { .. } => 32,
             Call::Rotate { .. } => 4,
             Call::Decide { .. } => 2,

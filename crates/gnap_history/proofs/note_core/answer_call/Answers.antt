@@ -4,7 +4,7 @@ pub returns-in-Continue : goal.returns-in-Continue
 returns-in-Continue c = rw c.in-Continue.is c.continue_grant.ensures
 
 pub returns-in-Modify : goal.returns-in-Modify
-returns-in-Modify c = rw c.in-Modify.is c.modify.ensures
+returns-in-Modify c = rw (c.in-Modify.is, ← c.get-in-Modify.ensures) c.modify.ensures
 
 pub returns-in-Cancel : goal.returns-in-Cancel
 returns-in-Cancel c = rw c.in-Cancel.is c.cancel.ensures
@@ -25,4 +25,4 @@ pub returns-in-FindCode : goal.returns-in-FindCode
 returns-in-FindCode c = rw c.in-FindCode.is c.find_code.ensures
 
 pub returns-in-Decide : goal.returns-in-Decide
-returns-in-Decide c = rw c.in-Decide.is c.decide.ensures
+returns-in-Decide c = rw (c.in-Decide.is, ← c.get-in-Decide.ensures) c.decide.ensures

@@ -13,7 +13,7 @@ pub returns : goal.returns
 returns c =
     let round = c.args.round.now in
     rw (
-      c.in_ok-copy.ensures,
+      c.in_ok-new.ensures ∙ c.in_ok-copy.ensures,
       c.unwrap_or.ensures ∙ zeros_else 8 round.code,
       c.unwrap_or-2.ensures ∙ zeros_else 32 round.nonce,
       c.saturating_sub.ensures,
