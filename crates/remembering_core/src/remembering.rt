@@ -81,8 +81,9 @@ impl<C: Core<M = Grants> + Passes, N: Nonces> Core for Remembering<C, N> {
 
     fn step(&mut self, moment: u64, draw: &RandomWords, signed: &Signed) -> Result<Reply, Mem> {
         self.advance(moment);
+        // Each exit returns at once: a reply that they have in common is copied.
         match &signed.mark {
-            None => self.core.step(moment, draw, &signed.call),
+            None => return self.core.step(moment, draw, &signed.call),
             Some(mark) => {
                 let key = caller_of(&signed.call);
                 let until = mark.created + MARK_TIME;
@@ -98,13 +99,13 @@ impl<C: Core<M = Grants> + Passes, N: Nonces> Core for Remembering<C, N> {
                 match self.nonces.remember(key, &mark.nonce, until) {
                     Err(e) => {
                         self.core.pass(moment);
-                        Err(e)
+                        return Err(e);
                     }
                     Ok(()) => match self.core.step(moment, draw, &signed.call) {
-                        Ok(reply) => Ok(reply),
+                        Ok(reply) => return Ok(reply),
                         Err(e) => {
                             self.nonces.forget(key, &mark.nonce, until);
-                            Err(e)
+                            return Err(e);
                         }
                     },
                 }
