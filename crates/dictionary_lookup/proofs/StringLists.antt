@@ -9,10 +9,11 @@ use Rattle.structured_fields.specs.declared.fault.FieldFault.TheVariants.{NotInG
 use Rattle.structured_fields.specs.declared.item.Item.{Item}
 use Rattle.structured_fields.specs.declared.item.InnerList.{InnerList}
 use Rattle.structured_fields.specs.Named.{value_at}
-use Rattle.structured_fields.specs.Reading.{◌>>=◌, Fails, params_at, items_from, items_at, inner_at}
+use Rattle.structured_fields.specs.Reading.{◌>>=◌, Fails, params_at, item_at, items_from, items_at, inner_at}
 use Rattle.structured_fields.specs.Strings.{is_any_string, are_strings, holds_string}
 use Rattle.structured_fields.proofs.Fronts.{mapped}
-use Rattle.dictionary_lookup.specs.Skipping.{has_parameters, list_read, only_strings, strings_read, up_to_parameters}
+use Rattle.dictionary_lookup.specs.declared.string_lists.ItemsSoFar.{ItemsSoFar}
+use Rattle.dictionary_lookup.specs.Skipping.{has_parameters, list_read, only_strings, rest_of, strings_read, up_to_parameters, IsNext}
 use Rattle.dictionary_lookup.proofs.Behind.{fails_mapped}
 
 abbrev ItemsRead : Type 0
@@ -53,24 +54,21 @@ cut_more (h ∷ held) x = by (has_parameters h) (cut_more held x)
 
 -- ---- items
 
--- of the items that were read: what is kept, whether one of them has parameters, and whether all are Strings
-pub record StringsSoFar (n : ℕ) (kept : List Item) (cut strings : Bool) (left : List ℕ) (total : Option ItemsRead) : Type 0 where
+-- of the items that were read: whether all are Strings, and, while they are, what is kept and whether one of them has parameters
+pub record StringsSoFar (n : ℕ) (kept : List Item) (so_far : ItemsSoFar) (left : List ℕ) (total : Option ItemsRead) : Type 0 where
   pub held : List Item
   pub reads : items_from n held left ≡ total
-  pub kept_is : kept ≡ up_to_parameters held
-  pub cut_is : cut ≡ is_cut held
-  pub strings_is : strings ≡ are_strings held
+  pub strings_is : so_far.strings ≡ are_strings held
+  pub kept_is : so_far.strings ≡ true → kept ≡ up_to_parameters held
+  pub cut_is : so_far.strings ≡ true → so_far.cut ≡ is_cut held
 
-pub more_kept : (held kept more : List Item) (cut : Bool) (x : Item) → kept ≡ up_to_parameters held → cut ≡ is_cut held
-    → more ≡ cond cut kept (kept ++ x ∷ []) → more ≡ up_to_parameters (held ++ x ∷ [])
-more_kept held kept more cut x kept_is cut_is more_is = more_is ∙ rw (kept_is, cut_is) (sym (kept_more held x))
+both_true : (a b : Bool) → (a && b) ≡ true → a ≡ true
+both_true true b e = refl
+both_true false b e = e
 
-pub more_cut : (held : List Item) (cut now : Bool) (x : Item) → cut ≡ is_cut held → now ≡ (cut || has_parameters x) → now ≡ is_cut (held ++ x ∷ [])
-more_cut held cut now x cut_is now_is = now_is ∙ rw cut_is (sym (cut_more held x))
-
-pub more_strings : (held : List Item) (strings now : Bool) (x : Item) → strings ≡ are_strings held → now ≡ (strings && is_any_string x.bare)
+strings_more : (held : List Item) (strings now : Bool) (x : Item) → strings ≡ are_strings held → now ≡ (strings && is_any_string x.bare)
     → now ≡ are_strings (held ++ x ∷ [])
-more_strings held strings now x is now_is = now_is ∙ by strings (is_any_string x.bare) is refl
+strings_more held strings now x is now_is = now_is ∙ by strings (is_any_string x.bare) is refl
   where
     last : (a b : Bool) → (a && (b && true)) ≡ (a && b)
     last true true = refl
@@ -80,15 +78,46 @@ more_strings held strings now x is now_is = now_is ∙ by strings (is_any_string
     by : (a b : Bool) → a ≡ are_strings held → is_any_string x.bare ≡ b → (a && b) ≡ are_strings (held ++ x ∷ [])
     by a b h e = sym (list_all-append (λ (i : Item). is_any_string i.bare) held (x ∷ []) ∙ rw (← h, e) (last a b))
 
--- what is answered of them
-pub all_read : (held kept : List Item) (strings : Bool) (u v : List ℕ) (o : Option (List Item)) (total : Option ItemsRead) → total ≡ Some (held, drop 1 u)
-    → v ≡ drop 1 u → kept ≡ up_to_parameters held → strings ≡ are_strings held → (strings ≡ true → o ≡ Some kept)
-    → (strings ≡ false → o ≡ None) → option_map strings_read total ≡ Some (o, v)
-all_read held kept strings u v o total total_is v_is kept_is strings_is all_are one_is_not = rw (total_is, v_is) (by strings refl)
+-- and of one more
+pub one_more : (n m : ℕ) (kept now_kept : List Item) (before after : ItemsSoFar) (t rest : List ℕ) (total : Option ItemsRead) (item : Item)
+    → (so_far : StringsSoFar n kept before t total) → items_from m (so_far.held ++ item ∷ []) rest ≡ total
+    → IsNext before kept item after now_kept → StringsSoFar m now_kept after rest total
+one_more n m kept now_kept before after t rest total item so_far reads next = record {
+  held = so_far.held ++ item ∷ [];
+  reads = reads;
+  strings_is = strings_more so_far.held before.strings after.strings item so_far.strings_is next.strings;
+  kept_is = λ all. let were = both_true before.strings (is_any_string item.bare) (sym next.strings ∙ all) in
+      next.kept_is were ∙ rw (so_far.kept_is were, so_far.cut_is were) (sym (kept_more so_far.held item));
+  cut_is = λ all. let were = both_true before.strings (is_any_string item.bare) (sym next.strings ∙ all) in
+      next.cut were ∙ rw (so_far.cut_is were) (sym (cut_more so_far.held item));
+}
+
+-- an item is passed over
+pub is_passed : (before : ItemsSoFar) (kept : List Item) (t rest : List ℕ) → before.strings ≡ false → rest_of (item_at t) ≡ Some rest
+    → (item : Item) × (item_at t ≡ Some (item, rest)) × IsNext before kept item before kept
+is_passed before kept t rest one_is_not passes =
+    let there : (x : Item × List ℕ) × (item_at t ≡ Some x) × (x.1 ≡ rest) = mapped (λ (x : Item × List ℕ). x.1) (item_at t) rest passes in (
+      there.0.0,
+      there.1 ∙ ap (λ (r : List ℕ). Some (there.0.0, r)) there.2,
+      record {
+        strings = one_is_not ∙ rw one_is_not refl;
+        kept_is = λ were. absurd (false_true (sym one_is_not ∙ were));
+        cut = λ were. absurd (false_true (sym one_is_not ∙ were));
+      },
+    )
   where
-    by : (b : Bool) → strings ≡ b → Some (strings_read (held, drop 1 u)) ≡ Some (o, drop 1 u)
-    by true t = rw (sym strings_is, t, all_are t, kept_is) refl
-    by false t = rw (sym strings_is, t, one_is_not t) refl
+    false_true : false ≡ true → ⊥
+    false_true e = absurd cc
+
+-- what is answered of them
+pub all_read : (n : ℕ) (kept : List Item) (before : ItemsSoFar) (t u v : List ℕ) (o : Option (List Item)) (total : Option ItemsRead)
+    → (so_far : StringsSoFar n kept before t total) → total ≡ Some (so_far.held, drop 1 u)
+    → v ≡ drop 1 u → (before.strings ≡ true → o ≡ Some kept) → (before.strings ≡ false → o ≡ None) → option_map strings_read total ≡ Some (o, v)
+all_read n kept before t u v o total so_far total_is v_is all_are one_is_not = rw (total_is, v_is) (by before.strings refl)
+  where
+    by : (b : Bool) → before.strings ≡ b → Some (strings_read (so_far.held, drop 1 u)) ≡ Some (o, drop 1 u)
+    by true t = rw (sym so_far.strings_is, t, all_are t, so_far.kept_is t) refl
+    by false t = rw (sym so_far.strings_is, t, one_is_not t) refl
 
 -- ---- the inner list
 

@@ -1,17 +1,18 @@
 -- What is skipped in a text, and which members of a dictionary have a parameter with a given String.
-use Rattle.std.specs.Prelude.{◌≡◌, ℕ, nat_lt, Bool, false, if◌then◌else◌, List, [], ◌∷◌, filter, length, Option, Some, None, option_map}
+use Rattle.std.specs.Prelude.{◌≡◌, ℕ, nat_lt, Bool, true, false, ◌&&◌, ◌||◌, if◌then◌else◌, List, [], ◌∷◌, ◌++◌, filter, length, Option, Some, None, option_map}
 use Rattle.std.specs.Str.{bytes_eq}
 use Rattle.structured_fields.specs.declared.bare.Bare.{Bare}
 use Rattle.structured_fields.specs.declared.item.Item.{Item}
 use Rattle.structured_fields.specs.declared.item.InnerList.{InnerList}
 use Rattle.structured_fields.specs.declared.item.Member.{Member}
 use Rattle.structured_fields.specs.declared.item.Member.TheVariants.{Item as Single, Inner}
+use Rattle.dictionary_lookup.specs.declared.string_lists.ItemsSoFar.{ItemsSoFar}
 use Rattle.dictionary_lookup.specs.declared.lookup.Matched.{Matched}
 use Rattle.dictionary_lookup.specs.declared.lookup.Matched.TheVariants.{Nowhere, Once, Unsettled}
 use Rattle.structured_fields.specs.Letters.{is_token_start}
 use Rattle.structured_fields.specs.Named.{value_at, with_value}
 use Rattle.structured_fields.specs.Reading.{entry_at}
-use Rattle.structured_fields.specs.Strings.{are_strings, holds_string}
+use Rattle.structured_fields.specs.Strings.{are_strings, holds_string, is_any_string}
 
 -- what stands behind what was read
 abbrev pub rest_of : {A : Type 0} → Option (A × List ℕ) → Option (List ℕ)
@@ -65,6 +66,12 @@ has_parameters item = nat_lt 0 (length item.params)
 abbrev pub up_to_parameters : List Item → List Item
 up_to_parameters [] = []
 up_to_parameters (item ∷ items) = item ∷ (if has_parameters item then [] else up_to_parameters items)
+
+-- one item more: whether all are Strings, and, while they are, what is kept of them and whether one has parameters
+pub record IsNext (before : ItemsSoFar) (kept : List Item) (item : Item) (after : ItemsSoFar) (kept_now : List Item) : Type 0 where
+  pub strings : after.strings ≡ (before.strings && is_any_string item.bare)
+  pub kept_is : before.strings ≡ true → kept_now ≡ (if before.cut then kept else kept ++ item ∷ [])
+  pub cut : before.strings ≡ true → after.cut ≡ (before.cut || has_parameters item)
 
 -- the inner list of those items, with its own parameters
 abbrev pub cut_list : InnerList → InnerList

@@ -1,11 +1,13 @@
 //! Reading an inner list: whether it has a parameter, and its items up to the first one that has parameters, where all are Strings.
-ghost use Rattle.std.specs.Prelude.{◌≡◌, ◌&&◌, ◌||◌, if◌then◌else◌, [], ◌∷◌, ◌++◌, Some, None, Err, IfOk, OnOk};
+ghost use Rattle.std.specs.Prelude.{◌≡◌, ◌||◌, if◌then◌else◌, [], ◌∷◌, ◌++◌, Some, None, Err, IfOk, IfErr, OnOk};
 ghost use Rattle.std.specs.Option.{option_copied, option_map};
 ghost use Rattle.structured_fields.specs.declared.fault.FieldFault.TheVariants.{NotInGrammar as Refused};
-ghost use Rattle.structured_fields.specs.Reading.{Gives, items_at, inner_at};
-ghost use Rattle.structured_fields.specs.Strings.{holds_string, is_any_string};
-ghost use Rattle.dictionary_lookup.specs.Skipping.{strings_read, list_read, has_parameters};
+ghost use Rattle.structured_fields.specs.declared.item.Item.{Item as ItemValue};
+ghost use Rattle.structured_fields.specs.Reading.{Fails, Gives, item_at, items_at, inner_at};
+ghost use Rattle.structured_fields.specs.Strings.{holds_string};
+ghost use Rattle.dictionary_lookup.specs.Skipping.{strings_read, list_read, has_parameters, IsNext};
 
+use crate::skipping::behind_item;
 use std::alloc::Global;
 use structured_fields::front::{is_item_end, item_in, params_of, strip, without_spaces};
 use structured_fields::{
@@ -26,11 +28,30 @@ fn keep(items: &mut Items, cut: bool, item: Item) -> Result<bool, FieldFault>
     Ok(last)
 }
 
-// Whether all were Strings before, and the item is one.
-fn are_still_strings(strings: bool, item: &Item) -> bool
-    ensures { result ≡ (strings && is_any_string item.now.bare) }
+// What is so of the items so far: all are Strings, and one of them has parameters.
+#[derive(Clone, Copy)]
+struct ItemsSoFar {
+    strings: bool,
+    cut: bool,
+}
+
+// Goes past one item, which is kept while all are Strings. Once one is not, none is kept and none is read: a stranger's list may have thousands.
+fn next_item<'a>(
+    alloc: Global,
+    items: &mut Items,
+    so_far: ItemsSoFar,
+    bytes: &'a [u8],
+) -> Result<(ItemsSoFar, &'a [u8]), FieldFault>
+    ensures ok { IfOk result (λ x. (item : ItemValue) × (item_at bytes.now ≡ Some (item, x.1.now)) × IsNext so_far items.old item x.0 items.new) }
+    ensures err { IfErr result (λ e. Fails e (item_at bytes.now)) }
 {
-    strings && is_any_string(&item.bare)
+    if !so_far.strings {
+        return Ok((so_far, behind_item(alloc, bytes)?));
+    }
+    let (item, rest) = item_in(alloc, bytes)?;
+    let strings = is_any_string(&item.bare);
+    let cut = keep(items, so_far.cut, item)?;
+    Ok((ItemsSoFar { strings, cut }, rest))
 }
 
 // The items up to the first one that has parameters, where all are Strings; and what stands behind the `)`. None where one is no String.
@@ -38,20 +59,21 @@ fn strings_of(alloc: Global, bytes: &[u8]) -> Result<(Option<Items>, &[u8]), Fie
     ensures { Gives (λ x. (x.0, x.1.now)) result (option_map strings_read (items_at bytes.now)) }
 {
     let mut items = Items::new(alloc);
-    let mut cut = false;
-    let mut strings = true;
+    let mut so_far = ItemsSoFar {
+        strings: true,
+        cut: false,
+    };
     let mut left = bytes;
     for _ in 0..bytes.len() {
         let next = without_spaces(left);
         if let Some(after) = strip(b')', next) {
-            return Ok((strings.then_some(items), after));
+            return Ok((so_far.strings.then_some(items), after));
         }
-        let (item, rest) = item_in(alloc, next)?;
+        let (now, rest) = next_item(alloc, &mut items, so_far, next)?;
         if !is_item_end(rest) {
             return Err(FieldFault::NotInGrammar);
         }
-        strings = are_still_strings(strings, &item);
-        cut = keep(&mut items, cut, item)?;
+        so_far = now;
         left = rest;
     }
     Err(FieldFault::NotInGrammar)

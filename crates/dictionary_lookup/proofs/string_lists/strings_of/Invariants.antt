@@ -4,4 +4,4 @@ use Rattle.dictionary_lookup.proofs.StringLists.{StringsSoFar}
 use Rattle.dictionary_lookup.proofs.string_lists.strings_of.Given as goal
 
 abbrev pub invariant-loop : goal.invariant-loop
-invariant-loop l = StringsSoFar (length l.bytes - l.counter) l.items l.cut l.strings l.left (items_at l.bytes)
+invariant-loop l = StringsSoFar (length l.bytes - l.counter) l.items l.so_far l.left (items_at l.bytes)
