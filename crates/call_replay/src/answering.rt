@@ -14,7 +14,6 @@ use gnap_model::objects::Setup;
 use grant_machine::Gnap;
 use histories::machine::Desk;
 use outside::device::Sink;
-use random_words::RandomWords;
 use std::alloc::Global;
 
 /// Answers the line of this number, of which at most one byte more than a call line may have is looked at.
@@ -39,20 +38,20 @@ pub fn answer_line<D: Desk<M = Gnap>, O: Sink>(
     match line_step(alloc, setup, number, line.as_slice()) {
         Err(Mem) => After::Starved,
         Ok(LineStep::Say(text)) => say(out, &text),
-        Ok(LineStep::Ask(moment, draw, signed)) => match desk.submit(
-            moment,
-            &RandomWords::given(draw),
-            signed,
-        ) {
-            Err(Mem) => After::Starved,
-            Ok(reply) => {
-                let text = reply_line(alloc, setup, &reply);
-                drop(reply);
-                match text {
-                    Err(Mem) => After::Starved,
-                    Ok(text) => say(out, &text),
+        Ok(LineStep::Ask(moment, draw, signed)) => {
+            let answer = desk.submit(moment, &draw, signed);
+            drop(draw);
+            match answer {
+                Err(Mem) => After::Starved,
+                Ok(reply) => {
+                    let text = reply_line(alloc, setup, &reply);
+                    drop(reply);
+                    match text {
+                        Err(Mem) => After::Starved,
+                        Ok(text) => say(out, &text),
+                    }
                 }
             }
-        },
+        }
     }
 }

@@ -17,6 +17,7 @@ use bytes_and_lists::bytes::Bytes;
 use bytes_and_lists::memory::Mem;
 use gnap_objects::{BodyForm, CallKind, CallOrRefusal, ErrorCode, Setup, read_call};
 use json_objects::{has_fraction, member, member_within};
+use random_words::RandomWords;
 use serde_json::Value;
 use signed_calls::signed::Signed;
 use std::alloc::Global;
@@ -32,7 +33,7 @@ pub enum LineStep {
     /// This is said at once.
     Say(Bytes),
     /// The moment, in seconds since 1970, the words that are drawn, and the call as it is signed.
-    Ask(u64, [u64; 48], Signed),
+    Ask(u64, RandomWords, Signed),
 }
 
 /// The moment that a value is, in seconds since 1970.
@@ -152,7 +153,7 @@ fn call_step(
     alloc: Global,
     setup: &Setup,
     fields: MarkFields<'_>,
-    draw: [u64; 48],
+    draw: RandomWords,
     kind: Option<CallKind>,
     key: &str,
     presented: &str,
@@ -210,6 +211,7 @@ fn object_step(alloc: Global, setup: &Setup, number: u64, value: &Value) -> Resu
     let Some(draw) = draw_of(value) else {
         return refused(alloc, ErrorCode::InvalidRequest);
     };
+    let draw = RandomWords::given(alloc, draw)?;
     if !has_body_form(value) {
         return refused(alloc, ErrorCode::InvalidRequest);
     }

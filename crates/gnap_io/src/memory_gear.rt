@@ -27,9 +27,8 @@ pub struct MemGear {
     at_moment: usize,
     moment: u64,
     given: Log<u64, ()>,
-    draws: Vec<[u64; 48]>,
-    at_draw: usize,
-    drawn: Log<[u64; 48], ()>,
+    draws: Vec<RandomWords>,
+    drawn: Log<RandomWords, ()>,
 }
 
 impl Model for MemGear {
@@ -48,7 +47,7 @@ impl Model for MemGear {
       moments = drop gear.at_moment gear.moments.items;
       moment = gear.moment;
       given = map (λ pair. pair.0) gear.given.items;
-      draws = drop gear.at_draw gear.draws.items;
+      draws = gear.draws.items;
       drawn = map (λ pair. pair.0) gear.drawn.items;
     } };
 
@@ -62,7 +61,7 @@ impl MemGear {
     pub fn new(
         conns: Vec<MemConn>,
         moments: Vec<u64>,
-        draws: Vec<[u64; 48]>,
+        draws: Vec<RandomWords>,
         bad_accepts: Vec<u64>,
     ) -> Result<MemGear, Mem>
         requires unused { All IsUnusedConn conns.items }
@@ -82,7 +81,6 @@ impl MemGear {
             moment: 0,
             given: Log::new(),
             draws,
-            at_draw: 0,
             drawn: Log::new(),
         })
     }
@@ -165,13 +163,13 @@ impl Draws for MemGear {
         ensures draw { result ≡ next_draw self.old }
         ensures exact { self.new ≡ gear_drawn self.old }
     {
-        let mut words = [0; 48];
-        if self.at_draw < self.draws.len() {
-            words = self.draws[self.at_draw];
-            self.at_draw += 1;
-        }
+        let words = if self.draws.is_empty() {
+            RandomWords::zeros()
+        } else {
+            self.draws.remove(0)
+        };
         self.drawn = self.drawn.and(&words, &());
-        RandomWords::given(words)
+        words
     }
 }
 

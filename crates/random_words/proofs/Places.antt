@@ -58,12 +58,12 @@ first_words-length zero g = refl
 first_words-length (suc n) g = ap suc (first_words-length n (next_of g).1)
 
 -- a word more
-pub one_made : (words : List ℕ) (i word : ℕ) (g before after : ChaCha) → i < 48 → length words ≡ 48 → before ≡ after_words i g
+pub one_made : (words : List ℕ) (i word : ℕ) (g before after : ChaCha) → i < 16 → length words ≡ 16 → before ≡ after_words i g
     → (word, after) ≡ next_of before → take i words ≡ take i (draw_from g) → take (i + 1) (set words i word) ≡ take (i + 1) (draw_from g)
 one_made words i word g before after few many there next so_far =
     let here : word ≡ slice_index (draw_from g) i =
-    ap (λ (p : ℕ × ChaCha). p.0) next ∙ ap (λ b. (next_of b).0) there ∙ sym (word_there 48 i g few) in
+    ap (λ (p : ℕ × ChaCha). p.0) next ∙ ap (λ b. (next_of b).0) there ∙ sym (word_there 48 i g (omega (arith, few))) in
     take_more_set words i word (omega (arith, few, many))
     ∙ ap (λ l. l ++ word ∷ []) so_far
     ∙ ap (λ w. take i (draw_from g) ++ w ∷ []) here
-    ∙ sym (take_more (draw_from g) i 0 (subst (λ n. i < n) (sym (first_words-length 48 g)) few))
+    ∙ sym (take_more (draw_from g) i 0 (subst (λ n. i < n) (sym (first_words-length 48 g)) (omega (arith, few))))

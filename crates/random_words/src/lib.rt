@@ -8,4 +8,4 @@ mod word_stream;
 mod words;
 
 pub use word_stream::WordStream;
-pub use words::RandomWords;
+pub use words::{MOST_MADE, RandomWords};

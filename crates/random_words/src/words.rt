@@ -1,37 +1,42 @@
 //! The words of one entry.
-ghost use Rattle.std.specs.Prelude.{◌≡◌, ◌<◌, ◌≤◌, slice_index, IfSome};
+ghost use Rattle.std.specs.Prelude.{◌≡◌, ◌<◌, ◌≤◌, slice_index, replicate, IfOk, IfSome};
 ghost use Rattle.random_words.specs.Draws.{draw_from};
 
 use crate::word_stream::WordStream;
+use bytes_and_lists::memory::Mem;
 use rand_core::utils::next_u64_via_u32;
+use std::alloc::Global;
 use std::marker::Model;
+
+/// So many of the 48 words are made ahead at most. They are moved with a call, and few calls look at more.
+pub const MOST_MADE: usize = 16;
 
 // Words of a stream, the first ones of which are made.
 #[derive(Drop)]
 struct Begun {
-    words: [u64; 48],
+    words: [u64; MOST_MADE],
     made: usize,
     stream: WordStream,
 }
 
 impl Model for Begun {
-    ghost use Rattle.std.specs.Prelude.{◌≡◌, ℕ, List, take};
+    ghost use Rattle.std.specs.Prelude.{◌≡◌, ◌≤◌, ℕ, List, take};
     ghost use Rattle.random_words.specs.Draws.{draw_from};
 
     ghost Value = { List ℕ };
 
     ghost view = { λ b. draw_from b.stream };
 
-    ghost invariant = { λ b. take b.made b.words ≡ take b.made (draw_from b.stream) };
+    ghost invariant = { λ b. (b.made ≤ 16) × (take b.made b.words ≡ take b.made (draw_from b.stream)) };
 }
 
 impl Begun {
     // With so many words made.
     fn of(stream: WordStream, made: usize) -> Begun
-        requires { made ≤ 48 }
+        requires { made ≤ 16 }
         ensures { result ≡ draw_from stream }
     {
-        let mut words = [0; 48];
+        let mut words = [0; MOST_MADE];
         let mut generator = stream.generator(0);
         for i in 0..made {
             words[i] = next_u64_via_u32(&mut generator);
@@ -66,7 +71,8 @@ fn word_of(stream: &WordStream, place: usize) -> u64
 // Where the words are.
 #[derive(Drop)]
 enum Source {
-    Given([u64; 48]),
+    Zeros,
+    Given(Box<[u64; 48]>),
     Ahead(WordStream),
     Begun(Begun),
 }
@@ -87,13 +93,22 @@ impl Model for RandomWords {
 }
 
 impl RandomWords {
-    /// These words.
-    pub fn given(words: [u64; 48]) -> RandomWords
-        ensures { result ≡ words }
+    /// 48 zeros.
+    pub fn zeros() -> RandomWords
+        ensures { result ≡ replicate 48 0 }
     {
         RandomWords {
-            source: Source::Given(words),
+            source: Source::Zeros,
         }
+    }
+
+    /// These words, in memory of their own.
+    pub fn given(alloc: Global, words: [u64; 48]) -> Result<RandomWords, Mem>
+        ensures { IfOk result (λ given. given ≡ words) }
+    {
+        Ok(RandomWords {
+            source: Source::Given(Box::new(alloc, words)?),
+        })
     }
 
     // The words that come next in a stream, none of them made.
@@ -105,15 +120,15 @@ impl RandomWords {
         }
     }
 
-    /// The same words with so many made, from the first one on. `None` says that there is nothing to make: the count is 0, or they aren't words of a stream, or
-    /// some are made already. A word that isn't made takes four blocks of ChaCha20 each time that it is looked at.
+    /// The same words with so many made, from the first one on, or `MOST_MADE` where that is less. `None` says that there is nothing to make: the count is 0, or
+    /// they aren't words of a stream, or some are made already. A word that isn't made takes four blocks of ChaCha20 each time that it is looked at.
     pub fn with_made(&self, count: usize) -> Option<RandomWords>
         requires { count ≤ 48 }
         ensures { IfSome result (λ words. words ≡ self.now) }
     {
         match &self.source {
             Source::Ahead(stream) if count > 0 => Some(RandomWords {
-                source: Source::Begun(Begun::of(stream.again(), count)),
+                source: Source::Begun(Begun::of(stream.again(), count.min(MOST_MADE))),
             }),
             _ => None,
         }
@@ -136,6 +151,7 @@ impl RandomWords {
         ensures { result ≡ slice_index self.now place }
     {
         match &self.source {
+            Source::Zeros => 0,
             Source::Given(words) => words[place],
             Source::Ahead(stream) => word_of(stream, place),
             Source::Begun(begun) => begun.word(place),

@@ -25,7 +25,7 @@ use grant_machine::{Grants, Passes};
 use grant_rules::drawing::Supply;
 use grant_states::GrantTable;
 use histories::machine::Core;
-use random_words::RandomWords;
+use random_words::{MOST_MADE, RandomWords};
 use std::alloc::Global;
 use token_manager::TokenTable;
 
@@ -181,11 +181,11 @@ impl Core for RowCore {
     ghost frugal = { IsFrugal };
 
     /// A value takes two words. A token has two values, and a grant has one more (RFC 9635, section 3). How many tokens a continuation issues isn't told before
-    /// its row is found: it gets what one run of ChaCha20 makes.
+    /// its row is found: it gets as many as can be made.
     fn words_to_make(call: &Call) -> usize {
         match call {
             Call::Begin { request, .. } => 4 * request.get().asks.len().min(8) + 2,
-            Call::Continue { .. } | Call::Modify { .. } => 32,
+            Call::Continue { .. } | Call::Modify { .. } => MOST_MADE,
             Call::Rotate { .. } => 4,
             Call::Decide { .. } => 2,
             _ => 0,

@@ -55,7 +55,7 @@ pub fn add_often<D: Desk<M = Adding>>(desk: &mut D, amount: u64, times: u64) -> 
         lapsed: 0,
         last: 0,
     };
-    let draw = RandomWords::given([0; 48]);
+    let draw = RandomWords::zeros();
     for _ in 0..times {
         made.count(desk.submit(0, &draw, Call::Add(amount)));
     }
@@ -72,7 +72,7 @@ pub fn total_at<D: Desk<M = Adding>>(desk: &mut D) -> u64
     ensures entered { (h : _) → D.seen desk.old h
         → Enters adding (D.rules desk.old) (D.number desk.old) h 0 (replicate 48 0) Call.Total (Reply.Sum result) (D.seen desk.new) }
 {
-    match desk.submit(0, &RandomWords::given([0; 48]), Call::Total) {
+    match desk.submit(0, &RandomWords::zeros(), Call::Total) {
         Ok(Reply::Sum(total)) => total,
         Ok(Reply::Lapsed) => unreachable!(),
         Err(_) => unreachable!(),

@@ -16,6 +16,7 @@ use gnap_io::memory_gear::MemGear;
 use gnap_io::memory_link::MemLink;
 use gnap_io::memory_world::MemWorld;
 use outside::gear::Counted;
+use random_words::RandomWords;
 use serde_json::Value;
 use std::alloc::Global;
 
@@ -112,10 +113,10 @@ fn draw(given: &[Value]) -> Result<[u64; 48], Fault> {
     Ok(words)
 }
 
-fn draws(alloc: Global, gear: &GearCase<'_>) -> Result<Vec<[u64; 48]>, Fault> {
+fn draws(alloc: Global, gear: &GearCase<'_>) -> Result<Vec<RandomWords>, Fault> {
     let mut draws = Vec::new(alloc);
     for given in gear.draws {
-        draws.push(draw(items_of(given)?)?)?;
+        draws.push(RandomWords::given(alloc, draw(items_of(given)?)?)?)?;
     }
     Ok(draws)
 }

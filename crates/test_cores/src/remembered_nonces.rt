@@ -80,7 +80,7 @@ fn enter<C: Core<M = Gnap>>(alloc: Global, core: &mut C, sent: Sent, taken: u64)
     ensures { IsOk result → HasTaken (C.stands core.new) (taken + 1) }
 {
     let signed = signed(alloc, sent)?;
-    core.step(sent.at, &RandomWords::given([0; 48]), &signed)?;
+    core.step(sent.at, &RandomWords::zeros(), &signed)?;
     Ok(())
 }
 

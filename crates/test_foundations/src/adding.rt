@@ -80,7 +80,7 @@ fn a_sum_takes_no_memory(rt: HostRuntime) {
 }
 
 fn answer_of_a_step(alloc: Global, refuses_each: u64) -> Result<Reply, Mem> {
-    Adder::new(alloc, 1, refuses_each).step(20, &RandomWords::given([0; 48]), &Call::Add(41))
+    Adder::new(alloc, 1, refuses_each).step(20, &RandomWords::zeros(), &Call::Add(41))
 }
 
 #[test]

@@ -21,6 +21,7 @@ use outside::real_world::RealWorld;
 use outside::shared_listener::SharedListener;
 use outside::transcript::Transcript;
 use outside::world::{World, WorldFault};
+use random_words::RandomWords;
 use std::alloc::Global;
 use std::io::{Read, Write};
 use std::net::{Net, Shutdown, SocketAddr, TcpListener, TcpStream};
@@ -179,7 +180,7 @@ fn gear(alloc: Global, bad_accepts: &[u64]) -> Result<MemGear, Mem>
     conns.push(conn(alloc, b"\x07")?)?;
     conns.push(conn(alloc, b"\x08")?)?;
     let mut draws = Vec::new(alloc);
-    draws.push([9; 48])?;
+    draws.push(RandomWords::given(alloc, [9; 48])?)?;
     MemGear::new(
         conns,
         Vec::new(alloc),

@@ -7,7 +7,7 @@ use Rattle.random_words.proofs.words.Begun.of.Goals as goal
 pub loop-i-preserved : goal.loop-i-preserved
 loop-i-preserved c =
     let i = c.loop-i.i in
-    let few : i < 48 = omega (arith, c.loop-i-test.true, c.requires) in
+    let few : i < 16 = omega (arith, c.loop-i-test.true, c.requires) in
     record {
       many = search rules;
       after =

@@ -5,7 +5,7 @@ use Rattle.random_words.proofs.words.Begun.of.Given as goal
 abbrev pub invariant-loop-i : goal.invariant-loop-i
 invariant-loop-i l =
     record {
-      many : length l.words ≡ 48;
+      many : length l.words ≡ 16;
       after : l.generator ≡ after_words l.i l.stream;
       words : take l.i l.words ≡ take l.i (draw_from l.stream);
     }
