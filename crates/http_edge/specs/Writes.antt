@@ -6,7 +6,7 @@ use Rattle.outside.specs.Outside.{Told, Writes}
 
 -- so many bytes of a reply are written at once
 abbrev pub room : ℕ
-room = 2048
+room = 1024
 
 -- the bytes of the pieces, one behind another
 abbrev pub bytes_of_pieces : List (Bor (List ℕ)) → List ℕ

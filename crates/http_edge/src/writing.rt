@@ -23,7 +23,7 @@ impl From<Failed> for WriteFault {
 }
 
 // So many bytes of a reply are written at once. Most replies are shorter.
-const ROOM: usize = 2_048;
+const ROOM: usize = 1_024;
 
 /// Bytes on their way to a sink. Contracts see the list of them.
 #[derive(Drop)]
