@@ -1,5 +1,5 @@
 -- The front of a stream, under more bytes.
-use Rattle.std.proofs.Common.{◌≡◌, ℕ, ◌+◌, ◌-◌, ◌*◌, ◌<◌, ◌≤◌, List, [], ◌∷◌, ◌++◌, length, take, drop, refl, sym, ap, ◌∙◌, subst, arith, rules, true, append_assoc, append-nil, length-append, inl, inr, ◌⊎◌, cond}
+use Rattle.std.proofs.Common.{◌≡◌, ℕ, ◌+◌, ◌-◌, ◌*◌, ◌<◌, ◌≤◌, List, [], ◌∷◌, ◌++◌, length, take, drop, refl, sym, ap, ◌∙◌, subst, arith, rules, append_assoc, append-nil, length-append, inl, inr, ◌⊎◌, cond}
 use Rattle.std.specs.Prelude.{IsTrue, ◌==◌, ◌||◌, nat_lt, map, slice_range, All, flat_map}
 use Rattle.std.proofs.lemmas.List.{take-append-drop, take-append-le, drop-append-le, take_all, length-map, length-drop, length-take}
 use Rattle.std.proofs.Math.Seq.{take-append-add, take-append_seam, drop-append_seam}
@@ -211,9 +211,8 @@ open_at_first = in_head (record {
   });
 }) (omega arith)
 
-pub nothing_open : (b : List ℕ) → (length b == 0) ≡ true → IsOpen b × (length b < 16384)
-nothing_open [] none = (open_at_first, omega arith)
-nothing_open (c ∷ b) none = absurd (grind (arith, nat_tests))
+pub nothing_open : (b : List ℕ) → b ≡ [] → IsOpen b × (length b < 16384)
+nothing_open b none = subst (λ (t : List ℕ). IsOpen t × (length t < 16384)) (sym none) (open_at_first, omega arith)
 
 if_long : (A : Type 0) (n : ℕ) (x y : A) → 64 < n → cond (nat_lt 64 n) x y ≡ x
 if_long A n x y h = grind (arith, nat_tests)

@@ -1,6 +1,6 @@
 -- Bytes that come behind those that are held.
-use Rattle.std.proofs.Common.{◌≡◌, ℕ, ◌⊎◌, List, [], ◌++◌, take, drop, sym, ap, ◌∙◌, subst, arith, append_assoc, append-nil, length-append, inl, inr, refl}
-use Rattle.std.specs.Prelude.{◌+◌, ◌-◌, ◌<◌, ◌≤◌, length, Bool, true, Some, None, Ok, Err}
+use Rattle.std.proofs.Common.{◌≡◌, ℕ, ◌⊎◌, List, [], ◌∷◌, ◌++◌, take, drop, sym, ap, ◌∙◌, subst, arith, append_assoc, append-nil, length-append, inl, inr, refl}
+use Rattle.std.specs.Prelude.{◌+◌, ◌-◌, ◌<◌, ◌≤◌, length, Bool, true, false, IsTrue, Some, None, Ok, Err}
 use Rattle.bytes_and_lists.specs.declared.message.Message.{Message}
 use Rattle.outside.specs.Outside.{Told, Takes, Reads, IsAtEnd, Rose}
 use Rattle.outside.proofs.Devices.{takes_none, takes_then}
@@ -11,12 +11,12 @@ use Rattle.http_edge.specs.declared.held.Arrival.TheVariants as arrival
 use Rattle.http_edge.specs.declared.places.LinePlace.{LinePlace}
 use Rattle.http_edge.specs.declared.places.LinePlace.TheVariants.{BlankLines}
 use Rattle.http_edge.specs.Limits.{message_limit}
-use Rattle.http_edge.specs.Streams.{IsMessage, IsOpen}
+use Rattle.http_edge.specs.Streams.{IsMessage, IsRefusedFor, IsOpen}
 use Rattle.http_edge.specs.Reads.{HasFault, IsNextMessage, CountsReadFault}
 use Rattle.std.proofs.lemmas.List.{nil_from_length, length-take, take_rest, drop_at}
 use Rattle.std.specs.List.{fold}
 use Rattle.std.proofs.lemmas.List.Sums.{fold-append}
-use Rattle.http_edge.specs.Steps.{next_line_place, Grows, HasArrived, IsProgressFault, IsProgress}
+use Rattle.http_edge.specs.Steps.{next_line_place, IsOfBytes, Grows, HasArrived}
 
 pub grows_none : (held : List ℕ) (told : Told) → Grows held held told told
 grows_none held told = record { came = []; takes = takes_none told; behind = sym (append-nil held) }
@@ -85,14 +85,13 @@ none_came held new told x =
 
 -- ---- answers
 
-progress_fault : (b : List ℕ) (ended : Bool) (after : Told) (fault : EdgeFault) → (ended ≡ true → IsAtEnd after) → IsProgressFault b ended fault
-    → HasFault b after fault
-progress_fault b ended after faults.BadHead end s = s
-progress_fault b ended after faults.TooLarge end s = s
-progress_fault b ended after faults.Coded end s = s
-progress_fault b ended after faults.Truncated end s = (s.1, s.2, end s.0)
-progress_fault b ended after faults.ReadFault end s = tt
-progress_fault b ended after faults.OutOfMemory end s = tt
+refused_fault : (b : List ℕ) (after : Told) (fault : EdgeFault) → IsRefusedFor b fault → IsOfBytes fault → HasFault b after fault
+refused_fault b after faults.BadHead r of_bytes = r
+refused_fault b after faults.TooLarge r of_bytes = r
+refused_fault b after faults.Coded r of_bytes = r
+refused_fault b after faults.Truncated r of_bytes = absurd of_bytes
+refused_fault b after faults.ReadFault r of_bytes = absurd of_bytes
+refused_fault b after faults.OutOfMemory r of_bytes = absurd of_bytes
 
 -- the bytes that were held, and those that came
 module _ (old b : List ℕ) (before after : Told) (grows : Grows old b before after) (few : length b ≤ message_limit) where
@@ -113,23 +112,33 @@ module _ (old b : List ℕ) (before after : Told) (grows : Grows old b before af
   pub next_failed : (fault : EdgeFault) → ((t : List ℕ) → HasFault t after fault) → IsNextMessage old b before after (Err fault)
   next_failed fault has = record { came = grows.came; takes = grows.takes; few = few_in_all; answers = (grows.behind, has _) }
 
-pub next_progress : (old b rest : List ℕ) (ended : Bool) (before after : Told) (fault : EdgeFault) → Grows old b before after → length b ≤ message_limit
-    → (ended ≡ true → IsAtEnd after) → IsProgress b ended rest (Err fault) → IsNextMessage old rest before after (Err fault)
-next_progress old b rest ended before after fault grows few end s = record {
-  came = grows.came;
-  takes = grows.takes;
-  few = few_in_all old b before after grows few;
-  answers = (s.0 ∙ grows.behind, subst (λ (t : List ℕ). HasFault t after fault) grows.behind (progress_fault b ended after fault end s.1));
-}
+  pub next_refused : (fault : EdgeFault) → IsRefusedFor b fault → IsOfBytes fault → IsNextMessage old b before after (Err fault)
+  next_refused fault r of_bytes = record {
+    came = grows.came;
+    takes = grows.takes;
+    few = few_in_all;
+    answers = (grows.behind, subst (λ (t : List ℕ). HasFault t after fault) grows.behind (refused_fault b after fault r of_bytes));
+  }
 
-pub progress_count : (b rest : List ℕ) (ended : Bool) (fault : EdgeFault) → IsProgress b ended rest (Err fault) → (before after : ℕ) → after ≡ before
-    → CountsReadFault (Err fault) before after
-progress_count b rest ended faults.BadHead s before after e = e
-progress_count b rest ended faults.TooLarge s before after e = e
-progress_count b rest ended faults.Coded s before after e = e
-progress_count b rest ended faults.Truncated s before after e = e
-progress_count b rest ended faults.ReadFault s before after e = absurd s.1
-progress_count b rest ended faults.OutOfMemory s before after e = e
+  pub next_truncated : IsOpen b → 0 < length b → IsAtEnd after → IsNextMessage old b before after (Err faults.Truncated)
+  next_truncated opens some end = record {
+    came = grows.came;
+    takes = grows.takes;
+    few = few_in_all;
+    answers = (grows.behind, subst (λ (t : List ℕ). HasFault t after faults.Truncated) grows.behind (opens, some, end));
+  }
+
+pub refused_count : (fault : EdgeFault) → IsOfBytes fault → (before after : ℕ) → after ≡ before → CountsReadFault (Err fault) before after
+refused_count faults.BadHead of_bytes before after e = e
+refused_count faults.TooLarge of_bytes before after e = e
+refused_count faults.Coded of_bytes before after e = e
+refused_count faults.Truncated of_bytes before after e = absurd of_bytes
+refused_count faults.ReadFault of_bytes before after e = absurd of_bytes
+refused_count faults.OutOfMemory of_bytes before after e = absurd of_bytes
+
+pub some_held : (b : List ℕ) (none : Bool) → (b ≡ [] → IsTrue none) → none ≡ false → 0 < length b
+some_held [] none is e = let wrong : ◌≡◌ {A = Bool} false true = sym e ∙ is refl in absurd (cc)
+some_held (c ∷ b) none is e = omega arith
 
 -- ---- what was needed
 

@@ -1,5 +1,5 @@
 -- What the steps of reading a message do.
-use Rattle.std.specs.Prelude.{◌≡◌, ℕ, ◌+◌, ◌<◌, ◌≤◌, Bool, true, false, List, [], ◌∷◌, ◌++◌, length, drop, if◌then◌else◌, ◌==◌, Result, Ok, Err}
+use Rattle.std.specs.Prelude.{◌≡◌, ℕ, ◌+◌, ◌<◌, ◌≤◌, Bool, true, false, List, [], ◌∷◌, ◌++◌, length, drop, if◌then◌else◌, ◌==◌}
 use Rattle.httparse.specs.Grammar.{print_request, is_token_byte, RequestHead, ReadsRequest}
 use Rattle.httparse.specs.Spans.{span_bytes, IsWithin, IsRequestWithin, IsRequestOf}
 use Rattle.httparse.specs.declared.spans.HeaderSpan.{HeaderSpan}
@@ -22,8 +22,6 @@ use Rattle.http_edge.specs.declared.messages.Want.{Want}
 use Rattle.http_edge.specs.declared.messages.Want.TheVariants as wants
 use Rattle.http_edge.specs.declared.held.Arrival.{Arrival}
 use Rattle.http_edge.specs.declared.held.Arrival.TheVariants as arrival
-use Rattle.http_edge.specs.declared.reading.Progress.{Progress}
-use Rattle.http_edge.specs.declared.reading.Progress.TheVariants as progress
 use Rattle.http_edge.specs.Limits.{head_limit, field_limit, body_limit, message_limit}
 use Rattle.http_edge.specs.Framing.{framing_of}
 use Rattle.http_edge.specs.Streams.{is_inner, IsUndecided, IsNoHead, BeginsWith, headers_of, IsMessage, IsRefusedFor, IsOpen}
@@ -139,19 +137,3 @@ HasArrived arrival.Failed held held_now before after faults faults_now =
     Grows held held_now before after × Rose faults faults_now
 HasArrived arrival.Memory held held_now before after faults faults_now =
     Grows held held_now before after × (faults_now ≡ faults)
-
--- why the bytes b that are held give no message, where `ended` says that no more will come
-abbrev pub IsProgressFault : List ℕ → Bool → EdgeFault → Type 0
-IsProgressFault b ended faults.BadHead = IsRefusedFor b faults.BadHead
-IsProgressFault b ended faults.TooLarge = IsRefusedFor b faults.TooLarge
-IsProgressFault b ended faults.Coded = IsRefusedFor b faults.Coded
-IsProgressFault b ended faults.Truncated = (ended ≡ true) × IsOpen b × (0 < length b)
-IsProgressFault b ended faults.ReadFault = ⊥
-IsProgressFault b ended faults.OutOfMemory = Unit {0}
-
--- what is said of the front of the bytes b that are held, of which rest are kept
-abbrev pub IsProgress : List ℕ → Bool → List ℕ → Result Progress EdgeFault → Type 0
-IsProgress b ended rest (Ok (progress.Whole m)) = IsMessage b m rest
-IsProgress b ended rest (Ok progress.End) = (ended ≡ true) × (b ≡ []) × (rest ≡ [])
-IsProgress b ended rest (Ok (progress.Unfinished want)) = (ended ≡ false) × (rest ≡ b) × IsWaiting b want
-IsProgress b ended rest (Err fault) = (rest ≡ b) × IsProgressFault b ended fault

@@ -8,7 +8,7 @@ ghost use Rattle.http_edge.specs.Steps.{IsLeadingHead, IsBeginningOf};
 use crate::fault::EdgeFault;
 use crate::framing::{Framing, fields_of, is_last, request_framing};
 use crate::request_heads::{
-    FEW_FIELDS, FIELD_LIMIT, HEAD_LIMIT, LeadingHead, leading_head, leading_head_in,
+    FEW_FIELDS, FIELD_LIMIT, HEAD_LIMIT, LeadingHead, leading_head, leading_head_in, room_for,
 };
 use bytes_and_lists::bytes::Bytes;
 use bytes_and_lists::memory::Mem;
@@ -51,13 +51,13 @@ fn read_message(
     b: &[u8],
     w: &[u8],
     room: &[HeaderSpan],
-    spans: RequestSpans,
+    spans: &RequestSpans,
 ) -> Result<Beginning, Mem>
     requires window { w.now ≡ window b.now }
     requires short { length w.now ≤ head_limit }
     requires room { length room.now ≤ field_limit }
-    requires within { IsRequestWithin w.now room.now spans }
-    requires of { IsRequestOf w.now room.now spans }
+    requires within { IsRequestWithin w.now room.now spans.now }
+    requires of { IsRequestOf w.now room.now spans.now }
     ensures { IfOk result (IsBeginningOf b.now) }
 {
     let found = &room[..spans.headers];
@@ -92,12 +92,12 @@ fn message_by_head(
     b: &[u8],
     w: &[u8],
     room: &[HeaderSpan],
-    head: LeadingHead,
+    head: &LeadingHead,
 ) -> Result<Beginning, Mem>
     requires window { w.now ≡ window b.now }
     requires short { length w.now ≤ head_limit }
     requires room { length room.now ≤ field_limit }
-    requires head { IsLeadingHead w.now room.now head }
+    requires head { IsLeadingHead w.now room.now head.now }
     ensures { IfOk result (IsBeginningOf b.now) }
 {
     match head {
@@ -114,28 +114,20 @@ fn message_by_head(
     }
 }
 
-// The same where a head has more than a few fields.
-fn message_of_many_fields(alloc: Global, b: &[u8], w: &[u8]) -> Result<Beginning, Mem>
-    requires window { w.now ≡ window b.now }
-    requires short { length w.now ≤ head_limit }
-    ensures { IfOk result (IsBeginningOf b.now) }
-{
-    let mut room = [EMPTY_HEADER_SPAN; FIELD_LIMIT];
-    let head = leading_head(alloc, w, &mut room)?;
-    message_by_head(alloc, b, w, &room, head)
-}
-
 /// What stands at the front of the bytes. Of a message that isn't whole nothing is copied.
 pub(crate) fn take_message(alloc: Global, b: &[u8]) -> Result<Beginning, Mem>
     ensures { IfOk result (IsBeginningOf b.now) }
 {
-    if b.is_empty() {
-        return Ok(Beginning::Unfinished(Want::MoreOfHead));
-    }
     let w = window(b);
-    let mut room = [EMPTY_HEADER_SPAN; FEW_FIELDS];
-    match leading_head_in(w, &mut room) {
-        Some(head) => message_by_head(alloc, b, w, &room, head),
-        None => message_of_many_fields(alloc, b, w),
-    }
+    let mut few = [EMPTY_HEADER_SPAN; FEW_FIELDS];
+    let mut many = Vec::new(alloc);
+    let (head, room) = match leading_head_in(w, &mut few) {
+        Some(head) => (head, &few[..]),
+        None => {
+            many = room_for(alloc, FIELD_LIMIT)?;
+            let head = leading_head(alloc, w, many.as_mut_slice())?;
+            (head, many.as_slice())
+        }
+    };
+    message_by_head(alloc, b, w, room, &head)
 }

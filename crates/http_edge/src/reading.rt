@@ -4,52 +4,20 @@ ghost use Rattle.http_edge.specs.Limits.{head_limit, message_limit};
 ghost use Rattle.http_edge.specs.Streams.{IsOpen};
 ghost use Rattle.http_edge.specs.Lines.{HasOneLineParts};
 ghost use Rattle.http_edge.specs.Reads.{IsNextMessage, CountsReadFault};
-ghost use Rattle.http_edge.specs.Steps.{IsWaiting, IsProgress, HasArrived};
+ghost use Rattle.http_edge.specs.Steps.{IsWaiting, HasArrived};
 
 use crate::fault::EdgeFault;
 use crate::held::{Arrival, Held};
 use crate::messages::{Beginning, Want, take_message};
 use crate::places::{LinePlace, is_behind_head, line_place};
 use crate::request_heads::HEAD_LIMIT;
+use bytes_and_lists::memory::Mem;
 use bytes_and_lists::message::Message;
 use outside::device::Source;
 use std::alloc::Global;
 
 // So many bytes of a head are asked of the source at once.
 const PIECE: usize = 4_096;
-
-/// What the bytes that are held come to.
-#[derive(Drop)]
-pub enum Progress {
-    Whole(Message),
-    /// The end of the input, with nothing held.
-    End,
-    Unfinished(Want),
-}
-
-// Takes the message at the front of what is held, if it is whole.
-fn take_next(alloc: Global, held: &mut Held, ended: bool) -> Result<Progress, EdgeFault>
-    ensures progress { IsProgress held.old ended held.new result }
-    ensures before { length held.old ≤ message_limit }
-    ensures bound { length held.new ≤ message_limit }
-{
-    match take_message(alloc, held.as_slice())? {
-        Beginning::Whole(message, used) => {
-            held.skip(used);
-            Ok(Progress::Whole(message))
-        }
-        Beginning::Refused(fault) => Err(fault),
-        Beginning::Unfinished(want) => {
-            if !ended {
-                Ok(Progress::Unfinished(want))
-            } else if held.len() == 0 {
-                Ok(Progress::End)
-            } else {
-                Err(EdgeFault::Truncated)
-            }
-        }
-    }
-}
 
 // Reads until an empty line came that may end the head, or until twice as many bytes are held. So all looks at a head together go through no more
 // than three times as many bytes as it has.
@@ -98,6 +66,7 @@ fn read_body<S: Source>(source: &mut S, held: &mut Held, end: usize) -> Arrival
 
 fn read_on<S: Source>(source: &mut S, held: &mut Held, want: Want) -> Arrival
     requires { IsWaiting held.old want }
+    ensures open { IsOpen held.old }
     ensures arrived { HasArrived result held.old held.new (S.told source.old) (S.told source.new) (S.faults source.old) (S.faults source.new) }
     ensures bound { length held.new ≤ message_limit }
 {
@@ -127,12 +96,26 @@ pub fn next_message<S: Source>(
 {
     let mut ended = false;
     loop {
-        let want = match take_next(alloc, held, ended) {
-            Ok(Progress::Whole(message)) => return Ok(Some(message)),
-            Ok(Progress::End) => return Ok(None),
-            Ok(Progress::Unfinished(want)) => want,
-            Err(fault) => return Err(fault),
+        let want = if held.is_empty() {
+            Want::MoreOfHead
+        } else {
+            match take_message(alloc, held.as_slice()) {
+                Ok(Beginning::Whole(message, used)) => {
+                    held.skip(used);
+                    return Ok(Some(message));
+                }
+                Ok(Beginning::Refused(fault)) => return Err(fault),
+                Ok(Beginning::Unfinished(want)) => want,
+                Err(Mem) => return Err(EdgeFault::OutOfMemory),
+            }
         };
+        if ended {
+            return if held.is_empty() {
+                Ok(None)
+            } else {
+                Err(EdgeFault::Truncated)
+            };
+        }
         match read_on(source, held, want) {
             Arrival::More => {}
             Arrival::End => ended = true,

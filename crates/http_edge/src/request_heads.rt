@@ -57,11 +57,12 @@ pub(crate) fn leading_head_in(w: &[u8], room: &mut [HeaderSpan]) -> Option<Leadi
     }
 }
 
-fn large_room(alloc: Global) -> Result<Vec<HeaderSpan>, Mem>
-    ensures { IfOk result (λ room. vec_len room ≡ all_fields) }
+/// Room for so many fields.
+pub(crate) fn room_for(alloc: Global, fields: usize) -> Result<Vec<HeaderSpan>, Mem>
+    ensures { IfOk result (λ room. vec_len room ≡ fields) }
 {
     let mut room = Vec::new(alloc);
-    match room.resize(ALL_FIELDS, EMPTY_HEADER_SPAN) {
+    match room.resize(fields, EMPTY_HEADER_SPAN) {
         Ok(()) => Ok(room),
         Err(_) => Err(Mem),
     }
@@ -74,7 +75,7 @@ fn head_of_many_fields(alloc: Global, w: &[u8]) -> Result<LeadingHead, Mem>
     ensures front { IfOk result (IsLeadingHead w.now []) }
     ensures no_head { IfOk result IsNoShortHead }
 {
-    let mut room = large_room(alloc)?;
+    let mut room = room_for(alloc, ALL_FIELDS)?;
     match leading_head_in(w, room.as_mut_slice()) {
         Some(LeadingHead::Head(_)) => Ok(LeadingHead::ManyFields),
         Some(LeadingHead::ManyFields) => Ok(LeadingHead::ManyFields),

@@ -13,11 +13,11 @@ pub returns-then-b-end : goal.returns-then-b-end
 returns-then-b-end c =
     let b : List ℕ = c.args.b.now in
     let of = c.requires.of in
-    let begins : BeginsWith b of.0 (drop c.args.spans.len b) =
-    head_here b c.args.w.now c.args.room.now c.args.spans c.requires.window of c.requires.within.section.len_fits in
+    let begins : BeginsWith b of.0 (drop c.args.spans.now.len b) =
+    head_here b c.args.w.now c.args.room.now c.args.spans.now c.requires.window of c.requires.within.section.len_fits in
     let framed : framing_of (headers_of of.0) ≡ Body c.in-Body.length = sym (ap framing_of of.1.fields) ∙ sym c.request_framing-framing.ensures.value ∙ c.in-Body.is in
     let bound : c.in-Body.length ≤ body_limit = rw c.in-Body.is at c.request_framing-framing.ensures.bound in (
-      ends_at b of.0 c.args.spans.len c.in-Body.length begins of.1.len framed,
+      ends_at b of.0 c.args.spans.now.len c.in-Body.length begins of.1.len framed,
       c.if-b-end.true,
       omega (arith, begins.short, of.1.len, bound),
     )
@@ -26,8 +26,8 @@ pub returns-in-Refused : goal.returns-in-Refused
 returns-in-Refused c =
     let b : List ℕ = c.args.b.now in
     let of = c.requires.of in (
-      by_head c.in-Refused.fault of.0 (drop c.args.spans.len b)
-          (head_here b c.args.w.now c.args.room.now c.args.spans c.requires.window of c.requires.within.section.len_fits)
+      by_head c.in-Refused.fault of.0 (drop c.args.spans.now.len b)
+          (head_here b c.args.w.now c.args.room.now c.args.spans.now c.requires.window of c.requires.within.section.len_fits)
           (sym (ap framing_of of.1.fields) ∙ sym c.request_framing-framing.ensures.value ∙ c.in-Refused.is),
       rw c.in-Refused.is at c.request_framing-framing.ensures.bound,
     )
@@ -36,16 +36,16 @@ pub returns-in_ok-body-in-Body : goal.returns-in_ok-body-in-Body
 returns-in_ok-body-in-Body c =
     let b : List ℕ = c.args.b.now in
     let of = c.requires.of in
-    let begins : BeginsWith b of.0 (drop c.args.spans.len b) =
-    head_here b c.args.w.now c.args.room.now c.args.spans c.requires.window of c.requires.within.section.len_fits in
+    let begins : BeginsWith b of.0 (drop c.args.spans.now.len b) =
+    head_here b c.args.w.now c.args.room.now c.args.spans.now c.requires.window of c.requires.within.section.len_fits in
     let framed : framing_of (headers_of of.0) ≡ Body c.in-Body.length = sym (ap framing_of of.1.fields) ∙ sym c.request_framing-framing.ensures.value ∙ c.in-Body.is in (
       c.if-b-end.false,
-      whole_message b of.0 c.args.spans.len c.in-Body.length _ begins framed c.if-b-end.false
+      whole_message b of.0 c.args.spans.now.len c.in-Body.length _ begins framed c.if-b-end.false
           (c.in_ok-method-in-Body.ensures ∙ c.of.ensures ∙ of.1.method)
           (c.in_ok-target-in-Body.ensures ∙ c.of-in-Body.ensures ∙ of.1.path)
           (c.in_ok-fields-in-Body.ensures ∙ ap (map field_of) of.1.fields)
           (c.in_ok-body-in-Body.ensures)
-          (c.is_last-last.ensures ∙ ap (λ (n : ℕ). n == 0 || asks_to_close (map (header_bytes c.args.w.now) (take c.args.spans.headers c.args.room.now)))
+          (c.is_last-last.ensures ∙ ap (λ (n : ℕ). n == 0 || asks_to_close (map (header_bytes c.args.w.now) (take c.args.spans.now.headers c.args.room.now)))
           of.1.version
           ∙ ap (λ (headers : List Header). of.0.minor == 0 || asks_to_close headers) of.1.fields),
     )

@@ -5,13 +5,13 @@ use Rattle.http_edge.specs.Streams.{IsOpen}
 use Rattle.http_edge.specs.Steps.{Grows}
 use Rattle.http_edge.proofs.reading.next_message.Given as goal
 
-abbrev pub invariant-loop-message : goal.invariant-loop-message
-invariant-loop-message g l = record {
+abbrev pub invariant-loop-held : goal.invariant-loop-held
+invariant-loop-held g l = record {
   grows : Grows l.fn.held l.held (g.S.Device.told l.fn.source) (g.S.Device.told l.source);
   kept : g.S.Device.faults l.source ≡ g.S.Device.faults l.fn.source;
   end : l.ended ≡ true → IsAtEnd (g.S.Device.told l.source);
   needed : ((l.held ≡ l.fn.held) × (g.S.Device.told l.source ≡ g.S.Device.told l.fn.source)) ⊎ IsOpen l.fn.held;
 }
 
-abbrev pub decreases-loop-message : goal.decreases-loop-message
-decreases-loop-message g l = (message_limit - length l.held) + cond l.ended 0 1
+abbrev pub decreases-loop-held : goal.decreases-loop-held
+decreases-loop-held g l = (message_limit - length l.held) + cond l.ended 0 1
