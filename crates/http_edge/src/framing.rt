@@ -145,26 +145,13 @@ pub(crate) fn request_framing(head: &[u8], fields: &[HeaderSpan]) -> (Framing, b
     (framing, known.connection)
 }
 
-// A `Connection` field asks to close. They are read where one is there.
+/// A `Connection` field asks to close.
 #[tactic(auto, unfolding(http1::specs::Fields::known_fields))]
-fn asks_to_close(head: &[u8], fields: &[HeaderSpan], connection: bool) -> bool
-    requires within { All (IsHeaderWithin (length head.now)) fields.now }
-    requires connection { connection ≡ list_any (is_named (codes "connection")) (map (header_bytes head.now) fields.now) }
+pub(crate) fn asks_to_close(head: &[u8], fields: &[HeaderSpan]) -> bool
+    requires { All (IsHeaderWithin (length head.now)) fields.now }
     ensures { result ≡ asks_to_close (map (header_bytes head.now) fields.now) }
 {
-    if !connection {
-        return false;
-    }
     KnownFields::from_spans(head, fields).close
-}
-
-/// The connection closes after the reply to a request of this minor version, in which a `Connection` field is or isn't.
-pub(crate) fn is_last(minor: u8, head: &[u8], fields: &[HeaderSpan], connection: bool) -> bool
-    requires within { All (IsHeaderWithin (length head.now)) fields.now }
-    requires connection { connection ≡ list_any (is_named (codes "connection")) (map (header_bytes head.now) fields.now) }
-    ensures { result ≡ (minor == 0 || asks_to_close (map (header_bytes head.now) fields.now)) }
-{
-    minor == 0 || asks_to_close(head, fields, connection)
 }
 
 /// The fields that the spans cover, with their names in lower case.

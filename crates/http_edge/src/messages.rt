@@ -6,7 +6,7 @@ ghost use Rattle.http_edge.specs.Streams.{window};
 ghost use Rattle.http_edge.specs.Steps.{IsLeadingHead, IsBeginningOf};
 
 use crate::fault::EdgeFault;
-use crate::framing::{Framing, fields_of, is_last, request_framing};
+use crate::framing::{Framing, asks_to_close, fields_of, request_framing};
 use crate::request_heads::{
     FEW_FIELDS, FIELD_LIMIT, HEAD_LIMIT, LeadingHead, leading_head, leading_head_in, room_for,
 };
@@ -69,11 +69,11 @@ fn read_message(
             if b.len() < end {
                 return Ok(Beginning::Unfinished(Want::UpTo(end)));
             }
+            let fields = fields_of(alloc, w, found)?;
             let method = Bytes::from_slice(alloc, spans.method.of(w))?;
             let target = Bytes::from_slice(alloc, spans.path.of(w))?;
-            let fields = fields_of(alloc, w, found)?;
             let body = Bytes::from_slice(alloc, &b[spans.len..end])?;
-            let last = is_last(spans.version, w, found, connection);
+            let last = spans.version == 0 || (connection && asks_to_close(w, found));
             let message = Message {
                 method,
                 target,

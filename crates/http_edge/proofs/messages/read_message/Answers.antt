@@ -7,7 +7,9 @@ use Rattle.http_edge.specs.Framing.{framing_of, asks_to_close}
 use Rattle.http_edge.specs.Limits.{body_limit}
 use Rattle.http_edge.specs.Streams.{BeginsWith, headers_of, field_of, by_head}
 use Rattle.http_edge.proofs.Fronts.{head_here, ends_at, whole_message}
+use Rattle.http_edge.proofs.Lengths.{none_asks, oldest_version, other_version}
 use Rattle.http_edge.proofs.messages.read_message.Goals as goal
+use Rattle.http_edge.proofs.messages.read_message.Goals.{then-spans-eq0, else-spans-eq0+then-connection, else-spans-eq0+else-connection}
 
 pub returns-then-b-end : goal.returns-then-b-end
 returns-then-b-end c =
@@ -32,20 +34,28 @@ returns-in-Refused c =
       rw c.in-Refused.is at c.request_framing-framing.ensures.bound,
     )
 
-pub returns-in_ok-body-in-Body : goal.returns-in_ok-body-in-Body
-returns-in_ok-body-in-Body c =
+pub returns-after-spans-eq0 : goal.returns-after-spans-eq0
+returns-after-spans-eq0 c =
     let b : List ℕ = c.args.b.now in
     let of = c.requires.of in
     let begins : BeginsWith b of.0 (drop c.args.spans.now.len b) =
     head_here b c.args.w.now c.args.room.now c.args.spans.now c.requires.window of c.requires.within.section.len_fits in
-    let framed : framing_of (headers_of of.0) ≡ Body c.in-Body.length = sym (ap framing_of of.1.fields) ∙ sym c.request_framing-framing.ensures.value ∙ c.in-Body.is in (
+    let framed : framing_of (headers_of of.0) ≡ Body c.in-Body.length = sym (ap framing_of of.1.fields) ∙ sym c.request_framing-framing.ensures.value ∙ c.in-Body.is in
+    let headers : List Header = map (header_bytes c.args.w.now) (take c.args.spans.now.headers c.args.room.now) in
+    let last : c.if-spans-eq0.last ≡ (c.args.spans.now.version == 0 || asks_to_close headers) = elim c.if-spans-eq0.branch [
+      | then-spans-eq0 w ↦ oldest_version _ _ _ w.last-is w.if-spans-eq0.true
+      | else-spans-eq0+then-connection w ↦ other_version _ _ _ (w.last-is ∙ w.asks_to_close.ensures) w.if-spans-eq0.false
+      | else-spans-eq0+else-connection w ↦
+          let none = none_asks headers (sym c.request_framing-framing.ensures.connection ∙ w.if-connection.false) in
+          other_version _ _ _ (w.last-is ∙ w.if-connection.false ∙ sym none) w.if-spans-eq0.false
+    ] in (
       c.if-b-end.false,
       whole_message b of.0 c.args.spans.now.len c.in-Body.length _ begins framed c.if-b-end.false
           (c.in_ok-method-in-Body.ensures ∙ c.of.ensures ∙ of.1.method)
           (c.in_ok-target-in-Body.ensures ∙ c.of-in-Body.ensures ∙ of.1.path)
           (c.in_ok-fields-in-Body.ensures ∙ ap (map field_of) of.1.fields)
           (c.in_ok-body-in-Body.ensures)
-          (c.is_last-last.ensures ∙ ap (λ (n : ℕ). n == 0 || asks_to_close (map (header_bytes c.args.w.now) (take c.args.spans.now.headers c.args.room.now)))
+          (last ∙ ap (λ (n : ℕ). n == 0 || asks_to_close headers)
           of.1.version
           ∙ ap (λ (headers : List Header). of.0.minor == 0 || asks_to_close headers) of.1.fields),
     )
