@@ -79,6 +79,9 @@ impl Outgoing {
         ensures put { HasPut self.old piece.now self.new (S.told sink.old) (S.told sink.new) result }
         ensures cause { HasCause (S.faults sink.old) (S.faults sink.new) result }
     {
+        if piece.is_empty() {
+            return Ok(());
+        }
         if piece.len() > ROOM - self.len {
             self.flush(sink)?;
             if piece.len() > ROOM {
