@@ -1,5 +1,5 @@
 //! What the fields of a head say of the body behind it (RFC 9112, section 6).
-ghost use Rattle.std.specs.Prelude.{◌≡◌, ◌-◌, ◌^◌, ◌≤◌, ◌==◌, ◌||◌, min, length, map, All, IfOk, Some, None, if◌then◌else◌, codes};
+ghost use Rattle.std.specs.Prelude.{◌≡◌, ◌-◌, ◌^◌, ◌≤◌, ◌||◌, min, length, map, All, IfOk, Some, None, if◌then◌else◌, codes};
 ghost use Rattle.std.specs.List.{list_any};
 ghost use Rattle.std.specs.Char.{to_ascii_lowercase};
 ghost use Rattle.std.specs.Str.Parse.{digits_value};

@@ -1,8 +1,7 @@
 //! The message at the front of bytes.
-ghost use Rattle.std.specs.Prelude.{◌≡◌, ◌≤◌, length, take, IfOk};
-ghost use Rattle.httparse.specs.Spans.{IsRequestWithin, IsRequestOf};
+ghost use Rattle.std.specs.Prelude.{◌≡◌, ◌≤◌, length, IfOk};
 ghost use Rattle.http_edge.specs.Limits.{head_limit, field_limit};
-ghost use Rattle.http_edge.specs.Streams.{window};
+ghost use Rattle.http_edge.specs.Streams.{window, IsUndecided};
 ghost use Rattle.http_edge.specs.Steps.{IsLeadingHead, IsBeginningOf};
 
 use crate::fault::EdgeFault;
@@ -45,48 +44,20 @@ fn window(b: &[u8]) -> &[u8]
     }
 }
 
-// The message whose head is there, as far as it has come.
-fn read_message(
-    alloc: Global,
-    b: &[u8],
-    w: &[u8],
-    room: &[HeaderSpan],
-    spans: &RequestSpans,
-) -> Result<Beginning, Mem>
+// What stands at the front where it isn't decided whether a head does.
+fn undecided(b: &[u8], w: &[u8]) -> Beginning
     requires window { w.now ≡ window b.now }
-    requires short { length w.now ≤ head_limit }
-    requires room { length room.now ≤ field_limit }
-    requires within { IsRequestWithin w.now room.now spans.now }
-    requires of { IsRequestOf w.now room.now spans.now }
-    ensures { IfOk result (IsBeginningOf b.now) }
+    requires head { IsUndecided w.now }
+    ensures { IsBeginningOf b.now result }
 {
-    let found = &room[..spans.headers];
-    let (framing, connection) = request_framing(w, found);
-    match framing {
-        Framing::Refused(fault) => Ok(Beginning::Refused(fault)),
-        Framing::Body(length) => {
-            let end = spans.len + length;
-            if b.len() < end {
-                return Ok(Beginning::Unfinished(Want::UpTo(end)));
-            }
-            let fields = fields_of(alloc, w, found)?;
-            let method = Bytes::from_slice(alloc, spans.method.of(w))?;
-            let target = Bytes::from_slice(alloc, spans.path.of(w))?;
-            let body = Bytes::from_slice(alloc, &b[spans.len..end])?;
-            let last = spans.version == 0 || (connection && asks_to_close(w, found));
-            let message = Message {
-                method,
-                target,
-                fields,
-                body,
-                last,
-            };
-            Ok(Beginning::Whole(message, end))
-        }
+    if b.len() < HEAD_LIMIT {
+        Beginning::Unfinished(Want::MoreOfHead)
+    } else {
+        Beginning::Refused(EdgeFault::TooLarge)
     }
 }
 
-// What stands at the front of the bytes, by what stands at the front of their window.
+// What stands at the front of the bytes, by what stands at the front of their window: of a head its message, as far as it has come.
 fn message_by_head(
     alloc: Global,
     b: &[u8],
@@ -100,21 +71,38 @@ fn message_by_head(
     requires head { IsLeadingHead w.now room.now head.now }
     ensures { IfOk result (IsBeginningOf b.now) }
 {
-    match head {
-        LeadingHead::Head(spans) => read_message(alloc, b, w, room, spans),
-        LeadingHead::ManyFields => Ok(Beginning::Refused(EdgeFault::TooLarge)),
-        LeadingHead::Never => Ok(Beginning::Refused(EdgeFault::BadHead)),
-        LeadingHead::Undecided => {
-            if b.len() < HEAD_LIMIT {
-                Ok(Beginning::Unfinished(Want::MoreOfHead))
-            } else {
-                Ok(Beginning::Refused(EdgeFault::TooLarge))
-            }
-        }
+    let spans = match head {
+        LeadingHead::Head(spans) => spans,
+        LeadingHead::ManyFields => return Ok(Beginning::Refused(EdgeFault::TooLarge)),
+        LeadingHead::Never => return Ok(Beginning::Refused(EdgeFault::BadHead)),
+        LeadingHead::Undecided => return Ok(undecided(b, w)),
+    };
+    let found = &room[..spans.headers];
+    let (framing, connection) = request_framing(w, found);
+    let end = match framing {
+        Framing::Refused(fault) => return Ok(Beginning::Refused(fault)),
+        Framing::Body(length) => spans.len + length,
+    };
+    if b.len() < end {
+        return Ok(Beginning::Unfinished(Want::UpTo(end)));
     }
+    // The fields first: what is copied behind them counts as seldom, so the copying stands there as calls and is written out less often.
+    let fields = fields_of(alloc, w, found)?;
+    let method = Bytes::from_slice(alloc, spans.method.of(w))?;
+    let target = Bytes::from_slice(alloc, spans.path.of(w))?;
+    let body = Bytes::from_slice(alloc, &b[spans.len..end])?;
+    let last = spans.version == 0 || (connection && asks_to_close(w, found));
+    let message = Message {
+        method,
+        target,
+        fields,
+        body,
+        last,
+    };
+    Ok(Beginning::Whole(message, end))
 }
 
-/// What stands at the front of the bytes. Of a message that isn't whole nothing is copied.
+/// What stands at the front of the bytes. Of a message that isn't whole nothing is copied. Room for more than 16 fields takes memory.
 pub(crate) fn take_message(alloc: Global, b: &[u8]) -> Result<Beginning, Mem>
     ensures { IfOk result (IsBeginningOf b.now) }
 {

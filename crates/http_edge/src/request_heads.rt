@@ -1,7 +1,7 @@
 //! The head of a request at the front of bytes.
 ghost use Rattle.std.specs.Prelude.{◌≡◌, ◌≤◌, [], length, vec_len, IfOk, IfSome, IfNone};
 ghost use Rattle.httparse.specs.Spans.{RequestOverflows, RequestExceeds};
-ghost use Rattle.http_edge.specs.Limits.{head_limit, field_limit, all_fields};
+ghost use Rattle.http_edge.specs.Limits.{head_limit, field_limit};
 ghost use Rattle.http_edge.specs.Steps.{IsLeadingHead, IsNoShortHead};
 
 use crate::places::ends_in_target;
