@@ -5,6 +5,7 @@ ghost use Rattle.json_objects.specs.declared.body.BodyFault.TheVariants.{OutOfMe
 ghost use Rattle.json_objects.specs.Bodies.{IsBody, body_of};
 ghost use Rattle.json_objects.specs.Reading.{Gives};
 
+use crate::plain_bodies::read_plain;
 use crate::read_fault::ReadFault;
 use crate::value_reading::read_text;
 use json::Scratch;
@@ -13,7 +14,7 @@ use serde_json::Value;
 use std::alloc::Global;
 
 /// Reads bodies one after another, all with one room: 16 KB that it holds itself, so lend it rather than move it, and memory that grows to the length
-/// of the longest body. What it gives for a body doesn't depend on those before.
+/// of the longest body at most. What it gives for a body doesn't depend on those before.
 #[derive(Drop)]
 pub struct BodyReader {
     scratch: Scratch,
@@ -30,6 +31,18 @@ impl BodyReader {
     /// The one JSON object that the bytes are, in which each number is whole. Where a member stands twice, the last one counts, and a number under an
     /// earlier one is not looked at. After an `Err` the reader is ready for the next body.
     pub fn read(&mut self, alloc: Global, text: &[u8]) -> Result<Value, BodyFault>
+        ensures value { Gives OutOfMemory view result (body_of text.now) }
+        ensures body { IfOk result (λ v. IsBody (view v)) }
+    {
+        if let Some(value) = read_plain(alloc, text) {
+            return Ok(value);
+        }
+        self.read_tokens(alloc, text)
+    }
+
+    /// The same of any bytes, token by token.
+    #[inline(never)]
+    fn read_tokens(&mut self, alloc: Global, text: &[u8]) -> Result<Value, BodyFault>
         ensures value { Gives OutOfMemory view result (body_of text.now) }
         ensures body { IfOk result (λ v. IsBody (view v)) }
     {

@@ -13,7 +13,7 @@ use serde_json::{Map, Value};
 use std::alloc::Global;
 
 /// How deep arrays and objects may nest, as in `serde_json`.
-const MAX_DEPTH: usize = 127;
+pub(crate) const MAX_DEPTH: usize = 127;
 
 /// The value that the text is. Strings with escapes are unescaped in `scratch`, which grows to the length
 /// of the text.

@@ -2,7 +2,7 @@ use Rattle.std.proofs.Common.{◌≡◌, Some, ◌∙◌, sym, ap, inr}
 use Rattle.serde_json.specs.Read.{read}
 use Rattle.serde_json.specs.View.{view}
 use Rattle.json_objects.proofs.Bodies.{body_is, body_is_none}
-use Rattle.body_reading.proofs.body_reader.BodyReader.read.Goals as goal
+use Rattle.body_reading.proofs.body_reader.BodyReader.read_tokens.Goals as goal
 
 pub returns-in_default-clause-value : goal.returns-in_default-clause-value
 returns-in_default-clause-value c = inr (body_is_none c.args.text.now (λ utf8. absurd (c.in_default.ensures.cases.0 utf8)))
