@@ -17,3 +17,4 @@ pub mod Whole
 pub mod Ranges
 pub mod Read
 pub mod Written
+pub mod SoleMember

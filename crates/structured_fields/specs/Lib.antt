@@ -6,3 +6,4 @@ pub mod Reading
 pub mod Classes
 pub mod NameNotes
 pub mod Strings
+pub mod SoleMember

@@ -140,7 +140,7 @@ fn decode_unpadded(alloc: Global, text: &[u8]) -> Result<Bytes, FieldFault>
 }
 
 #[tactic(auto, unfolding(crate::specs::Reading::decoded, base64::specs::GeneralPurpose::decoded_of))]
-fn decode(alloc: Global, text: &[u8]) -> Result<Bytes, FieldFault>
+pub(crate) fn decode(alloc: Global, text: &[u8]) -> Result<Bytes, FieldFault>
     ensures { Gives (λ b. b) result (decoded text.now) }
 {
     match STANDARD.decode(alloc, text) {

@@ -6,6 +6,8 @@
 //! gives the canonical text of a value in range, which every reader's value is, and reading it gives that value again (`field_laws`).
 //! `item_of`, `list_of` and `dictionary_of` (`specs/Reading.antt`) say the same as functions, for contracts that compute with what a text holds.
 //!
+//! `sole_bytes` reads a dictionary of one byte sequence directly, where it has the form that most have; of any other form it says nothing.
+//!
 //! Two rules are this project's own: a byte sequence may stand without its padding, and one whose unused last bits aren't zero is refused. Want of memory is
 //! `OutOfMemory` or `Mem`, and changes nothing.
 //! Reading and writing take time in proportion to the text. Up to eight names are compared one by one; of more, a tree of four steps for each byte of a name
@@ -23,6 +25,7 @@ mod letters;
 mod name_notes;
 mod named;
 mod reading;
+mod sole_member;
 mod writing;
 
 pub use bare::{Bare, is_any_string, is_string};
@@ -31,6 +34,7 @@ pub use item::{Dictionary, InnerList, Item, Items, List, Member, Params};
 pub use letters::trimmed;
 pub use named::Named;
 pub use reading::{read_dictionary, read_item, read_list};
+pub use sole_member::sole_bytes;
 pub use writing::{
     append_inner, append_item, write_dictionary, write_inner, write_item, write_list,
 };
