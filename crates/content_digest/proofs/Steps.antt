@@ -1,11 +1,14 @@
 -- One entry of a list after the other.
 use Rattle.std.proofs.Common.{◌≡◌, ℕ, zero, suc, ◌+◌, Bool, true, false, List, [], ◌∷◌, drop, slice_get, Option, Some, None, Ok, Err, refl, sym, ap, ◌∙◌, subst, arith}
+use Rattle.std.specs.Prelude.{codes}
 use Rattle.std.specs.List.{list_all, list_any}
+use Rattle.sha2.specs.Sha256.{sha256}
 use Rattle.structured_fields.specs.declared.item.Member.{Member}
-use Rattle.structured_fields.specs.Reading.{or_some}
+use Rattle.structured_fields.specs.Reading.{or_some, dictionary_of}
+use Rattle.structured_fields.specs.SoleMember.{sole_sequence}
 use Rattle.content_digest.specs.declared.fault.DigestFault.{DigestFault}
 use Rattle.content_digest.specs.declared.fault.DigestFault.TheVariants.{NotAField, NoKnown, Differs, OutOfMemory}
-use Rattle.content_digest.specs.Judged.{difference, first_difference, answer_to, Gives}
+use Rattle.content_digest.specs.Judged.{other_than, difference, first_difference, answer_to, judged, checked, Gives}
 
 module _ {X : Type 0} where
   -- what is left of a list, by its next element
@@ -52,3 +55,13 @@ module _ (body : List ℕ) (d : List (List ℕ × Member)) (i : ℕ) (e : List �
           never NoKnown h = absurd cc
           never (Differs wanted found) h = absurd cc
           never OutOfMemory h = tt
+
+or_none : (o : Option (List ℕ × List ℕ)) → or_some o None ≡ o
+or_none None = refl
+or_none (Some p) = refl
+
+-- a field that is one digest and nothing else
+pub sole_judged : (field body bytes : List ℕ) → dictionary_of field ≡ Some (sole_sequence (codes "sha-256") bytes)
+    → checked field body ≡ answer_to (other_than (sha256 body) (Some bytes))
+unfolding checked judged
+sole_judged field body bytes e = rw e (ap answer_to (or_none (other_than (sha256 body) (Some bytes))))

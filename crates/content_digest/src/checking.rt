@@ -1,5 +1,5 @@
 //! Whether a field is of a body.
-ghost use Rattle.std.specs.Prelude.{◌≡◌, ◌≢◌, Err};
+ghost use Rattle.std.specs.Prelude.{◌≡◌, ◌≢◌, Some, Err};
 ghost use Rattle.std.specs.Option.{option_copied};
 ghost use Rattle.content_digest.specs.declared.fault.DigestFault.TheVariants.{OutOfMemory};
 ghost use Rattle.content_digest.specs.Digest.{is_known, sequence_of, has_right_kind, are_sequences, has_known};
@@ -10,7 +10,7 @@ use bytes_and_lists::bytes::Bytes;
 use bytes_and_lists::memory::Duplicate;
 use sha2::{Digest, Sha256, Sha512};
 use std::alloc::Global;
-use structured_fields::{Bare, Dictionary, FieldFault, Item, Member, read_dictionary};
+use structured_fields::{Bare, Dictionary, FieldFault, Item, Member, read_dictionary, sole_bytes};
 
 fn is_known(name: &[u8]) -> bool
     ensures { result ≡ is_known name.now }
@@ -62,13 +62,10 @@ fn has_known(members: &Dictionary) -> bool
     false
 }
 
-// Whether a byte sequence is this digest.
-fn compare_with(alloc: Global, wanted: &[u8], member: &Member) -> Result<(), DigestFault>
-    ensures { Gives result (answer_to (other_than wanted.now (sequence_of member.now))) }
+// Whether bytes are this digest. Where they are, this takes no memory.
+fn compare_bytes(alloc: Global, wanted: &[u8], found: &Bytes) -> Result<(), DigestFault>
+    ensures { Gives result (answer_to (other_than wanted.now (Some found.now))) }
 {
-    let Some(found) = sequence_of(member) else {
-        return Ok(());
-    };
     if wanted == found.as_slice() {
         return Ok(());
     }
@@ -76,6 +73,16 @@ fn compare_with(alloc: Global, wanted: &[u8], member: &Member) -> Result<(), Dig
         wanted: Bytes::from_slice(alloc, wanted)?,
         found: found.copy()?,
     })
+}
+
+// The same of a member, where it is a byte sequence.
+fn compare_with(alloc: Global, wanted: &[u8], member: &Member) -> Result<(), DigestFault>
+    ensures { Gives result (answer_to (other_than wanted.now (sequence_of member.now))) }
+{
+    match sequence_of(member) {
+        Some(found) => compare_bytes(alloc, wanted, found),
+        None => Ok(()),
+    }
 }
 
 // Whether an entry under a known name is the digest of the body. Where it is, this takes no memory.
@@ -115,13 +122,24 @@ fn judge(alloc: Global, members: &Dictionary, body: &[u8]) -> Result<(), DigestF
 }
 
 #[tactic(auto, unfolding(crate::specs::Judged::checked))]
-fn judge_field(alloc: Global, field: &[u8], body: &[u8]) -> Result<(), DigestFault>
+fn judge_dictionary(alloc: Global, field: &[u8], body: &[u8]) -> Result<(), DigestFault>
     ensures { Gives result (checked field.now body.now) }
 {
     match read_dictionary(alloc, field) {
         Ok(members) => judge(alloc, &members, body),
         Err(FieldFault::NotInGrammar) => Err(DigestFault::NotAField),
         Err(FieldFault::OutOfMemory) => Err(DigestFault::OutOfMemory),
+    }
+}
+
+// Almost every field is one digest and nothing else, and is compared without a dictionary.
+#[tactic(auto, using(crate::proofs::Steps::sole_judged))]
+fn judge_field(alloc: Global, field: &[u8], body: &[u8]) -> Result<(), DigestFault>
+    ensures { Gives result (checked field.now body.now) }
+{
+    match sole_bytes(alloc, field, b"sha-256") {
+        Some(found) => compare_bytes(alloc, &Sha256::digest(body), &found),
+        None => judge_dictionary(alloc, field, body),
     }
 }
 
