@@ -1,5 +1,5 @@
 //! The members of a dictionary that count for one who looks for a parameter, or for a key. The others are skipped.
-ghost use Rattle.std.specs.Prelude.{◌≡◌, ◌||◌, ℕ, List, Some, [], length, IfOk, IfErr};
+ghost use Rattle.std.specs.Prelude.{◌≡◌, ◌||◌, ℕ, List, Some, [], length, IfOk, IfErr, IfSome};
 ghost use Rattle.std.specs.Option.{option_map};
 ghost use Rattle.std.specs.Str.{bytes_eq};
 ghost use Rattle.structured_fields.specs.declared.item.Member.{Member as MemberValue};
@@ -12,7 +12,7 @@ use crate::entries::{entry_value_read, entry_value_single};
 use crate::skipping::{entry_value_matched, key_in};
 use std::alloc::Global;
 use structured_fields::front::{next_in, without_spaces};
-use structured_fields::{Bare, FieldFault, InnerList};
+use structured_fields::{Bare, FieldFault, InnerList, sole_bytes};
 
 /// An inner list that has the parameter that was looked for.
 #[derive(Drop)]
@@ -209,12 +209,19 @@ fn single_in(alloc: Global, bytes: &[u8], key: &[u8]) -> Result<Option<Bare>, Fi
     Err(FieldFault::NotInGrammar)
 }
 
-/// The bare item of the member under a key of a dictionary (RFC 9651, section 4.2.2), of which the last one counts. None exactly where no member has the key,
-/// or it is an inner list. The text is gone through once, and no other member takes memory that stays.
-///
-/// Errors: NotInGrammar exactly where the text is no dictionary. OutOfMemory may come in place of any answer.
+// The same where the text is one byte sequence under the key, and nothing else: most of the fields that are asked are. What is no key stands in no dictionary.
+fn sole_under(alloc: Global, text: &[u8], key: &[u8]) -> Option<Bare>
+    ensures { IfSome result (λ bare. option_map (λ d. bare_found (value_at d key.now)) (dictionary_of text.now) ≡ Some (Some bare)) }
+{
+    let (_, behind) = key_in(key)?;
+    if !behind.is_empty() {
+        return None;
+    }
+    Some(Bare::Binary(sole_bytes(alloc, text, key)?))
+}
+
 #[tactic(auto, unfolding(structured_fields::specs::Reading::dictionary_of, structured_fields::specs::Reading::members_of))]
-pub fn single_under(alloc: Global, text: &[u8], key: &[u8]) -> Result<Option<Bare>, FieldFault>
+fn single_in_text(alloc: Global, text: &[u8], key: &[u8]) -> Result<Option<Bare>, FieldFault>
     ensures { Gives (λ o. o) result (option_map (λ d. bare_found (value_at d key.now)) (dictionary_of text.now)) }
 {
     let bytes = without_spaces(text);
@@ -222,4 +229,18 @@ pub fn single_under(alloc: Global, text: &[u8], key: &[u8]) -> Result<Option<Bar
         return Ok(None);
     }
     single_in(alloc, bytes, key)
+}
+
+/// The bare item of the member under a key of a dictionary (RFC 9651, section 4.2.2), of which the last one counts. None exactly where no member has the key,
+/// or it is an inner list. A text that is one byte sequence under the key is decoded directly. Any other is gone through once then, and no other member takes
+/// memory that stays.
+///
+/// Errors: NotInGrammar exactly where the text is no dictionary. OutOfMemory may come in place of any answer.
+pub fn single_under(alloc: Global, text: &[u8], key: &[u8]) -> Result<Option<Bare>, FieldFault>
+    ensures { Gives (λ o. o) result (option_map (λ d. bare_found (value_at d key.now)) (dictionary_of text.now)) }
+{
+    match sole_under(alloc, text, key) {
+        Some(bare) => Ok(Some(bare)),
+        None => single_in_text(alloc, text, key),
+    }
 }
