@@ -1,7 +1,6 @@
 //! The authorization server, as `serving` serves it.
 use crate::replies::{http_reply, print_direct};
-use as_requests::{Edge, RequestStep, desk_call};
-use body_reading::BodyReader;
+use as_requests::{Edge, RequestReader, RequestStep, desk_call};
 use bytes_and_lists::memory::Mem;
 use bytes_and_lists::message::Message;
 use gnap_model::calls::Reply;
@@ -31,7 +30,7 @@ impl Server for AuthorizationServer {
 
     type Response = ReadyReply;
 
-    type Scratch = BodyReader;
+    type Scratch = RequestReader;
 
     ghost rules = { λ server. server.edge };
 
@@ -43,19 +42,19 @@ impl Server for AuthorizationServer {
 
     ghost says_all = { says_all };
 
-    fn scratch(&self, alloc: Global) -> BodyReader {
-        BodyReader::new(alloc)
+    fn scratch(&self, alloc: Global) -> RequestReader {
+        RequestReader::new(alloc)
     }
 
     fn step(
         &self,
         alloc: Global,
-        bodies: &mut BodyReader,
+        reader: &mut RequestReader,
         message: &Message,
         moment: u64,
         last: bool,
     ) -> Result<MessageStep<ReadyReply, Signed>, Mem> {
-        match desk_call(alloc, bodies, message, &self.edge, moment)? {
+        match desk_call(alloc, reader, message, &self.edge, moment)? {
             RequestStep::Direct(answer) => {
                 let said = print_direct(alloc, self.edge.setup(), answer, last)?;
                 Ok(MessageStep::Say(said))

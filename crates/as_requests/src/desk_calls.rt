@@ -10,6 +10,7 @@ ghost use Rattle.as_requests.specs.DeskCalls.{message_body, step_of, desk_call, 
 use crate::authorization::presented_value;
 use crate::edge::Edge;
 use crate::key_rotations::is_signed_by_named;
+use crate::request_reader::RequestReader;
 use crate::routes::{Purpose, Route};
 use crate::signers::{Signer, find_signer, needs_mark};
 use body_reading::BodyReader;
@@ -124,11 +125,11 @@ fn call_by(
 /// `rotation_checks::verify_rotation` doesn't answer that key as the one that made the second signature (RFC 9635, section 6.1.1); and else the call that was
 /// read. A call other than an introspection has the signature's mark.
 ///
-/// A body goes through unread until the signature passed, and is read by `bodies`. Err only where memory ran out, and nothing is changed then.
+/// A body goes through unread until the signature passed, and is read by `reader`. Err only where memory ran out, and nothing is changed then.
 #[tactic(auto, unfolding(crate::specs::DeskCalls::desk_call))]
 pub fn desk_call(
     alloc: Global,
-    bodies: &mut BodyReader,
+    reader: &mut RequestReader,
     message: &Message,
     edge: &Edge,
     moment: u64,
@@ -145,11 +146,25 @@ pub fn desk_call(
         Some(Purpose::RsDiscovery) => return direct_step(Ok(DirectAnswer::RsDiscovery)),
         None => return direct_step(Ok(DirectAnswer::NotAllowed(route))),
     };
-    let Some(Signer { key, mark }) = find_signer(alloc, edge, needs_mark(kind), message, moment)?
+    let Some(Signer { key, mark }) = find_signer(
+        alloc,
+        &mut reader.verifier,
+        edge,
+        needs_mark(kind),
+        message,
+        moment,
+    )?
     else {
         return stranger_step(kind);
     };
-    let call = match call_by(alloc, bodies, edge, kind, key.as_slice(), message) {
+    let call = match call_by(
+        alloc,
+        &mut reader.bodies,
+        edge,
+        kind,
+        key.as_slice(),
+        message,
+    ) {
         Ok(CallOrRefusal::Accepted(call)) => call,
         Ok(CallOrRefusal::Refused(code)) => return error_step(code),
         Err(Mem) => return direct_step(Err(Mem)),

@@ -14,11 +14,13 @@ pub mod authorization;
 pub mod desk_calls;
 pub mod edge;
 mod key_rotations;
+pub mod request_reader;
 pub mod routes;
 pub mod signers;
 
 pub use authorization::presented_value;
 pub use desk_calls::{DirectAnswer, RequestStep, desk_call};
 pub use edge::Edge;
+pub use request_reader::RequestReader;
 pub use routes::{Purpose, Route};
 pub use signers::{Signer, find_signer};

@@ -7,7 +7,7 @@ use bytes_and_lists::bytes::Bytes;
 use bytes_and_lists::memory::Mem;
 use bytes_and_lists::message::Message;
 use gnap_objects::CallKind;
-use message_signature::{SigFault, SignatureMark, verify, verify_marked};
+use message_signature::{SigFault, SignatureMark, Verifier};
 use signed_calls::signed::Mark;
 use std::alloc::Global;
 
@@ -42,6 +42,7 @@ fn signer_with_mark(key: Bytes, mark: Option<SignatureMark>) -> Option<Signer>
 // The signer of a call that needs a mark. None where no signature passes, and where it has no mark.
 fn marked_signer(
     alloc: Global,
+    verifier: &mut Verifier,
     edge: &Edge,
     message: &Message,
     moment: u64,
@@ -49,7 +50,7 @@ fn marked_signer(
     ensures signer { IfOk result (λ s. s ≡ signer edge.now true message.now moment) }
     ensures fits { IfOk result (λ s. IfSome s SignerFits) }
 {
-    match verify_marked(
+    match verifier.verify_marked(
         alloc,
         message,
         &edge.setup().base,
@@ -66,6 +67,7 @@ fn marked_signer(
 // The signer of a call that needs none. None where no signature passes.
 fn unmarked_signer(
     alloc: Global,
+    verifier: &mut Verifier,
     edge: &Edge,
     message: &Message,
     moment: u64,
@@ -73,7 +75,7 @@ fn unmarked_signer(
     ensures signer { IfOk result (λ s. s ≡ signer edge.now false message.now moment) }
     ensures fits { IfOk result (λ s. IfSome s SignerFits) }
 {
-    match verify(
+    match verifier.verify(
         alloc,
         message,
         &edge.setup().base,
@@ -90,6 +92,7 @@ fn unmarked_signer(
 /// Who signed the message, with a mark where one is needed. None where no signature passes, and where it hasn't the mark that is needed.
 pub fn find_signer(
     alloc: Global,
+    verifier: &mut Verifier,
     edge: &Edge,
     needed: bool,
     message: &Message,
@@ -99,8 +102,8 @@ pub fn find_signer(
     ensures fits { IfOk result (λ s. IfSome s SignerFits) }
 {
     if needed {
-        marked_signer(alloc, edge, message, moment)
+        marked_signer(alloc, verifier, edge, message, moment)
     } else {
-        unmarked_signer(alloc, edge, message, moment)
+        unmarked_signer(alloc, verifier, edge, message, moment)
     }
 }

@@ -17,22 +17,22 @@ pub(crate) const SECRET: &[u8] = b"secret-key-of-c1";
 
 /// What verifying takes beside the message.
 #[derive(Drop)]
-pub(crate) struct Verifier {
+pub(crate) struct SignatureCheck {
     base: Bytes,
     ring: Keyring,
     tag: Bytes,
 }
 
-impl Verifier {
+impl SignatureCheck {
     /// The one of the key `c1`.
-    pub(crate) fn new(alloc: Global) -> Result<Verifier, Mem> {
+    pub(crate) fn new(alloc: Global) -> Result<SignatureCheck, Mem> {
         let mut ring = Keyring::new(alloc);
         let id = Bytes::from_slice(alloc, b"c1")?;
         let secret = Bytes::from_slice(alloc, SECRET)?;
         ring.add(&id, &secret)?;
         let base = Bytes::from_slice(alloc, b"https://as.example")?;
         let tag = Bytes::from_slice(alloc, b"gnap")?;
-        Ok(Verifier { base, ring, tag })
+        Ok(SignatureCheck { base, ring, tag })
     }
 
     fn passes(&self, alloc: Global, message: &Message) -> bool {
@@ -40,12 +40,12 @@ impl Verifier {
     }
 }
 
-/// Reads so many requests from the connection, verifies them where there is a verifier, and counts those that pass, up to the first that can't be read.
+/// Reads so many requests from the connection, verifies them where there is a check, and counts those that pass, up to the first that can't be read.
 pub(crate) fn requests_read(
     alloc: Global,
     connection: &mut MemSource,
     times: u64,
-    verifier: Option<&Verifier>,
+    check: Option<&SignatureCheck>,
 ) -> u64 {
     let mut held = Held::new(alloc);
     let mut passed: u64 = 0;
@@ -53,8 +53,8 @@ pub(crate) fn requests_read(
         let Ok(Some(message)) = next_message(alloc, connection, &mut held) else {
             return passed;
         };
-        let passes = match verifier {
-            Some(verifier) => verifier.passes(alloc, &message),
+        let passes = match check {
+            Some(check) => check.passes(alloc, &message),
             None => true,
         };
         if passes {

@@ -4,7 +4,7 @@
 //! its signature base. Another program made them. Printed is, for each step, how often it came out as it has to, and where it was asked how often, behind
 //! that the nanoseconds of one, the mean, and how many that is a second.
 
-use crate::connections::{Verifier, requests_read};
+use crate::connections::{SignatureCheck, requests_read};
 use crate::hashes::Hashes;
 use crate::timings::nanos_of_one;
 use bytes_and_lists::bytes::Bytes;
@@ -40,7 +40,7 @@ impl Step {
 #[derive(Drop)]
 struct Subject {
     request: Bytes,
-    verifier: Verifier,
+    check: SignatureCheck,
     hashes: Hashes,
 }
 
@@ -68,7 +68,7 @@ impl Subject {
         let body = request.split_once("||").unwrap_or(("", "")).1;
         Ok(Subject {
             request: with_ends(alloc, request, b"\r\n")?,
-            verifier: Verifier::new(alloc)?,
+            check: SignatureCheck::new(alloc)?,
             hashes: Hashes::new(alloc, body, with_ends(alloc, base, b"\n")?, digest, mac)?,
         })
     }
@@ -86,7 +86,7 @@ impl Subject {
     fn count(&self, alloc: Global, step: Step, times: u64, connection: &mut MemSource) -> u64 {
         match step {
             Step::Parse => requests_read(alloc, connection, times, None),
-            Step::ParseAndVerify => requests_read(alloc, connection, times, Some(&self.verifier)),
+            Step::ParseAndVerify => requests_read(alloc, connection, times, Some(&self.check)),
             Step::Hashes => self.hashes.made(times),
         }
     }

@@ -9,7 +9,7 @@ ghost use Rattle.derivation_requests.specs.Pairs.{PairFits, ArePairs};
 ghost use Rattle.derivation_requests.specs.Deriving.{parent_in, parent_of, server_of, beginner, by_parent, derive_call, IsBegin, IsDerivable};
 
 use crate::pairs::Pairs;
-use as_requests::{DirectAnswer, Edge, RequestStep, desk_call};
+use as_requests::{DirectAnswer, Edge, RequestReader, RequestStep, desk_call};
 use body_reading::BodyReader;
 use bytes_and_lists::bytes::Bytes;
 use bytes_and_lists::memory::{Duplicate, Mem};
@@ -137,11 +137,11 @@ fn server_of<'p>(pairs: &'p Pairs, call: &Call) -> Option<&'p Bytes>
 
 /// What the message asks at this moment, in seconds since 1970, where these pairs are known: what `as_requests::desk_call` answers, but for a grant request
 /// of a pair's client. Where its member `existing_access_token` is a string of at most 64 bytes, it is `Derive` with that string, the pair's server and the
-/// request; else the answer is `invalid_request`. `bodies` reads the body a second time then. Err only where memory ran out, and nothing is changed then.
+/// request; else the answer is `invalid_request`. `reader` reads the body a second time then. Err only where memory ran out, and nothing is changed then.
 #[tactic(auto, unfolding(crate::specs::Deriving::derive_call))]
 pub fn derive_call(
     alloc: Global,
-    bodies: &mut BodyReader,
+    reader: &mut RequestReader,
     message: &Message,
     edge: &Edge,
     pairs: &Pairs,
@@ -151,11 +151,17 @@ pub fn derive_call(
     ensures step { IfOk result (λ s. s ≡ derive_call pairs.now edge.now message.now moment) }
     ensures derivable { IfOk result IsDerivable }
 {
-    match desk_call(alloc, bodies, message, edge, moment)? {
+    match desk_call(alloc, reader, message, edge, moment)? {
         RequestStep::Direct(answer) => Ok(DeriveStep::Plain(RequestStep::Direct(answer))),
         RequestStep::Ask(call) => match server_of(pairs, &call.call) {
             None => Ok(DeriveStep::Plain(RequestStep::Ask(call))),
-            Some(server) => by_parent(alloc, bodies, message.body.as_slice(), server, call),
+            Some(server) => by_parent(
+                alloc,
+                &mut reader.bodies,
+                message.body.as_slice(),
+                server,
+                call,
+            ),
         },
     }
 }

@@ -19,8 +19,7 @@ ghost use Rattle.derived_tokens.specs.Answering.{HasAnswered, HasReplied};
 ghost use Rattle.derived_tokens.specs.DerivedTurns.{question, active_until, ending, WasTold, IsDerivingTurn};
 
 use as_edge::{AuthorizationServer, print_direct};
-use as_requests::{DirectAnswer, Edge, RequestStep};
-use body_reading::BodyReader;
+use as_requests::{DirectAnswer, Edge, RequestReader, RequestStep};
 use bytes_and_lists::bytes::Bytes;
 use bytes_and_lists::memory::Mem;
 use bytes_and_lists::message::Message;
@@ -78,7 +77,7 @@ impl DerivingServer {
     fn step(
         &self,
         alloc: Global,
-        bodies: &mut BodyReader,
+        reader: &mut RequestReader,
         message: &Message,
         moment: u64,
     ) -> Result<DeriveStep, Mem>
@@ -87,7 +86,7 @@ impl DerivingServer {
     {
         derive_call(
             alloc,
-            bodies,
+            reader,
             message,
             &self.server.edge,
             &self.pairs,
@@ -321,7 +320,7 @@ impl<D: Desk<M = Gnap>, G: Clock + Draws> TurnTaker<D, G> for DerivingServer {
 
     type Message = Message;
 
-    type Scratch = BodyReader;
+    type Scratch = RequestReader;
 
     ghost Entry = { GnapEntry };
 
@@ -331,14 +330,14 @@ impl<D: Desk<M = Gnap>, G: Clock + Draws> TurnTaker<D, G> for DerivingServer {
 
     ghost is_turn = { λ server. IsDerivingTurn server.pairs server.setup };
 
-    fn scratch(&self, alloc: Global) -> BodyReader {
-        BodyReader::new(alloc)
+    fn scratch(&self, alloc: Global) -> RequestReader {
+        RequestReader::new(alloc)
     }
 
     fn turn<S: Source + Sink>(
         &self,
         alloc: Global,
-        bodies: &mut BodyReader,
+        reader: &mut RequestReader,
         desk: &mut D,
         conn: &mut S,
         gear: &mut G,
@@ -346,7 +345,7 @@ impl<D: Desk<M = Gnap>, G: Clock + Draws> TurnTaker<D, G> for DerivingServer {
         last: bool,
     ) -> AfterTurn {
         let moment = gear.now();
-        match self.step(alloc, bodies, message, moment) {
+        match self.step(alloc, reader, message, moment) {
             Ok(DeriveStep::Plain(step)) => {
                 plain_turn(self, alloc, desk, conn, gear, message, last, moment, step)
             }

@@ -9,7 +9,7 @@ use Rattle.structured_fields.specs.declared.item.InnerList.{InnerList}
 use Rattle.structured_fields.specs.Strings.{is_any_string, are_strings}
 use Rattle.dictionary_lookup.specs.Skipping.{cut_list, has_parameters, up_to_parameters}
 use Rattle.message_signature.specs.Base.{name_of, line_of, base_lines, signature_base}
-use Rattle.message_signature.specs.Lone.{lone_seen, lone_of}
+use Rattle.message_signature.specs.Lone.{cut_under}
 use Rattle.message_signature.specs.Marked.{judged_with_mark}
 use Rattle.message_signature.specs.Verified.{Signature, is_well_formed, judged}
 
@@ -79,7 +79,7 @@ module _ (m : Message) (base : List ℕ) where
 
   module _ (ring : List (List ℕ × List ℕ)) (now : ℕ) (label : List ℕ) (sig : Signature) where
     abbrev cut : Signature
-    cut = lone_seen label (lone_of sig)
+    cut = cut_under label sig
 
     pub judged_cut : judged m base ring now cut ≡ judged m base ring now sig
     unfolding judged

@@ -1,6 +1,7 @@
 mod ComponentParts
 pub mod Fields
 pub mod Lines
+mod FilledTemplates
 pub mod MostComponents
 pub mod WithTag
 pub mod CutLists
@@ -11,3 +12,4 @@ pub mod SignedBase
 pub mod SigningSteps
 pub mod CheckSteps
 pub mod VerifiedParts
+pub mod Admitted

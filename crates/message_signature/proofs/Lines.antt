@@ -11,42 +11,51 @@ use Rattle.message_signature.specs.declared.fault.BaseFault.TheVariants.{Unsuppo
 use Rattle.message_signature.specs.Faults.{FailsBase}
 use Rattle.message_signature.specs.Base.{line_of, base_lines}
 
-abbrev behind : List ℕ → Option (List ℕ) → Option (List ℕ)
-behind text o = option_map (λ t. text ++ t) o
+module _ {X : Type 0} where
+  abbrev pub behind : List X → Option (List X) → Option (List X)
+  behind text o = option_map (λ t. text ++ t) o
 
--- the text, then a line, then the lines
-joined : (text : List ℕ) (line lines : Option (List ℕ)) (out : List ℕ) → behind text line ≡ Some out
-    → behind text (line >>= λ l. lines >>= λ ls. Some (l ++ ls)) ≡ behind out lines
-joined text None lines out h = absurd cc
-joined text (Some l) None out h = refl
-joined text (Some l) (Some ls) out h =
-    let e : text ++ l ≡ out = cc in
-    ap (λ (t : List ℕ). Some t) (sym (append_assoc text l ls) ∙ ap (λ (t : List ℕ). t ++ ls) e)
+  -- the text, then a line, then the lines
+  joined : (text : List X) (line lines : Option (List X)) (out : List X) → behind text line ≡ Some out
+      → behind text (line >>= λ l. lines >>= λ ls. Some (l ++ ls)) ≡ behind out lines
+  joined text None lines out h = absurd cc
+  joined text (Some l) None out h = refl
+  joined text (Some l) (Some ls) out h =
+      let e : text ++ l ≡ out = cc in
+      ap (λ (t : List X). Some t) (sym (append_assoc text l ls) ∙ ap (λ (t : List X). t ++ ls) e)
 
-none : (text : List ℕ) (o : Option (List ℕ)) → behind text o ≡ None → o ≡ None
-none text None h = refl
-none text (Some l) h = absurd cc
+  none : (text : List X) (o : Option (List X)) → behind text o ≡ None → o ≡ None
+  none text None h = refl
+  none text (Some l) h = absurd cc
+
+  -- the whole is the text with what is left behind it, of which the line is the first
+  module _ (text : List X) (line lines left whole : Option (List X)) (first : left ≡ (line >>= λ l. lines >>= λ ls. Some (l ++ ls)))
+      (so_far : behind text left ≡ whole) where
+    pub one_more : (out : List X) → behind text line ≡ Some out → behind out lines ≡ whole
+    one_more out h = sym (ap (behind text) first ∙ joined text line lines out h) ∙ so_far
+
+    pub one_fails : (e : BaseFault) → FailsBase e (behind text line) → FailsBase e whole
+    one_fails OutOfMemory h = tt
+    one_fails Unsupported h =
+        let no : left ≡ None = rw (first, none text line h) refl in
+        sym so_far ∙ ap (behind text) no
+
+  pub lines_start : (lines : Option (List X)) → behind [] lines ≡ lines
+  lines_start None = refl
+  lines_start (Some ls) = refl
 
 module _ (m : Message) (base : List ℕ) (items : List Item) (i : ℕ) (item : Item) (text : List ℕ) (at : slice_get items i ≡ Some item)
     (so_far : behind text (base_lines m base (drop i items)) ≡ base_lines m base items) where
-  step : base_lines m base (drop i items) ≡ (line_of m base item (drop (i + 1) items) >>= λ l. base_lines m base (drop (i + 1) items) >>= λ ls. Some (l ++ ls))
+  first : base_lines m base (drop i items) ≡ (line_of m base item (drop (i + 1) items) >>= λ l. base_lines m base (drop (i + 1) items) >>= λ ls. Some (l ++ ls))
   unfolding base_lines
-  step = ap (base_lines m base) (opened items i item at)
+  first = ap (base_lines m base) (opened items i item at)
 
   pub lines_more : (out : List ℕ) → behind text (line_of m base item (drop (i + 1) items)) ≡ Some out
       → behind out (base_lines m base (drop (i + 1) items)) ≡ base_lines m base items
-  lines_more out h = sym (ap (behind text) step ∙ joined text (line_of m base item (drop (i + 1) items)) (base_lines m base (drop (i + 1) items)) out h)
-      ∙ so_far
+  lines_more = one_more text _ _ _ _ first so_far
 
   pub lines_failed : (e : BaseFault) → FailsBase e (behind text (line_of m base item (drop (i + 1) items))) → FailsBase e (base_lines m base items)
-  lines_failed OutOfMemory h = tt
-  lines_failed Unsupported h =
-      let no : base_lines m base (drop i items) ≡ None = rw (step, none text (line_of m base item (drop (i + 1) items)) h) refl in
-      sym so_far ∙ ap (behind text) no
-
-pub lines_start : (lines : Option (List ℕ)) → behind [] lines ≡ lines
-lines_start None = refl
-lines_start (Some ls) = refl
+  lines_failed = one_fails text _ _ _ _ first so_far
 
 pub lines_end : (m : Message) (base text : List ℕ) → behind text (base_lines m base []) ≡ Some text
 unfolding base_lines

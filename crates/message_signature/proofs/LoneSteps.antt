@@ -1,6 +1,6 @@
 -- The signature with a tag, by what was found of the members of the two fields.
 use Rattle.std.proofs.Common.{◌≡◌, ℕ, Bool, true, false, cond, List, [], ◌∷◌, Option, Some, None, Result, Ok, Err, refl, sym, ap, subst, ◌∙◌}
-use Rattle.std.specs.Prelude.{codes}
+use Rattle.std.specs.Prelude.{codes, map}
 use Rattle.std.specs.Option.{option_map}
 use Rattle.bytes_and_lists.specs.declared.message.Message.{Message}
 use Rattle.structured_fields.specs.declared.bare.Bare.{Bare}
@@ -21,7 +21,8 @@ use Rattle.message_signature.specs.declared.reading.ReadSignature.TheVariants.{A
 use Rattle.message_signature.specs.declared.tags.SignatureFields.{SignatureFields}
 use Rattle.message_signature.specs.Components.{field_value}
 use Rattle.message_signature.specs.Faults.{◌>>=◌, need, must, Fails}
-use Rattle.message_signature.specs.Lone.{read_tagged, bytes_in, formed, formed_strings, lone_seen, IsLone, IsRead, tagged_read}
+use Rattle.message_signature.specs.TaggedLists.{IsTagged}
+use Rattle.message_signature.specs.Lone.{read_tagged, bytes_in, formed, lone_seen, IsLone, IsRead, tagged_read}
 use Rattle.message_signature.specs.Verified.{Signature, is_well_formed, with_tag, signature_under, signature_fields, tagged_in, tagged, judged, verified}
 use Rattle.message_signature.specs.Marked.{judged_with_mark, id_and_mark, verified_marked}
 use Rattle.message_signature.proofs.CutLists.{cut_is_formed, judged_cut, marked_cut}
@@ -101,6 +102,44 @@ pub once_is : (tag label : List ℕ) (d : List Entry) (list : InnerList) (m : Me
     → matches_among (codes "tag") tag d ≡ (label, Inner list) ∷ []
 once_is tag label d list m is one = one ∙ ap (λ (x : Member). (label, x) ∷ []) is
 
+-- ---- a list that is held
+
+module _ (input tag label : List ℕ) (list : InnerList) where
+  -- the dictionary in which it is found
+  pub record Found : Type 0 where
+    pub d : List Entry
+    pub reads : dictionary_of input ≡ Some d
+    pub m : Member
+    pub once : matches_among (codes "tag") tag d ≡ (label, m) ∷ []
+    pub is : Some list ≡ strings_in m
+
+  pub tagged_found : IsTagged input tag label list → Found
+  tagged_found h = by (dictionary_of input) refl h
+    where
+      held : List Entry → List (List ℕ × Option InnerList)
+      held d = map (λ (e : Entry). (e.0, strings_in e.1)) d
+
+      among : (d : List Entry) → dictionary_of input ≡ Some d → (found : List Entry) → matches_among (codes "tag") tag d ≡ found
+          → held found ≡ (label, Some list) ∷ [] → Found
+      among d reads [] e h = absurd cc
+      among d reads ((name, m) ∷ []) e h =
+          let first : List ℕ × Option InnerList = (name, strings_in m) in
+          let wanted : List ℕ × Option InnerList = (label, Some list) in
+          let same : first ≡ wanted = cc in
+          record {
+            d = d;
+            reads = reads;
+            m = m;
+            once = e ∙ ap (λ (n : List ℕ). (n, m) ∷ []) (ap (λ (p : List ℕ × Option InnerList). p.0) same);
+            is = sym (ap (λ (p : List ℕ × Option InnerList). p.1) same);
+          }
+      among d reads (one ∷ other ∷ others) e h = absurd cc
+
+      by : (r : Option (List Entry)) → dictionary_of input ≡ r
+          → option_map (λ (d : List Entry). held (matches_among (codes "tag") tag d)) r ≡ Some ((label, Some list) ∷ []) → Found
+      by None e h = absurd cc
+      by (Some d) e h = among d e (matches_among (codes "tag") tag d) refl (some_is _ _ h)
+
 -- a list of other items hasn't its form
 pub no_strings : (list : InnerList) → None ≡ strings_in (Inner list) → is_well_formed list ≡ false
 no_strings list h = by (are_strings list.items) refl h
@@ -129,8 +168,8 @@ module _ (label : List ℕ) (list whole : InnerList) (all : are_strings whole.it
   pub formed_is : (o : Option (List ℕ)) (one : LoneSignature) → formed label list o ≡ Ok (lone_seen label one) → IsLone (formed label whole o) one
   formed_is o one h = by (is_well_formed whole) o (subst (λ (b : Bool). made b list o ≡ Ok (lone_seen label one)) same_form h)
     where
-      held : Signature → LoneSignature
-      held sig = record { list = sig.list; bytes = sig.bytes }
+      under : List ℕ → Signature → Signature
+      under other sig = record { label = other; list = sig.list; bytes = sig.bytes }
 
       by : (b : Bool) (o : Option (List ℕ)) → made b list o ≡ Ok (lone_seen label one) → IsLone (made b whole o) one
       by true (Some bytes) h =
@@ -138,7 +177,7 @@ module _ (label : List ℕ) (list whole : InnerList) (all : are_strings whole.it
           let same : found ≡ lone_seen label one = cc in (
             record { label = label; list = whole; bytes = bytes },
             refl,
-            sym (ap held same) ∙ ap (λ (l : InnerList). record { list = l; bytes = bytes }) is,
+            λ other. sym (ap (under other) same) ∙ ap (λ (l : InnerList). record { label = other; list = l; bytes = bytes }) is,
           )
       by true None h = absurd cc
       by false o h = absurd cc
@@ -222,23 +261,19 @@ module _ (input signature tag : List ℕ) where
     malformed_once label (Single item) o h one none = absurd (never_single tag d label item one)
     malformed_once label (Inner list) o h one none = tagged_once label list o h one ∙ rw (no_strings list none) refl
 
-    -- by what was read of the list
-    module _ (label : List ℕ) (m : Member) (o : Option (List ℕ))
+    -- by the list that is held
+    module _ (label : List ℕ) (m : Member) (list : InnerList) (o : Option (List ℕ))
         (bytes : need NotAField (option_map (signature_under label) (dictionary_of signature)) ≡ Ok o)
-        (once : matches_among (codes "tag") tag d ≡ (label, m) ∷ []) where
-      pub once_lone : (strings : Option InnerList) (one : LoneSignature) → strings ≡ strings_in m → formed_strings label strings o ≡ Ok (lone_seen label one)
-          → IsLone (read_tagged input signature tag) one
-      once_lone None one is h = absurd cc
-      once_lone (Some list) one is h =
-          let cut = cut_of m list is in
+        (once : matches_among (codes "tag") tag d ≡ (label, m) ∷ []) (is : Some list ≡ strings_in m) where
+      cut : IsCutOf list m
+      cut = cut_of m list is
+
+      pub once_lone : (one : LoneSignature) → formed label list o ≡ Ok (lone_seen label one) → IsLone (read_tagged input signature tag) one
+      once_lone one h =
           rw (tagged_once label cut.0 o bytes (once_is tag label d cut.0 m cut.1 once)) (formed_is label list cut.0 cut.2 cut.3 o one h)
 
-      pub once_refused : (strings : Option InnerList) (e : SigFault) → strings ≡ strings_in m → Fails e (formed_strings label strings o)
-          → Fails e (read_tagged input signature tag)
-      once_refused None e is h = subst (Fails e) (sym (malformed_once label m o bytes once is)) h
-      once_refused (Some list) e is h =
-          let cut = cut_of m list is in
-          once_fails label cut.0 o e bytes (once_is tag label d cut.0 m cut.1 once) (formed_fails label list cut.0 cut.2 cut.3 o e h)
+      pub once_refused : (e : SigFault) → Fails e (formed label list o) → Fails e (read_tagged input signature tag)
+      once_refused e h = once_fails label cut.0 o e bytes (once_is tag label d cut.0 m cut.1 once) (formed_fails label list cut.0 cut.2 cut.3 o e h)
 
 -- ---- by the fields of a message
 
@@ -281,7 +316,7 @@ module _ (m : Message) (base : List ℕ) (ring : List (List ℕ × List ℕ)) (n
 
   pub verified_by_read : (label : List ℕ) (read : ReadSignature) → IsRead (tagged m tag) tag read
       → verified m base ring now tag ≡ (tagged_read label tag read >>= judged m base ring now)
-  verified_by_read label (Alone one) is = verified_by (Ok is.0) is.1 ∙ sym (rw is.2 (judged_cut m base ring now label is.0))
+  verified_by_read label (Alone one) is = verified_by (Ok is.0) is.1 ∙ sym (ap (judged m base ring now) (is.2 label) ∙ judged_cut m base ring now label is.0)
   verified_by_read label (Among fields) is = verified_by (tagged_in tag fields) is
 
   pub verified_fails : (e : SigFault) → Fails e (tagged m tag) → Fails e (verified m base ring now tag)
@@ -294,7 +329,8 @@ module _ (m : Message) (base : List ℕ) (ring : List (List ℕ × List ℕ)) (n
 
   pub marked_by_read : (label : List ℕ) (read : ReadSignature) → IsRead (tagged m tag) tag read
       → verified_marked m base ring now tag ≡ (tagged_read label tag read >>= judged_with_mark m base ring now)
-  marked_by_read label (Alone one) is = marked_by (Ok is.0) is.1 ∙ sym (rw is.2 (marked_cut m base ring now label is.0))
+  marked_by_read label (Alone one) is = marked_by (Ok is.0) is.1
+      ∙ sym (ap (judged_with_mark m base ring now) (is.2 label) ∙ marked_cut m base ring now label is.0)
   marked_by_read label (Among fields) is = marked_by (tagged_in tag fields) is
 
   pub marked_fails : (e : SigFault) → Fails e (tagged m tag) → Fails e (verified_marked m base ring now tag)

@@ -7,6 +7,8 @@ use Rattle.dictionary_lookup.specs.Skipping.{cut_list}
 use Rattle.content_digest.specs.Digest.{binary_of}
 use Rattle.message_signature.specs.declared.fault.SigFault.{SigFault}
 use Rattle.message_signature.specs.declared.fault.SigFault.TheVariants.{NotAField, Malformed}
+use Rattle.message_signature.specs.declared.lone.LoneList.{LoneList}
+use Rattle.message_signature.specs.declared.lone.LoneList.TheVariants.{Known, New}
 use Rattle.message_signature.specs.declared.lone.LoneSignature.{LoneSignature}
 use Rattle.message_signature.specs.declared.reading.ReadSignature.{ReadSignature}
 use Rattle.message_signature.specs.declared.reading.ReadSignature.TheVariants.{Alone, Among}
@@ -32,23 +34,22 @@ formed label list o = do
   bytes ← need Malformed o
   Ok (record { label = label; list = list; bytes = bytes })
 
--- the same of a list that is there where all its items are Strings
-abbrev pub formed_strings : List ℕ → Option InnerList → Option (List ℕ) → Result Signature SigFault
-formed_strings label strings o = do
-  list ← need Malformed strings
-  formed label list o
+-- what is held of a list
+abbrev pub list_in : LoneList → InnerList
+list_in (Known tagged) = tagged.value.list
+list_in (New list) = list
 
 -- a signature as the code holds it, which stands under a label
 abbrev pub lone_seen : List ℕ → LoneSignature → Signature
-lone_seen label one = record { label = label; list = one.list; bytes = one.bytes }
+lone_seen label one = record { label = label; list = list_in one.held; bytes = one.bytes }
 
 -- what is held of a signature that is read by itself: its list up to the first covered component that has parameters, which no base supports, and its bytes
-abbrev pub lone_of : Signature → LoneSignature
-lone_of sig = record { list = cut_list sig.list; bytes = sig.bytes }
+abbrev pub cut_under : List ℕ → Signature → Signature
+cut_under label sig = record { label = label; list = cut_list sig.list; bytes = sig.bytes }
 
 -- what is held is that of the signature that was found
 abbrev pub IsLone : Result Signature SigFault → LoneSignature → Type 0
-IsLone found one = (sig : Signature) × (found ≡ Ok sig) × (one ≡ lone_of sig)
+IsLone found one = (sig : Signature) × (found ≡ Ok sig) × ((label : List ℕ) → lone_seen label one ≡ cut_under label sig)
 
 -- what was read of the two fields tells the signature with the tag
 abbrev pub IsRead : Result Signature SigFault → List ℕ → ReadSignature → Type 0

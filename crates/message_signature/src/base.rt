@@ -18,7 +18,7 @@ pub(crate) fn is_named(name: &[u8], items: &[Item]) -> bool
     items.iter().any(|item| is_string(name, &item.bare))
 }
 
-fn name_of(item: &Item) -> Option<&Bytes>
+pub(crate) fn name_of(item: &Item) -> Option<&Bytes>
     ensures { option_copied result ≡ name_of item.now }
 {
     if item.params.len() > 0 {
@@ -62,7 +62,7 @@ pub fn others_behind(items: &Items, i: usize) -> &[Item]
 }
 
 // About how long the base gets: the lengths of the values that it may name, and of the field that names them once more.
-fn room_for(message: &Message, base: &Bytes) -> usize {
+pub(crate) fn room_for(message: &Message, base: &Bytes) -> usize {
     let mut room = message
         .method
         .len()
@@ -75,7 +75,7 @@ fn room_for(message: &Message, base: &Bytes) -> usize {
 }
 
 // No text, with room for so many bytes.
-fn text_with_room(alloc: Global, room: usize) -> Result<Bytes, Mem>
+pub(crate) fn text_with_room(alloc: Global, room: usize) -> Result<Bytes, Mem>
     ensures { IfOk result (λ text. text ≡ []) }
 {
     Ok(Bytes::from_vec(Vec::with_capacity(alloc, room)?))

@@ -4,7 +4,8 @@ ghost use Rattle.std.specs.List.{list_any};
 ghost use Rattle.std.specs.Option.{option_map};
 ghost use Rattle.std.specs.Str.{bytes_eq};
 ghost use Rattle.message_signature.specs.Faults.{GivesBase};
-ghost use Rattle.message_signature.specs.Components.{field_value, with_next, text_of, until, or_default, scheme_of, authority_of, target_path, path_of, query_of, begins_with_at, is_upper, derived, other_value, component};
+ghost use Rattle.message_signature.specs.BaseTemplates.{derived_named, derived_value, component_named, covered_value};
+ghost use Rattle.message_signature.specs.Components.{field_value, with_next, text_of, until, or_default, scheme_of, authority_of, target_path, path_of, query_of, begins_with_at, is_upper, other_value, component};
 ghost use Rattle.message_signature.specs.Verified.{has_body, has_field};
 
 use crate::fault::BaseFault;
@@ -13,6 +14,24 @@ use bytes_and_lists::memory::Mem;
 use bytes_and_lists::message::{Fields, Message};
 use std::alloc::Global;
 use structured_fields::trimmed;
+
+/// A derived component (section 2.2).
+#[derive(Clone, Copy, Drop)]
+pub(crate) enum DerivedComponent {
+    Method,
+    TargetUri,
+    Authority,
+    Scheme,
+    Path,
+    Query,
+}
+
+/// A component that a signature may cover: a derived one, or the field with a name.
+#[derive(Drop)]
+pub(crate) enum CoveredComponent {
+    Derived(DerivedComponent),
+    Field(Bytes),
+}
 
 /// The value of a field: borrowed where one line has it, joined where several have.
 #[derive(Drop)]
@@ -76,6 +95,21 @@ pub fn field_value<'a>(
     Ok(found)
 }
 
+// The text with the value of a field behind it. Unsupported exactly where no line has the name.
+fn append_field(
+    alloc: Global,
+    text: Bytes,
+    fields: &Fields,
+    name: &[u8],
+) -> Result<Bytes, BaseFault>
+    ensures { GivesBase (λ b. b) result (option_map (λ v. text ++ v) (field_value name.now fields.now)) }
+{
+    match field_value(alloc, fields, name)? {
+        Some(value) => append_bytes(text, value.as_slice()),
+        None => Err(BaseFault::Unsupported),
+    }
+}
+
 // The text with the value of a component behind it that isn't derived. Unsupported exactly where no line has the name, or it can be no field's.
 fn append_other(
     alloc: Global,
@@ -88,10 +122,7 @@ fn append_other(
     if begins_with_at(name) || has_upper(name) {
         return Err(BaseFault::Unsupported);
     }
-    match field_value(alloc, fields, name)? {
-        Some(value) => append_bytes(text, value.as_slice()),
-        None => Err(BaseFault::Unsupported),
-    }
+    append_field(alloc, text, fields, name)
 }
 
 fn has_line(fields: &Fields, name: &[u8]) -> bool
@@ -196,27 +227,77 @@ fn is(name: &[u8], other: &[u8]) -> bool
     name == other
 }
 
-// The value of a derived component (section 2.2), in two parts. None where the name is none's.
-#[tactic(auto, using(crate::proofs::ComponentParts::alone))]
-fn derived<'a>(message: &'a Message, base: &'a Bytes, name: &[u8]) -> Option<(&'a [u8], &'a [u8])>
-    ensures { option_map (λ parts. parts.0.now ++ parts.1.now) result ≡ derived message.now base.now name.now }
+fn derived_named(name: &[u8]) -> Option<DerivedComponent>
+    ensures { result ≡ derived_named name.now }
+{
+    if is(name, b"@method") {
+        Some(DerivedComponent::Method)
+    } else if is(name, b"@target-uri") {
+        Some(DerivedComponent::TargetUri)
+    } else if is(name, b"@authority") {
+        Some(DerivedComponent::Authority)
+    } else if is(name, b"@scheme") {
+        Some(DerivedComponent::Scheme)
+    } else if is(name, b"@path") {
+        Some(DerivedComponent::Path)
+    } else if is(name, b"@query") {
+        Some(DerivedComponent::Query)
+    } else {
+        None
+    }
+}
+
+/// The component with a name.
+///
+/// Errors: Unsupported exactly where no message has one: a name with upper case, or one with `@` that no derived component has.
+pub(crate) fn component_named(alloc: Global, name: &[u8]) -> Result<CoveredComponent, BaseFault>
+    ensures { GivesBase (λ c. c) result (component_named name.now) }
+{
+    if let Some(component) = derived_named(name) {
+        return Ok(CoveredComponent::Derived(component));
+    }
+    if begins_with_at(name) || has_upper(name) {
+        return Err(BaseFault::Unsupported);
+    }
+    Ok(CoveredComponent::Field(Bytes::from_slice(alloc, name)?))
+}
+
+// The text with the value of a derived component behind it.
+fn append_derived(
+    text: Bytes,
+    message: &Message,
+    base: &Bytes,
+    component: DerivedComponent,
+) -> Result<Bytes, BaseFault>
+    ensures { GivesBase (λ b. b) result (Some (text ++ derived_value message.now base.now component)) }
 {
     let base = base.as_slice();
     let target = message.target.as_slice();
-    if is(name, b"@method") {
-        Some((message.method.as_slice(), b""))
-    } else if is(name, b"@target-uri") {
-        Some((base, target))
-    } else if is(name, b"@authority") {
-        Some((authority_of(base), b""))
-    } else if is(name, b"@scheme") {
-        Some((scheme_of(base), b""))
-    } else if is(name, b"@path") {
-        Some((path_of(target), b""))
-    } else if is(name, b"@query") {
-        Some((query_of(target), b""))
-    } else {
-        None
+    match component {
+        DerivedComponent::Method => append_bytes(text, message.method.as_slice()),
+        DerivedComponent::TargetUri => Ok(with_both(text, base, target)?),
+        DerivedComponent::Authority => append_bytes(text, authority_of(base)),
+        DerivedComponent::Scheme => append_bytes(text, scheme_of(base)),
+        DerivedComponent::Path => append_bytes(text, path_of(target)),
+        DerivedComponent::Query => append_bytes(text, query_of(target)),
+    }
+}
+
+/// The text with the value of a component behind it. Unsupported exactly where the message has no such field.
+pub(crate) fn append_covered(
+    alloc: Global,
+    text: Bytes,
+    message: &Message,
+    base: &Bytes,
+    component: &CoveredComponent,
+) -> Result<Bytes, BaseFault>
+    ensures { GivesBase (λ b. b) result (option_map (λ v. text ++ v) (covered_value message.now base.now component.now)) }
+{
+    match component {
+        CoveredComponent::Derived(component) => append_derived(text, message, base, *component),
+        CoveredComponent::Field(name) => {
+            append_field(alloc, text, &message.fields, name.as_slice())
+        }
     }
 }
 
@@ -231,8 +312,8 @@ pub fn append_component(
 ) -> Result<Bytes, BaseFault>
     ensures { GivesBase (λ b. b) result (option_map (λ v. text ++ v) (component message.now base.now name.now)) }
 {
-    match derived(message, base, name) {
-        Some((front, back)) => Ok(with_both(text, front, back)?),
+    match derived_named(name) {
+        Some(component) => append_derived(text, message, base, component),
         None => append_other(alloc, text, &message.fields, name),
     }
 }

@@ -11,12 +11,15 @@
 #![tactic(auto)]
 
 mod base;
+mod base_template;
 mod components;
+mod demands;
 mod fault;
 mod lone;
 mod marks;
 mod reading;
 mod signing;
+mod tagged_list;
 mod tags;
 mod verifying;
 
@@ -28,4 +31,4 @@ pub use fault::{BaseFault, SigFault, SignFault};
 pub use marks::{LATEST_CREATED, LONGEST_NONCE, SignatureMark, is_nonce, mark_of};
 pub use signing::{covered_items, sign, sign_marked, signature_lines, signature_params};
 pub use tags::{SignatureFields, TaggedSignature, signature_fields, tagged};
-pub use verifying::{check_tagged, judged_list, verify, verify_marked};
+pub use verifying::{Verifier, check_tagged, judged_list, verify, verify_marked};

@@ -3,94 +3,59 @@ ghost use Rattle.std.specs.Prelude.{◌≡◌, ℕ, List, IfOk, Some, codes};
 ghost use Rattle.std.specs.Option.{option_copied, option_map};
 ghost use Rattle.std.specs.Str.{bytes_eq};
 ghost use Rattle.structured_fields.specs.Named.{value_at};
-ghost use Rattle.structured_fields.specs.Strings.{is_string};
-ghost use Rattle.structured_fields.specs.declared.bare.Bare.TheVariants.{Integer};
 ghost use Rattle.hmac_key.specs.Hmac.{hmac_sha256};
 ghost use Rattle.message_signature.specs.declared.fault.SigFault.TheVariants.{Unsupported, UnknownKey};
 ghost use Rattle.message_signature.specs.Base.{signature_base};
 ghost use Rattle.message_signature.specs.Components.{field_value};
-ghost use Rattle.message_signature.specs.Faults.{Gives, and_then, need};
+ghost use Rattle.message_signature.specs.Faults.{Gives, GivesBase, and_then, need};
 ghost use Rattle.message_signature.specs.Lone.{tagged_read};
 ghost use Rattle.message_signature.specs.Marked.{judged_with_mark, verified_marked};
-ghost use Rattle.message_signature.specs.Verified.{absent_or, covers_enough, is_in_window, is_not_expired, key_in, has_right_digest, admitted, made_under, judged_over, judged, verified};
+ghost use Rattle.message_signature.specs.Verified.{key_in, has_right_digest, made_under, judged_over, judged, verified};
 
-use crate::base::{base_of, is_named};
-use crate::components::{field_value, has_body, has_field};
+use crate::base::base_of;
+use crate::base_template::base_by_template;
+use crate::components::{field_value, has_body};
+use crate::demands::{admit, demands_of};
 use crate::fault::{BaseFault, SigFault};
 use crate::marks::{SignatureMark, mark_in};
-use crate::reading::{ReadSignature, list_and_bytes, read_signature};
+use crate::reading::{FoundSignature, ReadSignature, found_signature, known_list, read_signature};
+use crate::tagged_list::TaggedList;
 use bytes_and_lists::bytes::Bytes;
 use bytes_and_lists::memory::{Duplicate, Mem};
 use bytes_and_lists::message::Message;
 use content_digest::DigestFault;
 use hmac_key::{HmacKey, Keyring, same};
 use std::alloc::Global;
-use structured_fields::{Bare, InnerList, is_string};
+use structured_fields::{Bare, InnerList};
 
-// How many seconds `created` may be before or after now.
-const WINDOW: u64 = 300;
-
-// ---- what it covers, when it was made, and by whom
+// The signature base under the list of a signature.
+#[tactic(auto, using(crate::proofs::FilledTemplates::template_gives_base))]
+fn signature_base(
+    alloc: Global,
+    message: &Message,
+    base: &Bytes,
+    one: &FoundSignature<'_>,
+) -> Result<Bytes, BaseFault>
+    ensures { GivesBase (λ b. b) result (signature_base message.now base.now one.now.list.now) }
+{
+    match one.known {
+        Some(known) => base_by_template(alloc, message, base, &known.template),
+        None => base_of(alloc, message, base, one.list),
+    }
+}
 
 fn base_under(
     alloc: Global,
     message: &Message,
     base: &Bytes,
-    list: &InnerList,
+    one: &FoundSignature<'_>,
 ) -> Result<Bytes, SigFault>
-    ensures { Gives (λ b. b) result (need Unsupported (signature_base message.now base.now list.now)) }
+    ensures { Gives (λ b. b) result (need Unsupported (signature_base message.now base.now one.now.list.now)) }
 {
-    match base_of(alloc, message, base, list) {
+    match signature_base(alloc, message, base, one) {
         Ok(text) => Ok(text),
         Err(BaseFault::Unsupported) => Err(SigFault::Unsupported),
         Err(BaseFault::OutOfMemory) => Err(SigFault::OutOfMemory),
-    }
-}
-
-fn covers_enough(message: &Message, list: &InnerList) -> bool
-    ensures { result ≡ covers_enough message.now list.now }
-{
-    let items = list.items.as_slice();
-    is_named(b"@method", items)
-        && is_named(b"@target-uri", items)
-        && (!has_body(message) || is_named(b"content-digest", items))
-        && (!has_field(message, b"authorization") || is_named(b"authorization", items))
-}
-
-fn is_near(now: u64, created: i64) -> bool
-    ensures { result ≡ is_in_window now (Some (Integer created)) }
-{
-    if created < 0 {
-        now.saturating_add(created.unsigned_abs()) <= WINDOW
-    } else {
-        now.abs_diff(created.unsigned_abs()) <= WINDOW
-    }
-}
-
-fn is_in_window(now: u64, created: Option<&Bare>) -> bool
-    ensures { result ≡ is_in_window now (option_copied created.entry) }
-{
-    match created {
-        Some(Bare::Integer(created)) => is_near(now, *created),
-        _ => false,
-    }
-}
-
-fn is_not_expired(now: u64, expires: Option<&Bare>) -> bool
-    ensures { result ≡ is_not_expired now (option_copied expires.entry) }
-{
-    match expires {
-        Some(Bare::Integer(expires)) => *expires >= 0 && now <= expires.unsigned_abs(),
-        _ => true,
-    }
-}
-
-fn is_right_alg(alg: Option<&Bare>) -> bool
-    ensures { result ≡ absent_or (is_string (codes "hmac-sha256")) (option_copied alg.entry) }
-{
-    match alg {
-        Some(alg) => is_string(b"hmac-sha256", alg),
-        None => true,
     }
 }
 
@@ -138,25 +103,6 @@ fn has_right_digest(alloc: Global, message: &Message) -> Result<bool, Mem>
     is_right_digest(alloc, message, field.as_slice())
 }
 
-#[tactic(auto, unfolding(crate::specs::Verified::admitted))]
-fn admit(message: &Message, now: u64, list: &InnerList) -> Result<(), SigFault>
-    ensures { result ≡ admitted message.now now list.now }
-{
-    if !covers_enough(message, list) {
-        return Err(SigFault::Uncovered);
-    }
-    if !is_in_window(now, list.params.get(b"created")) {
-        return Err(SigFault::Created);
-    }
-    if !is_not_expired(now, list.params.get(b"expires")) {
-        return Err(SigFault::Expired);
-    }
-    if !is_right_alg(list.params.get(b"alg")) {
-        return Err(SigFault::Alg);
-    }
-    Ok(())
-}
-
 #[tactic(auto, unfolding(crate::specs::Verified::made_under))]
 fn made_under(
     alloc: Global,
@@ -181,7 +127,7 @@ fn made_under(
 /// The id of the key that made these bytes for the message, over this signature base and with the parameters of this list.
 ///
 /// Errors: the first fault from Uncovered to Digest that is so, in the order of `SigFault`. OutOfMemory may come in place of any answer.
-#[tactic(auto, unfolding(crate::specs::Verified::judged_over))]
+#[tactic(auto, using(crate::proofs::Admitted::admitted_by_demands), unfolding(crate::specs::Verified::judged_over))]
 pub fn check_tagged(
     alloc: Global,
     message: &Message,
@@ -193,28 +139,59 @@ pub fn check_tagged(
 ) -> Result<Bytes, SigFault>
     ensures { Gives (λ id. id) result (judged_over message.now text.now ring.now now list.now bytes.now) }
 {
-    admit(message, now, list)?;
+    admit(message, now, &demands_of(list))?;
     made_under(alloc, message, text, ring, list, bytes)
 }
 
-/// The id of the key that made a signature of the message: these bytes, with the covered components and the parameters of this list. Its label doesn't count.
-///
-/// Errors: the first fault from Unsupported to Digest that is so, in the order of `SigFault`. OutOfMemory may come in place of any answer.
-#[tactic(auto, unfolding(crate::specs::Verified::judged))]
-pub fn judged_list(
+// The same of a signature that was found.
+#[tactic(auto, using(crate::proofs::Admitted::admitted_by_demands), unfolding(crate::specs::Verified::judged, crate::specs::Verified::judged_over))]
+fn judged_found(
     alloc: Global,
     message: &Message,
     base: &Bytes,
     ring: &Keyring,
     now: u64,
-    list: &InnerList,
-    bytes: &Bytes,
+    one: &FoundSignature<'_>,
+) -> Result<Bytes, SigFault>
+    ensures { (label : List ℕ) → Gives (λ id. id) result
+        (judged message.now base.now ring.now now (record { label = label; list = one.now.list.now; bytes = one.now.bytes.now })) }
+{
+    let text = base_under(alloc, message, base, one)?;
+    let demands = match one.known {
+        Some(known) => known.demands,
+        None => demands_of(one.list),
+    };
+    admit(message, now, &demands)?;
+    made_under(alloc, message, &text, ring, one.list, one.bytes)
+}
+
+/// The id of the key that made a signature of the message: these bytes, with the covered components and the parameters of this list. Its label doesn't count.
+///
+/// Errors: the first fault from Unsupported to Digest that is so, in the order of `SigFault`. OutOfMemory may come in place of any answer.
+pub fn judged_list<'a>(
+    alloc: Global,
+    message: &Message,
+    base: &Bytes,
+    ring: &Keyring,
+    now: u64,
+    list: &'a InnerList,
+    bytes: &'a Bytes,
 ) -> Result<Bytes, SigFault>
     ensures { (label : List ℕ) → Gives (λ id. id) result
         (judged message.now base.now ring.now now (record { label = label; list = list.now; bytes = bytes.now })) }
 {
-    let text = base_under(alloc, message, base, list)?;
-    check_tagged(alloc, message, &text, ring, now, list, bytes)
+    judged_found(
+        alloc,
+        message,
+        base,
+        ring,
+        now,
+        &FoundSignature {
+            list,
+            known: None,
+            bytes,
+        },
+    )
 }
 
 // The id of the key of the signature with the tag, by what was read of the two fields.
@@ -229,8 +206,8 @@ fn judged_read(
 ) -> Result<Bytes, SigFault>
     ensures { (label : List ℕ) → Gives (λ id. id) result (and_then (judged message.now base.now ring.now now) (tagged_read label tag.now read.now)) }
 {
-    let (list, bytes) = list_and_bytes(read, tag.as_slice())?;
-    judged_list(alloc, message, base, ring, now, list, bytes)
+    let one = found_signature(read, tag.as_slice())?;
+    judged_found(alloc, message, base, ring, now, &one)
 }
 
 // The same with the mark of its list.
@@ -246,17 +223,71 @@ fn id_and_mark(
     ensures { (label : List ℕ) → Gives (λ x. x) result
         (and_then (judged_with_mark message.now base.now ring.now now) (tagged_read label tag.now read.now)) }
 {
-    let (list, bytes) = list_and_bytes(read, tag.as_slice())?;
-    let id = judged_list(alloc, message, base, ring, now, list, bytes)?;
-    Ok((id, mark_in(list)?))
+    let one = found_signature(read, tag.as_slice())?;
+    let id = judged_found(alloc, message, base, ring, now, &one)?;
+    Ok((id, mark_in(one.list)?))
 }
 
-/// The id of the key that signed a message which came to the server with this base (RFC 9421, section 3.2). The signature is the one whose parameter `tag` is
-/// this tag, and others are passed over; it is the HMAC-SHA-256 (section 3.3.3) of the signature base (section 2.5) under a key of the ring.
-/// The base is scheme, `://` and authority, without a `/` at its end. `now`, `created` and `expires` are in seconds since 1970. Parameters of other names, as
-/// `nonce`, are signed and not looked at.
+/// Verifies the signatures of messages, one after another (RFC 9421, section 1.1). It holds the list of the signature that it read last: where the next message
+/// has the same `Signature-Input`, as those of one signer in one second without nonces have, the field isn't read again. No answer depends on it.
+#[derive(Drop)]
+pub struct Verifier {
+    known: Option<Box<TaggedList>>,
+}
+
+impl Verifier {
+    /// One that has read nothing. It takes no memory yet.
+    pub fn new() -> Verifier {
+        Verifier { known: None }
+    }
+
+    /// The id of the key that signed a message which came to the server with this base (RFC 9421, section 3.2). The signature is the one whose parameter `tag`
+    /// is this tag, and others are passed over; it is the HMAC-SHA-256 (section 3.3.3) of the signature base (section 2.5) under a key of the ring.
+    /// The base is scheme, `://` and authority, without a `/` at its end. `now`, `created` and `expires` are in seconds since 1970. Parameters of other names,
+    /// as `nonce`, are signed and not looked at.
+    ///
+    /// Errors: the first fault that is so, in the order of `SigFault`. OutOfMemory may come in place of any answer.
+    pub fn verify(
+        &mut self,
+        alloc: Global,
+        message: &Message,
+        base: &Bytes,
+        ring: &Keyring,
+        now: u64,
+        tag: &Bytes,
+    ) -> Result<Bytes, SigFault>
+        ensures { Gives (λ id. id) result (verified message.now base.now ring.now now tag.now) }
+    {
+        let read = read_signature(alloc, self.known.take(), message, tag.as_slice())?;
+        let id = judged_read(alloc, message, base, ring, now, &read, tag);
+        self.known = known_list(read);
+        id
+    }
+
+    /// What `verify` answers, with the mark of the signature that it verified (`mark_of`): the fields are read once.
+    ///
+    /// Errors: those of `verify`. OutOfMemory may come in place of any answer.
+    pub fn verify_marked(
+        &mut self,
+        alloc: Global,
+        message: &Message,
+        base: &Bytes,
+        ring: &Keyring,
+        now: u64,
+        tag: &Bytes,
+    ) -> Result<(Bytes, Option<SignatureMark>), SigFault>
+        ensures { Gives (λ x. x) result (verified_marked message.now base.now ring.now now tag.now) }
+    {
+        let read = read_signature(alloc, self.known.take(), message, tag.as_slice())?;
+        let both = id_and_mark(alloc, message, base, ring, now, &read, tag);
+        self.known = known_list(read);
+        both
+    }
+}
+
+/// What a `Verifier` answers of one message.
 ///
-/// Errors: the first fault that is so, in the order of `SigFault`. OutOfMemory may come in place of any answer.
+/// Errors: those of `Verifier::verify`.
 pub fn verify(
     alloc: Global,
     message: &Message,
@@ -267,15 +298,12 @@ pub fn verify(
 ) -> Result<Bytes, SigFault>
     ensures { Gives (λ id. id) result (verified message.now base.now ring.now now tag.now) }
 {
-    let read = read_signature(alloc, message, tag.as_slice())?;
-    let id = judged_read(alloc, message, base, ring, now, &read, tag);
-    drop(read);
-    id
+    Verifier::new().verify(alloc, message, base, ring, now, tag)
 }
 
-/// What `verify` answers, with the mark of the signature that it verified (`mark_of`): the fields are read once.
+/// What a `Verifier` answers of one message, with the mark of its signature.
 ///
-/// Errors: those of `verify`. OutOfMemory may come in place of any answer.
+/// Errors: those of `Verifier::verify_marked`.
 pub fn verify_marked(
     alloc: Global,
     message: &Message,
@@ -286,8 +314,5 @@ pub fn verify_marked(
 ) -> Result<(Bytes, Option<SignatureMark>), SigFault>
     ensures { Gives (λ x. x) result (verified_marked message.now base.now ring.now now tag.now) }
 {
-    let read = read_signature(alloc, message, tag.as_slice())?;
-    let both = id_and_mark(alloc, message, base, ring, now, &read, tag);
-    drop(read);
-    both
+    Verifier::new().verify_marked(alloc, message, base, ring, now, tag)
 }

@@ -8,7 +8,7 @@ ghost use Rattle.gnap_objects.specs.Registrations.{registration_of, resolution_o
 ghost use Rattle.as_requests.specs.Signers.{signer};
 ghost use Rattle.rs_facing.specs.SetRequests.{set_route_at, may_ask, refused, registered_by, resolved_by, body_step, key_step, signed_step, method_step, set_call, IsAskableSet};
 
-use as_requests::{Edge, Signer, find_signer};
+use as_requests::{Edge, RequestReader, Signer, find_signer};
 use body_reading::BodyReader;
 use bytes_and_lists::bytes::Bytes;
 use bytes_and_lists::memory::Mem;
@@ -173,7 +173,7 @@ fn key_step(
 // What the signer of the message asks of the route.
 fn signed_step(
     alloc: Global,
-    bodies: &mut BodyReader,
+    reader: &mut RequestReader,
     edge: &Edge,
     route: SetRoute,
     message: &Message,
@@ -182,9 +182,16 @@ fn signed_step(
     ensures step { IfOk result (λ s. s ≡ signed_step edge.now route message.now (signer edge.now false message.now moment)) }
     ensures askable { IfOk result IsAskableSet }
 {
-    match find_signer(alloc, edge, false, message, moment)? {
+    match find_signer(alloc, &mut reader.verifier, edge, false, message, moment)? {
         Some(Signer { key, mark: _ }) => {
-            key_step(alloc, bodies, edge, route, key, message.body.as_slice())
+            key_step(
+                alloc,
+                &mut reader.bodies,
+                edge,
+                route,
+                key,
+                message.body.as_slice(),
+            )
         }
         None => Ok(refused(ErrorCode::InvalidResourceServer)),
     }
@@ -193,7 +200,7 @@ fn signed_step(
 // What the message asks of the route.
 fn method_step(
     alloc: Global,
-    bodies: &mut BodyReader,
+    reader: &mut RequestReader,
     edge: &Edge,
     route: SetRoute,
     message: &Message,
@@ -205,7 +212,7 @@ fn method_step(
     if message.method.as_slice() != b"POST".as_slice() {
         return Ok(SetStep::Direct(SetAnswer::NotAllowed));
     }
-    signed_step(alloc, bodies, edge, route, message, moment)
+    signed_step(alloc, reader, edge, route, message, moment)
 }
 
 /// What the message asks of the server of resource sets at this moment, in seconds since 1970: the first of these that applies. `NotFound` where no route
@@ -214,12 +221,12 @@ fn method_step(
 /// (`gnap_objects::read_registration`, `read_resolution`); with `InvalidResourceServer` where a registration names another server than its signer; else
 /// the call.
 ///
-/// A body goes through unread until the signature passed, and is read by `bodies`. No nonce is asked for: a registration that is sent again changes nothing.
+/// A body goes through unread until the signature passed, and is read by `reader`. No nonce is asked for: a registration that is sent again changes nothing.
 /// Err only where memory ran out, and nothing is changed then.
 #[tactic(auto, unfolding(crate::specs::SetRequests::set_call))]
 pub fn set_call(
     alloc: Global,
-    bodies: &mut BodyReader,
+    reader: &mut RequestReader,
     message: &Message,
     edge: &Edge,
     moment: u64,
@@ -229,6 +236,6 @@ pub fn set_call(
 {
     match SetRoute::at(target_path(message.target.as_slice())) {
         None => Ok(SetStep::Direct(SetAnswer::NotFound)),
-        Some(route) => method_step(alloc, bodies, edge, route, message, moment),
+        Some(route) => method_step(alloc, reader, edge, route, message, moment),
     }
 }

@@ -1,8 +1,7 @@
 //! The server of resource sets, as `serving` serves it.
 use crate::set_replies::{print_answer, set_reply};
 use crate::set_requests::{SetStep, set_call};
-use as_requests::Edge;
-use body_reading::BodyReader;
+use as_requests::{Edge, RequestReader};
 use bytes_and_lists::memory::Mem;
 use bytes_and_lists::message::Message;
 use http_serving::{HttpFront, ReadyReply, write_busy};
@@ -35,7 +34,7 @@ impl Server for SetServer {
 
     type Response = ReadyReply;
 
-    type Scratch = BodyReader;
+    type Scratch = RequestReader;
 
     ghost rules = { λ server. server.edge };
 
@@ -47,19 +46,19 @@ impl Server for SetServer {
 
     ghost says_all = { says_all };
 
-    fn scratch(&self, alloc: Global) -> BodyReader {
-        BodyReader::new(alloc)
+    fn scratch(&self, alloc: Global) -> RequestReader {
+        RequestReader::new(alloc)
     }
 
     fn step(
         &self,
         alloc: Global,
-        bodies: &mut BodyReader,
+        reader: &mut RequestReader,
         message: &Message,
         moment: u64,
         last: bool,
     ) -> Result<MessageStep<ReadyReply, SetCall>, Mem> {
-        match set_call(alloc, bodies, message, &self.edge, moment)? {
+        match set_call(alloc, reader, message, &self.edge, moment)? {
             SetStep::Direct(answer) => {
                 let said = print_answer(alloc, self.edge.setup(), answer, last)?;
                 Ok(MessageStep::Say(said))
