@@ -7,8 +7,8 @@
 
 rustc compiles the plain server and the client of bench/plain into a temporary folder, by -O alone. Then the servers take turns, so many rounds each, 9 where
 no number is given. Each round starts a server anew. With 16 workers, 16 connections of the client send 3,000 requests each: signed introspections of one token,
-or signed grant requests, of which a server has room for 65,536. And `load` puts 100,000 grants through, by 1 worker and by 4, the start of the program counted
-in. Client and servers share the machine's processors.
+which are the same request again and again or have a nonce each, or signed grant requests, of which a server has room for 65,536. And `load` puts 100,000 grants
+through, by 1 worker and by 4, the start of the program counted in. Client and servers share the machine's processors.
 
 Printed are, for each of these, requests or calls a second by the median of the rounds, and `gnap`'s by the plain server's: above 1 `gnap` is the faster one.
 Then what the server itself took of the processors for one, with the system's part, and the plain server's by `gnap`'s. On a busy machine this says more, since
@@ -191,7 +191,7 @@ def requests_round(program, client, kind):
     served = Served(WORKERS, 1_000_000, program=program, stderr=subprocess.DEVNULL)
     try:
         token = token_of(served, grant_request())
-        what = ["grants", "c1", "photos"] if kind == "grants" else ["introspections", "r1", token]
+        what = [kind, "c1", "photos"] if kind == "grants" else [kind, "r1", token]
         before = processor_time(served.process.pid)
         address = f"{served.address[0]}:{served.address[1]}"
         done = subprocess.run([client, served.config, address, str(WORKERS), str(REQUESTS), *what], stdout=subprocess.PIPE, text=True)
@@ -232,6 +232,7 @@ def measure_all(programs, client, rounds):
     print(f"{os.cpu_count()} processors, a load of {os.getloadavg()[0]:.1f} before, {rounds} rounds")
     print("| | `gnap` a second | plain | ratio | `gnap`, processor of one | plain | ratio |\n|---|---|---|---|---|---|---|")
     measure(f"signed introspections over TCP, {WORKERS} workers", programs, rounds, lambda program: requests_round(program, client, "introspections"))
+    measure("the same with a nonce each", programs, rounds, lambda program: requests_round(program, client, "introspections-with-nonces"))
     measure(f"signed grant requests over TCP, {WORKERS} workers", programs, rounds, lambda program: requests_round(program, client, "grants"))
     for workers in (1, 4):
         measure(f"calls of `load`, {workers} worker{'s' * (workers > 1)}", programs, rounds, lambda program: load_round(program, workers))
@@ -253,7 +254,12 @@ def request_cost(program, kind, count=instructions_in, words=()):
         served = Served(1, 1_000_000, under=[*under_callgrind(folder), *words], program=program, stderr=subprocess.DEVNULL)
         try:
             token = token_of(served, grant_request())
-            return cost_of(folder, served, grant_request if kind == "grants" else lambda: introspection(token), count)
+            requests = {
+                "grants": grant_request,
+                "introspections": lambda: introspection(token),
+                "introspections-with-nonces": lambda: introspection(token, fresh_nonce()),
+            }
+            return cost_of(folder, served, requests[kind], count)
         finally:
             served.stop()
 
@@ -266,14 +272,17 @@ def count(name, programs, cost):
 def count_all(programs):
     print("| instructions of | `gnap` | plain | ratio |\n|---|---|---|---|")
     count("a signed introspection", programs, lambda program: request_cost(program, "introspections"))
+    count("the same with a nonce", programs, lambda program: request_cost(program, "introspections-with-nonces"))
     count("a signed grant request", programs, lambda program: request_cost(program, "grants"))
     few, many = 1_000, 3_000
     count("a call of `load`", programs, lambda program: (load_instructions(program, many) - load_instructions(program, few)) / (6 * (many - few)))
     print("\n| allocations of | `gnap` | plain | ratio |\n|---|---|---|---|")
     count("a signed introspection", programs, lambda program: request_cost(program, "introspections", allocations_in))
+    count("the same with a nonce", programs, lambda program: request_cost(program, "introspections-with-nonces", allocations_in))
     count("a signed grant request", programs, lambda program: request_cost(program, "grants", allocations_in))
     print("\n| lines of code fetched anew by | `gnap` | plain | ratio |\n|---|---|---|---|")
     count("a signed introspection", programs, lambda program: request_cost(program, "introspections", code_misses_in, CACHES))
+    count("the same with a nonce", programs, lambda program: request_cost(program, "introspections-with-nonces", code_misses_in, CACHES))
     count("a signed grant request", programs, lambda program: request_cost(program, "grants", code_misses_in, CACHES))
 
 

@@ -72,8 +72,8 @@ def derivation(parent):
     return signed_post("/gnap", "d1", json.dumps(body).encode(), nonce=fresh_nonce())
 
 
-def introspection(value):
-    return signed_post("/introspect", "r1", json.dumps({"access_token": value, "resource_server": "r1"}).encode())
+def introspection(value, nonce=None):
+    return signed_post("/introspect", "r1", json.dumps({"access_token": value, "resource_server": "r1"}).encode(), nonce=nonce)
 
 
 def first_reply(held):

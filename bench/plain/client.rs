@@ -2,12 +2,13 @@
 //!
 //!     client CONFIG ADDRESS CONNECTIONS REQUESTS grants KEY RIGHT
 //!     client CONFIG ADDRESS CONNECTIONS REQUESTS introspections KEY VALUE
+//!     client CONFIG ADDRESS CONNECTIONS REQUESTS introspections-with-nonces KEY VALUE
 //!
 //! Each of CONNECTIONS sends REQUESTS requests that the setup's key with the id KEY signs, each once the reply to the one before is there: grant requests for
-//! RIGHT, or questions about the token VALUE. All are signed before the clock begins to run, so that the client takes little of the processors. A
-//! connection that the server closes behind a reply is opened anew. Each reply has to have the status 200, and to hand out a token, or to say that the token
-//! is active; else the client says what came and ends with status 1. Printed are the requests, the seconds from the first to the last, and the requests of a
-//! second.
+//! RIGHT, or questions about the token VALUE, which are the same request again and again, or have a nonce each. All are signed before the clock begins to run,
+//! so that the client takes little of the processors. A connection that the server closes behind a reply is opened anew. Each reply has to have the status 200,
+//! and to hand out a token, or to say that the token is active; else the client says what came and ends with status 1. Printed are the requests, the seconds
+//! from the first to the last, and the requests of a second.
 #![allow(dead_code)]
 
 mod base64;
@@ -24,7 +25,7 @@ use std::sync::Barrier;
 use std::time::{Duration, Instant, SystemTime};
 use std::{env, process, thread};
 
-const USAGE: &str = "usage: client CONFIG ADDRESS CONNECTIONS REQUESTS (grants KEY RIGHT | introspections KEY VALUE)";
+const USAGE: &str = "usage: client CONFIG ADDRESS CONNECTIONS REQUESTS (grants KEY RIGHT | introspections[-with-nonces] KEY VALUE)";
 const PATIENCE: Duration = Duration::from_secs(60);
 
 /// What is sent, and what each reply has to have in its body.
@@ -46,9 +47,9 @@ fn kind_of<'a>(setup: &'a Setup, words: &[String]) -> Option<Kind<'a>> {
             let body = format!("{{\"access_token\":{{\"access\":[\"{value}\"]}},\"client\":\"{id}\"}}");
             Some(Kind { path: "/gnap", body, has_nonce: true, key, told: "{\"access_token\":" })
         }
-        "introspections" => {
+        "introspections" | "introspections-with-nonces" => {
             let body = format!("{{\"access_token\":\"{value}\",\"resource_server\":\"{id}\"}}");
-            Some(Kind { path: "/introspect", body, has_nonce: false, key, told: "\"active\":true" })
+            Some(Kind { path: "/introspect", body, has_nonce: kind != "introspections", key, told: "\"active\":true" })
         }
         _ => None,
     }
