@@ -1,5 +1,5 @@
 -- Notes on names: what was noted stays, and so does what is noted of a name.
-use Rattle.std.proofs.Common.{◌≡◌, ◌≢◌, ℕ, ◌+◌, ◌/◌, ◌%◌, ◌<◌, ◌≤◌, ◌==◌, false, ⊎_elim, List, [], ◌∷◌, length, drop, set, get_or, Option, Some, None, refl, sym, ap, subst, ◌∙◌, arith, get_or-set_other, get_or-set_same}
+use Rattle.std.proofs.Common.{◌≡◌, ◌≢◌, ℕ, ◌+◌, ◌<◌, ◌≤◌, ◌==◌, false, ⊎_elim, List, [], ◌∷◌, length, drop, set, get_or, Option, Some, None, refl, sym, ap, subst, ◌∙◌, arith, get_or-set_other, get_or-set_same}
 use Rattle.std.specs.Prelude.{IsSome, option_and_then}
 use Rattle.std.proofs.lemmas.Bool.{cases_eq}
 use Rattle.std.proofs.lemmas.Bool.Decides.{nat_tests}
@@ -55,14 +55,16 @@ absent_before m n stays name none = by (noted m name) refl
     by None e = refl
     by (Some p) e = let there = walk_stays m n stays name 0 p e in absurd cc
 
--- ---- four steps
+-- ---- step by step
 
-pub four_steps : (cells : List ℕ) (node b first second third fourth : ℕ) → noted_at cells (cell_of node (b / 64)) ≡ Some first
-    → noted_at cells (cell_of first (b / 16 % 4)) ≡ Some second
-    → noted_at cells (cell_of second (b / 4 % 4)) ≡ Some third → noted_at cells (cell_of third (b % 4)) ≡ Some fourth
-    → steps cells node (digits b) ≡ Some fourth
+pub first_step : (cells : List ℕ) (node d next n : ℕ) (ds : List ℕ) → noted_at cells (cell_of node d) ≡ Some next → steps cells next ds ≡ Some n
+    → steps cells node (d ∷ ds) ≡ Some n
 unfolding steps
-four_steps cells node b first second third fourth p q r s = rw (p, q, r, s) refl
+first_step cells node d next n ds there behind = rw there behind
+
+pub last_step : (cells : List ℕ) (node d n : ℕ) → noted_at cells (cell_of node d) ≡ Some n → steps cells node (d ∷ []) ≡ Some n
+unfolding steps
+last_step cells node d n there = rw there refl
 
 -- ---- byte by byte
 

@@ -1,5 +1,5 @@
 //! Notes on which names are there: a tree in one list of numbers, which no choice of names makes deep or slow.
-ghost use Rattle.std.specs.Prelude.{◌≡◌, ℕ, List, ◌<◌, ◌≤◌, ◌^◌, Some, None, IfOk, OnOk, IsSome, slice_index, vec_len};
+ghost use Rattle.std.specs.Prelude.{◌≡◌, ℕ, List, [], ◌∷◌, ◌/◌, ◌%◌, ◌<◌, ◌≤◌, ◌^◌, Some, None, IfOk, OnOk, IsSome, slice_index, vec_len};
 ghost use Rattle.std.specs.Option.{unwrap_or};
 ghost use Rattle.structured_fields.specs.NameNotes.{noted_at, cell_of, digits, steps, noted, Extends};
 
@@ -114,17 +114,52 @@ fn further_noting(notes: &mut Notes, node: u32, digit: u8) -> Result<u32, Mem>
     Ok(next)
 }
 
-// The node behind a byte, with new nodes where there are none.
+// The node behind the last two digits of a byte, with new nodes where there are none.
+fn from_third(notes: &mut Notes, node: u32, byte: u8) -> Result<u32, Mem>
+    ensures ok { IfOk result (λ n. (more : List ℕ) → Extends notes.new.items more
+        → steps more node (byte / 4 % 4 ∷ byte % 4 ∷ []) ≡ Some n) }
+    ensures extends { Extends notes.old.items notes.new.items }
+{
+    let third = further_noting(notes, node, byte / 4 % 4)?;
+    let fourth = further_noting(notes, third, byte % 4)?;
+    Ok(fourth)
+}
+
+// That behind the last three digits.
+fn from_second(notes: &mut Notes, node: u32, byte: u8) -> Result<u32, Mem>
+    ensures ok { IfOk result (λ n. (more : List ℕ) → Extends notes.new.items more
+        → steps more node (byte / 16 % 4 ∷ byte / 4 % 4 ∷ byte % 4 ∷ []) ≡ Some n) }
+    ensures extends { Extends notes.old.items notes.new.items }
+{
+    let second = further_noting(notes, node, byte / 16 % 4)?;
+    let fourth = from_third(notes, second, byte)?;
+    Ok(fourth)
+}
+
+// That behind all four.
+fn from_first(notes: &mut Notes, node: u32, byte: u8) -> Result<u32, Mem>
+    ensures ok { IfOk result (λ n. (more : List ℕ) → Extends notes.new.items more → steps more node (digits byte) ≡ Some n) }
+    ensures extends { Extends notes.old.items notes.new.items }
+{
+    let first = further_noting(notes, node, byte / 64)?;
+    let fourth = from_second(notes, first, byte)?;
+    Ok(fourth)
+}
+
+// The same. Nodes that are there are passed first: most names share all digits but the last one or two with others.
 fn below_noting(notes: &mut Notes, node: u32, byte: u8) -> Result<u32, Mem>
     ensures ok { IfOk result (λ n. (more : List ℕ) → Extends notes.new.items more → steps more node (digits byte) ≡ Some n) }
     ensures extends { Extends notes.old.items notes.new.items }
 {
-    if let Some(next) = below(notes.as_slice(), node, byte) {
-        return Ok(next);
-    }
-    let first = further_noting(notes, node, byte / 64)?;
-    let second = further_noting(notes, first, byte / 16 % 4)?;
-    let third = further_noting(notes, second, byte / 4 % 4)?;
+    let Some(first) = further(notes.as_slice(), node, byte / 64) else {
+        return from_first(notes, node, byte);
+    };
+    let Some(second) = further(notes.as_slice(), first, byte / 16 % 4) else {
+        return from_second(notes, first, byte);
+    };
+    let Some(third) = further(notes.as_slice(), second, byte / 4 % 4) else {
+        return from_third(notes, second, byte);
+    };
     let fourth = further_noting(notes, third, byte % 4)?;
     Ok(fourth)
 }
