@@ -1,5 +1,5 @@
 //! Short lists of bytes that take no memory of their own.
-ghost use Rattle.std.specs.Prelude.{◌≡◌, ◌++◌, ◌+◌, ◌≤◌, nat_le, true, false, [], length, map, is_some, IfSome};
+ghost use Rattle.std.specs.Prelude.{◌≡◌, ◌++◌, ◌+◌, ◌≤◌, nat_le, nat_lt, true, false, [], ◌∷◌, length, map, is_some, IfSome};
 ghost use Rattle.std.specs.Char.{to_ascii_lowercase};
 
 use std::marker::Model;
@@ -64,10 +64,26 @@ impl InlineBytes {
         true
     }
 
+    /// Adds the byte at the end, where it has room, and says whether it has.
+    pub(crate) fn push(&mut self, item: u8) -> bool
+        ensures room { result ≡ nat_lt (length self.old) 30 }
+        ensures added { result ≡ true → self.new ≡ self.old ++ item ∷ [] }
+        ensures stays { result ≡ false → self.new ≡ self.old }
+    {
+        let len = self.len as usize;
+        if len >= ROOM {
+            return false;
+        }
+        self.bytes[len] = item;
+        self.len = (len + 1) as u8;
+        true
+    }
+
+    #[tactic(auto, using(crate::proofs::Fronts::front_mapped))]
     pub(crate) fn make_ascii_lowercase(&mut self)
         ensures { self.new ≡ map to_ascii_lowercase self.old }
     {
-        // Of the bytes that are used alone: all 30 would be gone through one by one, by code that is written out 30 times.
-        self.bytes[..self.len as usize].make_ascii_lowercase();
+        // Of the bytes that are used, and behind them to a multiple of 8, which go together: what is left over goes one by one.
+        self.bytes[..(self.len as usize).next_multiple_of(8).min(ROOM)].make_ascii_lowercase();
     }
 }

@@ -19,7 +19,7 @@ impl<T> Model for Boxed<T> {
 }
 
 impl<T: Drop> Boxed<T> {
-    /// Puts the value into memory of its own.
+    /// Puts the value into memory of its own. An `Err` lets the value go.
     pub fn new(alloc: Global, value: T) -> Result<Boxed<T>, Mem>
         ensures { IfOk result (λ boxed. boxed ≡ value) }
     {

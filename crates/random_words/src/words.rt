@@ -120,8 +120,8 @@ impl RandomWords {
         }
     }
 
-    /// The same words with so many made, from the first one on, or `MOST_MADE` where that is less. `None` says that there is nothing to make: the count is 0, or
-    /// they aren't words of a stream, or some are made already. A word that isn't made takes four blocks of ChaCha20 each time that it is looked at.
+    /// The same words with so many made, from the first one on, or `MOST_MADE` where that is less. `None` says that there is nothing to make: the count is 0,
+    /// or they aren't words of a stream, or some are made already. A word that isn't made takes four blocks of ChaCha20 each time that it is looked at.
     pub fn with_made(&self, count: usize) -> Option<RandomWords>
         requires { count ≤ 48 }
         ensures { IfSome result (λ words. words ≡ self.now) }
