@@ -1,23 +1,11 @@
 -- Plain JSON: ASCII, no escapes, no blanks but a space behind a comma or a colon, and no values but strings, arrays and objects.
-use Rattle.std.specs.Prelude.{◌≡◌, ◌<◌, ◌≤◌, ℕ, List, [], ◌∷◌, length, Bool, true, false, ◌||◌, ◌==◌, nat_lt, Some, IsAscii}
+use Rattle.std.specs.Prelude.{◌≡◌, ◌<◌, ◌≤◌, ℕ, List, length, true, false, Some, IsAscii}
 use Rattle.json.specs.Token.{Token}
 use Rattle.json.specs.Lex.{Place, fresh, after_value, may_begin, begins_colon, lex, between, punctuate}
 use Rattle.json.specs.Json as json
-use Rattle.json.specs.Print.{escape, escape_byte}
 use Rattle.serde_json.specs.Data.{Data, Items, Members, no_members}
 use Rattle.serde_json.specs.Read.{of_json, of_items, of_members, converted}
 use Rattle.serde_json.specs.Written.{has_float, items_have_float, members_have_float}
-
--- a byte that stands for itself in a string
-abbrev pub IsPlainByte : ℕ → Type 0
-IsPlainByte x = (escape_byte x ≡ x ∷ []) × (x < 128)
-
--- a byte at which plain text stops
-abbrev pub is_stop : ℕ → Bool
-is_stop x = (x == 34) || (x == 92) || nat_lt x 32 || nat_lt 126 x
-
-abbrev pub IsPlain : List ℕ → Type 0
-IsPlain s = (escape s ≡ s) × IsAscii s
 
 abbrev pub tokens_from : Place → List ℕ → List Token
 tokens_from place text = punctuate place (lex between text)

@@ -1,17 +1,17 @@
 //! A reader of plain bodies, the usual ones: objects (RFC 8259) whose values are strings, arrays and objects, in ASCII, with no escape, and with no blank
 //! but a space behind a comma or a colon. It is short code, since a request runs it once; each other body is left to the reader of tokens.
-ghost use Rattle.std.specs.Prelude.{◌≡◌, ℕ, List, [], ◌∷◌, ◌++◌, ◌≤◌, length, take, map, true, false, IsTrue, IfSome, Ok};
-ghost use Rattle.std.specs.Simd.Lanes.{mask_l};
+ghost use Rattle.std.specs.Prelude.{◌≡◌, ℕ, List, [], ◌∷◌, ◌++◌, true, false, IsTrue, IfSome, Ok};
 ghost use Rattle.json.specs.Print.{quoted};
 ghost use Rattle.serde_json.specs.View.{view, items_view, members_view};
 ghost use Rattle.json_objects.specs.Bodies.{IsBody, body_of};
-ghost use Rattle.body_reading.specs.PlainBodies.{IsPlainByte, is_stop, IsPlain, SpacePassed, BeginsWith, HasItems, HasMembers};
+ghost use Rattle.plain_text.specs.PlainText.{IsPlain};
+ghost use Rattle.body_reading.specs.PlainBodies.{SpacePassed, BeginsWith, HasItems, HasMembers};
 
 use crate::value_reading::MAX_DEPTH;
+use plain_text::plain_len;
 use serde_json::{Map, Value};
 use std::alloc::Global;
 use std::marker::Model;
-use std::simd::prelude::*;
 
 /// The object that the bytes are, if they are plain. `None` says nothing of them: they aren't plain, or memory ran out.
 #[inline(never)]
@@ -165,44 +165,4 @@ impl<'a> Rest<'a> {
         }
         Some(unsafe { str::from_utf8_unchecked(&bytes[..len]) })
     }
-}
-
-/// How many bytes at the front stand for themselves in a string.
-#[inline(always)]
-fn plain_len(bytes: &[u8]) -> usize
-    ensures within { result ≤ length bytes.now }
-    ensures plain { IsPlain (take result bytes.now) }
-{
-    let mut len = 0;
-    'chunks: while bytes.len() - len >= 16 {
-        let found = stops(u8x16::from_slice(&bytes[len..]));
-        if found != 0 {
-            return len + found.trailing_zeros() as usize;
-        }
-        len += 16;
-    }
-    'plain: while len < bytes.len() && is_plain(bytes[len]) {
-        len += 1;
-    }
-    len
-}
-
-/// Those that don't, one bit for each.
-#[inline(always)]
-fn stops(bytes: u8x16) -> u64
-    ensures { result ≡ mask_l (map is_stop bytes) }
-{
-    (bytes.simd_eq(u8x16::splat(b'"'))
-        | bytes.simd_eq(u8x16::splat(b'\\'))
-        | bytes.simd_lt(u8x16::splat(b' '))
-        | bytes.simd_gt(u8x16::splat(b'~'))).to_bitmask()
-}
-
-/// The byte stands for itself in a string, and is ASCII.
-#[tactic(auto, using(crate::proofs::PlainBodies::plain_byte))]
-#[inline(always)]
-fn is_plain(byte: u8) -> bool
-    ensures { IsTrue result → IsPlainByte byte }
-{
-    byte >= b' ' && byte <= b'~' && byte != b'"' && byte != b'\\'
 }

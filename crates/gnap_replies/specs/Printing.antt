@@ -1,5 +1,5 @@
 -- JSON as it is printed, piece by piece.
-use Rattle.std.specs.Prelude.{◌≡◌, ℕ, ◌&&◌, ◌==◌, nat_le, not, List, [], ◌∷◌, ◌++◌, Bool, true, false, Option, Some, None, IfOk}
+use Rattle.std.specs.Prelude.{◌≡◌, ℕ, ◌&&◌, List, [], ◌∷◌, ◌++◌, Bool, true, false, Option, Some, None, IfOk}
 use Rattle.std.specs.Ordering.{nat_cmp, is_lt}
 use Rattle.std.specs.List.{list_all}
 use Rattle.std.specs.Cmp.Lexicographic.{slice_cmp}
@@ -9,14 +9,6 @@ use Rattle.serde_json.specs.Written.{comma_if, compact_text}
 use Rattle.gnap_model.specs.declared.rights.Right.{Right}
 use Rattle.gnap_model.specs.declared.rights.Right.TheVariants as rights
 use Rattle.gnap_replies.specs.declared.printer.Printer.{Printer}
-
--- a text of at most so many bytes is short
-abbrev pub short : ℕ
-short = 64
-
--- a byte that stands in a string as it is (RFC 8259, section 7)
-abbrev pub is_plain : ℕ → Bool
-is_plain x = nat_le 32 x && (not (x == 34) && not (x == 92))
 
 -- the text so far, and whether a value has just ended, so that a comma stands before the next
 abbrev pub Printed : Type 0

@@ -3,7 +3,7 @@ ghost use Rattle.std.specs.Prelude.{◌≡◌, ◌++◌, IfOk, IsUtf8, string_by
 ghost use Rattle.json.specs.Print.{quoted};
 ghost use Rattle.gnap_replies.specs.Printing.{Printed, then_value, HasPrinted};
 
-use crate::printer::Printer;
+use crate::printer::{Printer, is_plain};
 use bytes_and_lists::memory::Mem;
 use std::alloc::Global;
 
@@ -23,6 +23,9 @@ pub fn print_place(alloc: Global, out: Printer, address: &[u8], path: &str) -> P
     requires { IsUtf8 address.now }
     ensures { (p : Printed) → HasPrinted out p → HasPrinted result (then_value p (quoted (address.now ++ path.now))) }
 {
+    if is_plain(address) && is_plain(path.as_bytes()) {
+        return out.plain_pair(address, path.as_bytes());
+    }
     match joined(alloc, address, path) {
         Ok(uri) => out.word(uri.as_str()),
         Err(Mem) => out.starved(),

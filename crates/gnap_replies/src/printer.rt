@@ -1,22 +1,20 @@
 //! JSON that is printed straight into its bytes, without a tree.
-ghost use Rattle.std.specs.Prelude.{◌≡◌, ◌++◌, ◌&&◌, [], ◌∷◌, ℕ, List, IfOk, IsUtf8, false, true, decimal, length, nat_le};
-ghost use Rattle.std.specs.List.{list_all};
+ghost use Rattle.std.specs.Prelude.{◌≡◌, ◌++◌, [], ◌∷◌, ℕ, List, IfOk, IsTrue, IsUtf8, false, true, decimal};
 ghost use Rattle.json.specs.Print.{quoted, token_text, IsPrintable};
 ghost use Rattle.json.specs.Reads.{token_of};
 ghost use Rattle.serde_json.specs.Written.{comma_if};
-ghost use Rattle.gnap_replies.specs.Printing.{Printed, then_value, then_begin, then_end, then_name, HasPrinted, is_plain, short};
+ghost use Rattle.plain_text.specs.PlainText.{IsPlain};
+ghost use Rattle.gnap_replies.specs.Printing.{Printed, then_value, then_begin, then_end, then_name, HasPrinted};
 
 use bytes_and_lists::bytes::Bytes;
 use bytes_and_lists::memory::Mem;
 use itoa::Buffer;
 use json::{Token, Writer};
+use plain_text::is_plain_text;
 use std::alloc::Global;
 
 // Most replies have fewer bytes.
 const ROOM: usize = 512;
-
-// Names of members and most values have fewer bytes.
-const SHORT: usize = 64;
 
 /// The compact text so far, or that memory ran out. It places the commas and the colons, and leaves the nesting to its caller.
 #[derive(Drop)]
@@ -45,27 +43,12 @@ fn with_piece(text: Result<Vec<u8>, Mem>, after_value: bool, piece: &[u8]) -> Re
     Ok(text)
 }
 
-fn is_plain(byte: u8) -> bool
-    ensures { result ≡ is_plain byte }
+// Whether the text stands in a string as it is. Its code stands once, for names, strings and places.
+#[inline(never)]
+pub fn is_plain(text: &[u8]) -> bool
+    ensures { IsTrue result → IsPlain text.now }
 {
-    byte >= b' ' && byte != b'"' && byte != b'\\'
-}
-
-fn is_plain_text(text: &[u8]) -> bool
-    ensures { result ≡ list_all is_plain text.now }
-{
-    for byte in text {
-        if !is_plain(*byte) {
-            return false;
-        }
-    }
-    true
-}
-
-fn is_short_and_plain(text: &[u8]) -> bool
-    ensures { result ≡ (nat_le (length text.now) short && list_all is_plain text.now) }
-{
-    text.len() <= SHORT && is_plain_text(text)
+    is_plain_text(text)
 }
 
 // A text as it is behind a quote.
@@ -88,6 +71,22 @@ fn with_plain_string(
         → IfOk result (λ t. t.items ≡ p.0 ++ (comma_if p.1 ++ 34 ∷ (value.now ++ 34 ∷ []))) }
 {
     let mut text = with_plain(text, after_value, value)?;
+    text.push(b'"')?;
+    Ok(text)
+}
+
+// A string of two parts.
+fn with_plain_pair(
+    text: Result<Vec<u8>, Mem>,
+    after_value: bool,
+    front: &[u8],
+    end: &[u8],
+) -> Result<Vec<u8>, Mem>
+    ensures { (p : Printed) → IfOk text (λ t. ◌≡◌ {A = Printed} (t.items, after_value) p)
+        → IfOk result (λ t. t.items ≡ p.0 ++ (comma_if p.1 ++ 34 ∷ (front.now ++ (end.now ++ 34 ∷ [])))) }
+{
+    let mut text = with_plain(text, after_value, front)?;
+    text.extend_from_slice(end)?;
     text.push(b'"')?;
     Ok(text)
 }
@@ -124,7 +123,7 @@ fn with_string(text: Result<Vec<u8>, Mem>, after_value: bool, value: &str) -> Re
     ensures { (p : Printed) → IfOk text (λ t. ◌≡◌ {A = Printed} (t.items, after_value) p)
         → IfOk result (λ t. t.items ≡ p.0 ++ (comma_if p.1 ++ quoted value.now)) }
 {
-    if is_short_and_plain(value.as_bytes()) {
+    if is_plain(value.as_bytes()) {
         return with_plain_string(text, after_value, value.as_bytes());
     }
     with_token(text, after_value, Token::String(value))
@@ -134,7 +133,7 @@ fn with_name(text: Result<Vec<u8>, Mem>, after_value: bool, name: &str) -> Resul
     ensures { (p : Printed) → IfOk text (λ t. ◌≡◌ {A = Printed} (t.items, after_value) p)
         → IfOk result (λ t. t.items ≡ p.0 ++ (comma_if p.1 ++ (quoted name.now ++ 58 ∷ []))) }
 {
-    if is_short_and_plain(name.as_bytes()) {
+    if is_plain(name.as_bytes()) {
         return with_plain_name(text, after_value, name.as_bytes());
     }
     with_token(text, after_value, Token::Key(name))
@@ -204,6 +203,18 @@ impl Printer {
         ensures { (p : Printed) → HasPrinted self p → HasPrinted result (then_value p (quoted value.now)) }
     {
         self.word(unsafe { str::from_utf8_unchecked(value) })
+    }
+
+    /// A string, by two parts that stand in it as they are.
+    pub fn plain_pair(self, front: &[u8], end: &[u8]) -> Printer
+        requires front { IsPlain front.now }
+        requires end { IsPlain end.now }
+        ensures { (p : Printed) → HasPrinted self p → HasPrinted result (then_value p (quoted (front.now ++ end.now))) }
+    {
+        Printer {
+            text: with_plain_pair(self.text, self.after_value, front, end),
+            after_value: true,
+        }
     }
 
     /// A string, by its bytes.

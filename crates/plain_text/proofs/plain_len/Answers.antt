@@ -2,9 +2,9 @@ use Rattle.std.proofs.Common.{◌+◌, ◌≤◌, length, sym, ap, ◌∙◌, ar
 use Rattle.std.proofs.lemmas.Simd.{run_in_chunk_le, run_in_chunk_fails, none_from_empty_mask, trailing_mask_l, length-chunk}
 use lib.Count.{count_trailing_zeros}
 use lib.Lanes.{chunk}
-use Rattle.body_reading.specs.PlainBodies.{is_stop}
-use Rattle.body_reading.proofs.PlainBodies.{one_more, run_more}
-use Rattle.body_reading.proofs.plain_bodies.plain_len.Goals as goal
+use Rattle.plain_text.specs.PlainText.{is_stop}
+use Rattle.plain_text.proofs.PlainText.{run_more}
+use Rattle.plain_text.proofs.plain_len.Goals as goal
 
 pub chunks-preserved : goal.chunks-preserved
 chunks-preserved c =
@@ -32,7 +32,3 @@ returns-then-found-ne0-clause-plain c =
     let run = ap (count_trailing_zeros 64) c.stops-found.ensures
     ∙ trailing_mask_l is_stop 64 lanes (omega (arith, length-chunk i 16 bs room)) (omega (arith, c.stops-found.ensures)) in
     run_more bs i _ (omega (arith, run_in_chunk_le is_stop bs i 16 _ 0 room run)) c.chunks.invariant.1 (run_in_chunk_fails is_stop bs i 16 _ 0 room run)
-
-pub plain-preserved : goal.plain-preserved
-plain-preserved c =
-    (omega arith, one_more c.args.bytes.now c.plain.len (omega arith) c.plain.invariant.1 (grind arith))

@@ -1,8 +1,8 @@
 use Rattle.std.proofs.Common.{ℕ, ◌==◌, nat_lt, cond, arith}
 use Rattle.std.proofs.lemmas.Simd.{zip2_splat, zip2_splat_left, zip2_of_maps}
 use lib.Bits.{bit_or}
-use Rattle.body_reading.proofs.PlainBodies.{stops_masked}
-use Rattle.body_reading.proofs.plain_bodies.stops.Goals as goal
+use Rattle.plain_text.proofs.PlainText.{stops_masked}
+use Rattle.plain_text.proofs.stops.Goals as goal
 
 abbrev equal : ℕ → ℕ → ℕ
 equal a b = cond (a == b) 255 0
