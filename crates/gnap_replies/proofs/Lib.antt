@@ -1,4 +1,3 @@
-mod Plain
 mod Printing
 mod TokenArrays
 mod Examples

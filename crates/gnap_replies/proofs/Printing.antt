@@ -96,6 +96,11 @@ name_behind : (p : Printed) (name value next : List ℕ)
     → then_begin p (quoted name ++ 58 ∷ (value ++ 44 ∷ (quoted next ++ 58 ∷ []))) ≡ then_name (then_value (then_name p name) value) next
 name_behind p name value next = ap (λ t. (t, false)) (simp append_assoc)
 
+-- a name that was put as a string, and its colon
+pub colon_behind : (p : Printed) (name written : List ℕ) → written ≡ name
+    → then_begin ((then_value p (quoted (written ++ []))).0, false) (58 ∷ []) ≡ then_name p name
+colon_behind p name written is = rw is (ap (λ t. (t, false)) (simp (append_assoc, append-nil)))
+
 -- a bracket that opens an object, and the name of its first member
 pub first_name : (r : Printer) (p : Printed) (name : List ℕ) → HasPrinted r (then_begin p (123 ∷ (quoted name ++ 58 ∷ [])))
     → HasPrinted r (then_name (then_begin p (123 ∷ [])) name)

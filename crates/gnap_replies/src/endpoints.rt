@@ -19,15 +19,16 @@ pub fn joined(alloc: Global, address: &[u8], path: &str) -> Result<String, Mem>
 }
 
 /// The place with this path below the address.
-pub fn print_place(alloc: Global, out: Printer, address: &[u8], path: &str) -> Printer
+pub fn print_place(alloc: Global, out: &mut Printer, address: &[u8], path: &str)
     requires { IsUtf8 address.now }
-    ensures { (p : Printed) → HasPrinted out p → HasPrinted result (then_value p (quoted (address.now ++ path.now))) }
+    ensures { (p : Printed) → HasPrinted out.old p → HasPrinted out.new (then_value p (quoted (address.now ++ path.now))) }
 {
     if is_plain(address) && is_plain(path.as_bytes()) {
-        return out.plain_pair(address, path.as_bytes());
+        out.plain_pair(address, path.as_bytes());
+        return;
     }
     match joined(alloc, address, path) {
         Ok(uri) => out.word(uri.as_str()),
-        Err(Mem) => out.starved(),
+        Err(Mem) => out.starve(),
     }
 }

@@ -8,16 +8,19 @@ ghost use Rattle.gnap_replies.specs.Errors.{code_fields, error_fields};
 use crate::printer::Printer;
 use gnap_model::objects::ErrorCode;
 
-fn print_code(out: Printer, code: ErrorCode) -> Printer
-    ensures { (p : Printed) → HasPrinted out p → HasPrinted result (then_value p (compact_text (object_of (code_fields code)))) }
+fn print_code(out: &mut Printer, code: ErrorCode)
+    ensures { (p : Printed) → HasPrinted out.old p → HasPrinted out.new (then_value p (compact_text (object_of (code_fields code)))) }
 {
-    let out = out.begin(b"{\"code\":");
-    out.string(code.text().as_bytes()).end(b'}')
+    out.begin(b"{\"code\":");
+    out.string(code.text().as_bytes());
+    out.end(b'}');
 }
 
 /// The body of an error.
-pub fn print_error_body(out: Printer, code: ErrorCode) -> Printer
-    ensures { (p : Printed) → HasPrinted out p → HasPrinted result (then_value p (compact_text (object_of (error_fields code)))) }
+pub fn print_error_body(out: &mut Printer, code: ErrorCode)
+    ensures { (p : Printed) → HasPrinted out.old p → HasPrinted out.new (then_value p (compact_text (object_of (error_fields code)))) }
 {
-    print_code(out.begin(b"{\"error\":"), code).end(b'}')
+    out.begin(b"{\"error\":");
+    print_code(out, code);
+    out.end(b'}');
 }

@@ -25,84 +25,99 @@ use std::alloc::Global;
 const WAIT: u64 = 5;
 
 #[tactic(auto, unfolding(crate::specs::Grants::continue_data))]
-fn print_continue(alloc: Global, out: Printer, base: &[u8], door: &[u8]) -> Printer
+fn print_continue(alloc: Global, out: &mut Printer, base: &[u8], door: &[u8])
     requires base { IsUtf8 base.now }
     requires door { IsUtf8 door.now }
-    ensures { (p : Printed) → HasPrinted out p → HasPrinted result (then_value p (compact_text (continue_data base.now door.now))) }
+    ensures { (p : Printed) → HasPrinted out.old p → HasPrinted out.new (then_value p (compact_text (continue_data base.now door.now))) }
 {
-    let out = print_bare_token(out.begin(b"{\"access_token\":"), door);
-    let out = print_place(alloc, out.begin(b"\"uri\":"), base, "/continue");
-    out.begin(b"\"wait\":").number(WAIT).end(b'}')
+    out.begin(b"{\"access_token\":");
+    print_bare_token(out, door);
+    out.begin(b"\"uri\":");
+    print_place(alloc, out, base, "/continue");
+    out.begin(b"\"wait\":");
+    out.number(WAIT);
+    out.end(b'}');
 }
 
-fn print_sub_id(out: Printer, id: &[u8]) -> Printer
+fn print_sub_id(out: &mut Printer, id: &[u8])
     requires { IsUtf8 id.now }
-    ensures { (p : Printed) → HasPrinted out p → HasPrinted result (then_value p (compact_text (object_of (sub_id_fields id.now)))) }
+    ensures { (p : Printed) → HasPrinted out.old p → HasPrinted out.new (then_value p (compact_text (object_of (sub_id_fields id.now)))) }
 {
-    let out = out.begin(b"{\"format\":").value(b"\"opaque\"");
-    out.begin(b"\"id\":").string(id).end(b'}')
+    out.begin(b"{\"format\":");
+    out.value(b"\"opaque\"");
+    out.begin(b"\"id\":");
+    out.string(id);
+    out.end(b'}');
 }
 
-fn print_sub_ids(out: Printer, id: &[u8]) -> Printer
+fn print_sub_ids(out: &mut Printer, id: &[u8])
     requires { IsUtf8 id.now }
-    ensures { (p : Printed) → HasPrinted out p → HasPrinted result (then_value p (compact_text (array (item (object_of (sub_id_fields id.now)) no_items)))) }
+    ensures { (p : Printed) → HasPrinted out.old p
+        → HasPrinted out.new (then_value p (compact_text (array (item (object_of (sub_id_fields id.now)) no_items)))) }
 {
-    print_sub_id(out.begin(b"["), id).end(b']')
+    out.begin(b"[");
+    print_sub_id(out, id);
+    out.end(b']');
 }
 
-fn print_identified(out: Printer, id: &[u8]) -> Printer
+fn print_identified(out: &mut Printer, id: &[u8])
     requires { IsUtf8 id.now }
-    ensures { (p : Printed) → HasPrinted out p → HasPrinted result (then_value p (compact_text (subject_data id.now))) }
+    ensures { (p : Printed) → HasPrinted out.old p → HasPrinted out.new (then_value p (compact_text (subject_data id.now))) }
 {
-    print_sub_ids(out.begin(b"{\"sub_ids\":"), id).end(b'}')
+    out.begin(b"{\"sub_ids\":");
+    print_sub_ids(out, id);
+    out.end(b'}');
 }
 
 // The member `subject`, where the user is told of.
 #[tactic(auto, unfolding(json::specs::Print::escape_byte))]
-fn print_subject(out: Printer, subject: &Option<Bytes>) -> Printer
+fn print_subject(out: &mut Printer, subject: &Option<Bytes>)
     requires { IsUtf8Or subject.now }
-    ensures { (p : Printed) → HasPrinted out p → HasPrinted result (then_field p (codes "subject") (option_map subject_data subject.now)) }
+    ensures { (p : Printed) → HasPrinted out.old p → HasPrinted out.new (then_field p (codes "subject") (option_map subject_data subject.now)) }
 {
-    match subject {
-        None => out,
-        Some(id) => print_identified(out.begin(b"\"subject\":"), id.as_slice()),
+    if let Some(id) = subject {
+        out.begin(b"\"subject\":");
+        print_identified(out, id.as_slice());
     }
 }
 
 /// The grant is approved.
 pub fn print_granted(
     alloc: Global,
-    out: Printer,
+    out: &mut Printer,
     base: &[u8],
     door: &[u8],
     tokens: &[TokenOut],
     single: bool,
     subject: &Option<Bytes>,
     instance: &Option<Bytes>,
-) -> Printer
+)
     requires base { IsUtf8 base.now }
     requires door { IsUtf8 door.now }
     requires tokens { AllByRecursion TokenFits tokens.now }
     requires subject { IsUtf8Or subject.now }
     requires instance { IsUtf8Or instance.now }
-    ensures { (p : Printed) → HasPrinted out p
-        → HasPrinted result (then_value p (compact_text (object_of (granted_fields base.now door.now tokens.now single subject.now instance.now)))) }
+    ensures { (p : Printed) → HasPrinted out.old p
+        → HasPrinted out.new (then_value p (compact_text (object_of (granted_fields base.now door.now tokens.now single subject.now instance.now)))) }
 {
-    let out = print_tokens(alloc, out.begin(b"{"), base, single, tokens);
-    let out = print_continue(alloc, out.begin(b"\"continue\":"), base, door);
-    let out = print_optional(out, "instance_id", instance);
-    print_subject(out, subject).end(b'}')
+    out.begin(b"{");
+    print_tokens(alloc, out, base, single, tokens);
+    out.begin(b"\"continue\":");
+    print_continue(alloc, out, base, door);
+    print_optional(out, "instance_id", instance);
+    print_subject(out, subject);
+    out.end(b'}');
 }
 
 // A member that is a text, where its way to interact was offered.
-fn print_offered(out: Printer, offered: bool, name: &str, text: &[u8]) -> Printer
+fn print_offered(out: &mut Printer, offered: bool, name: &str, text: &[u8])
     requires { IsUtf8 text.now }
-    ensures { (p : Printed) → HasPrinted out p → HasPrinted result (then_field p name.now (where_offered offered (string text.now))) }
+    ensures { (p : Printed) → HasPrinted out.old p → HasPrinted out.new (then_field p name.now (where_offered offered (string text.now))) }
 {
-    if !offered {
-        return out;
+    if offered {
+        out.name(name);
+        out.string(text);
     }
-    out.name(name).string(text)
 }
 
 fn interaction_uri(alloc: Global, front: &[u8], handle: &[u8]) -> Result<String, Mem>
@@ -116,96 +131,89 @@ fn interaction_uri(alloc: Global, front: &[u8], handle: &[u8]) -> Result<String,
 }
 
 // Where the user is sent for an interaction.
-fn print_interaction_page(alloc: Global, out: Printer, front: &[u8], handle: &[u8]) -> Printer
+fn print_interaction_page(alloc: Global, out: &mut Printer, front: &[u8], handle: &[u8])
     requires front { IsUtf8 front.now }
     requires handle { IsUtf8 handle.now }
-    ensures { (p : Printed) → HasPrinted out p → HasPrinted result (then_value p (quoted (interaction_page front.now handle.now))) }
+    ensures { (p : Printed) → HasPrinted out.old p → HasPrinted out.new (then_value p (quoted (interaction_page front.now handle.now))) }
 {
     match interaction_uri(alloc, front, handle) {
         Ok(uri) => out.string(uri.as_bytes()),
-        Err(Mem) => out.starved(),
+        Err(Mem) => out.starve(),
     }
 }
 
 // The member `redirect`, where that was offered.
 #[tactic(auto, unfolding(json::specs::Print::escape_byte))]
-fn print_redirect(
-    alloc: Global,
-    out: Printer,
-    offered: bool,
-    front: &[u8],
-    handle: &[u8],
-) -> Printer
+fn print_redirect(alloc: Global, out: &mut Printer, offered: bool, front: &[u8], handle: &[u8])
     requires front { IsUtf8 front.now }
     requires handle { IsUtf8 handle.now }
-    ensures { (p : Printed) → HasPrinted out p
-        → HasPrinted result (then_field p (codes "redirect") (where_offered offered (string (interaction_page front.now handle.now)))) }
+    ensures { (p : Printed) → HasPrinted out.old p
+        → HasPrinted out.new (then_field p (codes "redirect") (where_offered offered (string (interaction_page front.now handle.now)))) }
 {
-    if !offered {
-        return out;
+    if offered {
+        out.begin(b"\"redirect\":");
+        print_interaction_page(alloc, out, front, handle);
     }
-    print_interaction_page(alloc, out.begin(b"\"redirect\":"), front, handle)
 }
 
-fn print_code_page(alloc: Global, out: Printer, front: &[u8], code: &[u8]) -> Printer
+fn print_code_page(alloc: Global, out: &mut Printer, front: &[u8], code: &[u8])
     requires front { IsUtf8 front.now }
     requires code { IsUtf8 code.now }
-    ensures { (p : Printed) → HasPrinted out p → HasPrinted result (then_value p (compact_text (object_of (code_page_fields front.now code.now)))) }
+    ensures { (p : Printed) → HasPrinted out.old p → HasPrinted out.new (then_value p (compact_text (object_of (code_page_fields front.now code.now)))) }
 {
-    let out = out.begin(b"{\"code\":").string(code);
-    print_place(alloc, out.begin(b"\"uri\":"), front, "/code").end(b'}')
+    out.begin(b"{\"code\":");
+    out.string(code);
+    out.begin(b"\"uri\":");
+    print_place(alloc, out, front, "/code");
+    out.end(b'}');
 }
 
 // The member `user_code_uri`, where that was offered.
 #[tactic(auto, unfolding(json::specs::Print::escape_byte))]
-fn print_user_code_uri(
-    alloc: Global,
-    out: Printer,
-    offered: bool,
-    front: &[u8],
-    code: &[u8],
-) -> Printer
+fn print_user_code_uri(alloc: Global, out: &mut Printer, offered: bool, front: &[u8], code: &[u8])
     requires front { IsUtf8 front.now }
     requires code { IsUtf8 code.now }
-    ensures { (p : Printed) → HasPrinted out p
-        → HasPrinted result (then_field p (codes "user_code_uri") (where_offered offered (object_of (code_page_fields front.now code.now)))) }
+    ensures { (p : Printed) → HasPrinted out.old p
+        → HasPrinted out.new (then_field p (codes "user_code_uri") (where_offered offered (object_of (code_page_fields front.now code.now)))) }
 {
-    if !offered {
-        return out;
+    if offered {
+        out.begin(b"\"user_code_uri\":");
+        print_code_page(alloc, out, front, code);
     }
-    print_code_page(alloc, out.begin(b"\"user_code_uri\":"), front, code)
 }
 
 // How the client can interact with the user.
 #[tactic(auto, unfolding(crate::specs::Grants::interact_data))]
 fn print_interact(
     alloc: Global,
-    out: Printer,
+    out: &mut Printer,
     front: &[u8],
     modes: &Modes,
     handle: &[u8],
     code: &[u8],
     nonce: &[u8],
     expires_in: u64,
-) -> Printer
+)
     requires front { IsUtf8 front.now }
     requires handle { IsUtf8 handle.now }
     requires code { IsUtf8 code.now }
     requires nonce { IsUtf8 nonce.now }
-    ensures { (p : Printed) → HasPrinted out p
-        → HasPrinted result (then_value p (compact_text (interact_data front.now modes.now handle.now code.now nonce.now expires_in))) }
+    ensures { (p : Printed) → HasPrinted out.old p
+        → HasPrinted out.new (then_value p (compact_text (interact_data front.now modes.now handle.now code.now nonce.now expires_in))) }
 {
-    let out = out.begin(b"{\"expires_in\":").number(expires_in);
-    let out = print_offered(out, modes.finish.is_some(), "finish", nonce);
-    let out = print_redirect(alloc, out, modes.redirect, front, handle);
-    let out = print_offered(out, modes.user_code, "user_code", code);
-    print_user_code_uri(alloc, out, modes.user_code_uri, front, code).end(b'}')
+    out.begin(b"{\"expires_in\":");
+    out.number(expires_in);
+    print_offered(out, modes.finish.is_some(), "finish", nonce);
+    print_redirect(alloc, out, modes.redirect, front, handle);
+    print_offered(out, modes.user_code, "user_code", code);
+    print_user_code_uri(alloc, out, modes.user_code_uri, front, code);
+    out.end(b'}');
 }
 
 /// The user is asked.
 pub fn print_pending(
     alloc: Global,
-    out: Printer,
+    out: &mut Printer,
     base: &[u8],
     front: &[u8],
     door: &[u8],
@@ -215,7 +223,7 @@ pub fn print_pending(
     nonce: &[u8],
     expires_in: u64,
     instance: &Option<Bytes>,
-) -> Printer
+)
     requires base { IsUtf8 base.now }
     requires front { IsUtf8 front.now }
     requires door { IsUtf8 door.now }
@@ -223,29 +231,36 @@ pub fn print_pending(
     requires code { IsUtf8 code.now }
     requires nonce { IsUtf8 nonce.now }
     requires instance { IsUtf8Or instance.now }
-    ensures { (p : Printed) → HasPrinted out p
-        → HasPrinted result (then_value p (compact_text (object_of (pending_fields base.now door.now
+    ensures { (p : Printed) → HasPrinted out.old p
+        → HasPrinted out.new (then_value p (compact_text (object_of (pending_fields base.now door.now
         (interact_data front.now modes.now handle.now code.now nonce.now expires_in) instance.now)))) }
 {
-    let out = print_continue(alloc, out.begin(b"{\"continue\":"), base, door);
-    let out = print_optional(out, "instance_id", instance).begin(b"\"interact\":");
-    print_interact(alloc, out, front, modes, handle, code, nonce, expires_in).end(b'}')
+    out.begin(b"{\"continue\":");
+    print_continue(alloc, out, base, door);
+    print_optional(out, "instance_id", instance);
+    out.begin(b"\"interact\":");
+    print_interact(alloc, out, front, modes, handle, code, nonce, expires_in);
+    out.end(b'}');
 }
 
 /// Nothing is new.
-pub fn print_continuing(alloc: Global, out: Printer, base: &[u8], door: &[u8]) -> Printer
+pub fn print_continuing(alloc: Global, out: &mut Printer, base: &[u8], door: &[u8])
     requires base { IsUtf8 base.now }
     requires door { IsUtf8 door.now }
-    ensures { (p : Printed) → HasPrinted out p → HasPrinted result (then_value p (compact_text (object_of (continuing_fields base.now door.now)))) }
+    ensures { (p : Printed) → HasPrinted out.old p → HasPrinted out.new (then_value p (compact_text (object_of (continuing_fields base.now door.now)))) }
 {
-    print_continue(alloc, out.begin(b"{\"continue\":"), base, door).end(b'}')
+    out.begin(b"{\"continue\":");
+    print_continue(alloc, out, base, door);
+    out.end(b'}');
 }
 
 /// A token has a successor.
-pub fn print_rotated(alloc: Global, out: Printer, base: &[u8], token: &TokenOut) -> Printer
+pub fn print_rotated(alloc: Global, out: &mut Printer, base: &[u8], token: &TokenOut)
     requires base { IsUtf8 base.now }
     requires token { TokenFits token.now }
-    ensures { (p : Printed) → HasPrinted out p → HasPrinted result (then_value p (compact_text (object_of (rotated_fields base.now token.now)))) }
+    ensures { (p : Printed) → HasPrinted out.old p → HasPrinted out.new (then_value p (compact_text (object_of (rotated_fields base.now token.now)))) }
 {
-    print_token(alloc, out.begin(b"{\"access_token\":"), base, token).end(b'}')
+    out.begin(b"{\"access_token\":");
+    print_token(alloc, out, base, token);
+    out.end(b'}');
 }

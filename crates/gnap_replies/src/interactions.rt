@@ -25,73 +25,82 @@ use interaction::{UriFault, finish_uri, interaction_hash, push_body};
 use std::alloc::Global;
 
 #[tactic(auto, unfolding(crate::specs::Interactions::ask_data))]
-fn print_ask(alloc: Global, out: Printer, ask: &Ask) -> Printer
+fn print_ask(alloc: Global, out: &mut Printer, ask: &Ask)
     requires { AskFits ask.now }
-    ensures { (p : Printed) → HasPrinted out p → HasPrinted result (then_value p (compact_text (ask_data ask.now))) }
+    ensures { (p : Printed) → HasPrinted out.old p → HasPrinted out.new (then_value p (compact_text (ask_data ask.now))) }
 {
-    let out = print_rights(alloc, out.begin(b"{\"access\":"), &ask.rights);
-    let out = print_flags(out, ask.bearer);
-    print_optional(out, "label", &ask.label).end(b'}')
+    out.begin(b"{\"access\":");
+    print_rights(alloc, out, &ask.rights);
+    print_flags(out, ask.bearer);
+    print_optional(out, "label", &ask.label);
+    out.end(b'}');
 }
 
 // The items of the array.
-fn print_each_ask(alloc: Global, out: Printer, asks: &[Ask]) -> Printer
+fn print_each_ask(alloc: Global, out: &mut Printer, asks: &[Ask])
     requires { AllByRecursion AskFits asks.now }
-    ensures { (p : Printed) → HasPrinted out p → HasPrinted result (then_items p (map ask_data asks.now)) }
+    ensures { (p : Printed) → HasPrinted out.old p → HasPrinted out.new (then_items p (map ask_data asks.now)) }
 {
-    let mut out = out;
     for ask in asks {
-        out = print_ask(alloc, out, ask);
+        print_ask(alloc, out, ask);
     }
-    out
 }
 
-fn print_asks(alloc: Global, out: Printer, asks: &[Ask]) -> Printer
+fn print_asks(alloc: Global, out: &mut Printer, asks: &[Ask])
     requires { AllByRecursion AskFits asks.now }
-    ensures { (p : Printed) → HasPrinted out p → HasPrinted result (then_value p (compact_text (array (items (map ask_data asks.now))))) }
+    ensures { (p : Printed) → HasPrinted out.old p → HasPrinted out.new (then_value p (compact_text (array (items (map ask_data asks.now))))) }
 {
-    print_each_ask(alloc, out.begin(b"["), asks).end(b']')
+    out.begin(b"[");
+    print_each_ask(alloc, out, asks);
+    out.end(b']');
 }
 
-fn print_truth(out: Printer, truth: bool) -> Printer
-    ensures { (p : Printed) → HasPrinted out p → HasPrinted result (then_value p (compact_text (boolean truth))) }
+fn print_truth(out: &mut Printer, truth: bool)
+    ensures { (p : Printed) → HasPrinted out.old p → HasPrinted out.new (then_value p (compact_text (boolean truth))) }
 {
     if truth {
-        out.value(b"true")
+        out.value(b"true");
     } else {
-        out.value(b"false")
+        out.value(b"false");
     }
 }
 
 /// What the user is asked.
 pub fn print_shown(
     alloc: Global,
-    out: Printer,
+    out: &mut Printer,
     asks: &[Ask],
     client: &[u8],
     expires_in: u64,
     subject: bool,
     user: &Option<Bytes>,
-) -> Printer
+)
     requires asks { AllByRecursion AskFits asks.now }
     requires client { IsUtf8 client.now }
     requires user { IsUtf8Or user.now }
-    ensures { (p : Printed) → HasPrinted out p
-        → HasPrinted result (then_value p (compact_text (object_of (shown_fields asks.now client.now expires_in subject user.now)))) }
+    ensures { (p : Printed) → HasPrinted out.old p
+        → HasPrinted out.new (then_value p (compact_text (object_of (shown_fields asks.now client.now expires_in subject user.now)))) }
 {
-    let out = print_asks(alloc, out.begin(b"{\"access_token\":"), asks);
-    let out = out.begin(b"\"client\":").string(client);
-    let out = out.begin(b"\"expires_in\":").number(expires_in);
-    let out = print_truth(out.begin(b"\"subject\":"), subject);
-    print_optional(out, "user", user).end(b'}')
+    out.begin(b"{\"access_token\":");
+    print_asks(alloc, out, asks);
+    out.begin(b"\"client\":");
+    out.string(client);
+    out.begin(b"\"expires_in\":");
+    out.number(expires_in);
+    out.begin(b"\"subject\":");
+    print_truth(out, subject);
+    print_optional(out, "user", user);
+    out.end(b'}');
 }
 
 /// The interaction with the code that the user typed.
-pub fn print_handle(out: Printer, handle: &[u8]) -> Printer
+pub fn print_handle(out: &mut Printer, handle: &[u8])
     requires { IsUtf8 handle.now }
-    ensures { (p : Printed) → HasPrinted out p → HasPrinted result (then_value p (compact_text (object_of (handle_fields handle.now)))) }
+    ensures { (p : Printed) → HasPrinted out.old p → HasPrinted out.new (then_value p (compact_text (object_of (handle_fields handle.now)))) }
 {
-    out.begin(b"{\"handle\":").string(handle).end(b'}')
+    out.begin(b"{\"handle\":");
+    out.string(handle);
+    out.end(b'}');
 }
 
 // The hash by which the client knows that the reference is for it.
@@ -123,27 +132,29 @@ fn pushed_body(alloc: Global, base: &[u8], finish: &FinishOut) -> Result<Bytes, 
 }
 
 // A string, if there was memory for it.
-fn print_made(out: Printer, text: Result<Bytes, Mem>) -> Printer
+fn print_made(out: &mut Printer, text: Result<Bytes, Mem>)
     requires { IfOk text (λ t. IsUtf8 t) }
-    ensures { (p : Printed) (s : List ℕ) → IfOk text (λ t. t ≡ s) → HasPrinted out p → HasPrinted result (then_value p (quoted s)) }
+    ensures { (p : Printed) (s : List ℕ) → IfOk text (λ t. t ≡ s) → HasPrinted out.old p → HasPrinted out.new (then_value p (quoted s)) }
 {
     match text {
         Ok(text) => out.string(text.as_slice()),
-        Err(Mem) => out.starved(),
+        Err(Mem) => out.starve(),
     }
 }
 
-fn print_pushed(alloc: Global, out: Printer, base: &[u8], finish: &FinishOut) -> Printer
+fn print_pushed(alloc: Global, out: &mut Printer, base: &[u8], finish: &FinishOut)
     requires base { IsUtf8 base.now }
     requires finish { EndingFits (Some finish.now) }
-    ensures { (p : Printed) → HasPrinted out p → HasPrinted result (then_value p (compact_text (object_of (pushed_fields base.now finish.now)))) }
+    ensures { (p : Printed) → HasPrinted out.old p → HasPrinted out.new (then_value p (compact_text (object_of (pushed_fields base.now finish.now)))) }
 {
     let body = pushed_body(alloc, base, finish);
-    let out = print_made(out.begin(b"{\"body\":"), body);
-    let out = out.begin(b"\"finish\":").value(b"\"push\"");
-    out.begin(b"\"uri\":")
-        .string(finish.finish.uri.as_slice())
-        .end(b'}')
+    out.begin(b"{\"body\":");
+    print_made(out, body);
+    out.begin(b"\"finish\":");
+    out.value(b"\"push\"");
+    out.begin(b"\"uri\":");
+    out.string(finish.finish.uri.as_slice());
+    out.end(b'}');
 }
 
 // Where the user is sent.
@@ -168,46 +179,46 @@ fn redirected_uri(alloc: Global, base: &[u8], finish: &FinishOut) -> Result<Byte
 }
 
 #[tactic(auto, unfolding(json::specs::Print::escape_byte))]
-fn print_redirected_uri(alloc: Global, out: Printer, base: &[u8], finish: &FinishOut) -> Printer
+fn print_redirected_uri(alloc: Global, out: &mut Printer, base: &[u8], finish: &FinishOut)
     requires base { IsUtf8 base.now }
     requires finish { EndingFits (Some finish.now) }
-    ensures { (p : Printed) → HasPrinted out p
-        → HasPrinted result (then_field p (codes "uri")
+    ensures { (p : Printed) → HasPrinted out.old p
+        → HasPrinted out.new (then_field p (codes "uri")
         (option_map string (finish_uri finish.now.finish.uri (hash_of base.now finish.now) finish.now.reference))) }
 {
     match redirected_uri(alloc, base, finish) {
-        Ok(uri) => out.begin(b"\"uri\":").string(uri.as_slice()),
-        Err(Mem) => out.starved(),
+        Ok(uri) => {
+            out.begin(b"\"uri\":");
+            out.string(uri.as_slice());
+        }
+        Err(Mem) => out.starve(),
     }
 }
 
-fn print_redirected(alloc: Global, out: Printer, base: &[u8], finish: &FinishOut) -> Printer
+fn print_redirected(alloc: Global, out: &mut Printer, base: &[u8], finish: &FinishOut)
     requires base { IsUtf8 base.now }
     requires finish { EndingFits (Some finish.now) }
-    ensures { (p : Printed) → HasPrinted out p → HasPrinted result (then_value p (compact_text (object_of (redirected_fields base.now finish.now)))) }
+    ensures { (p : Printed) → HasPrinted out.old p → HasPrinted out.new (then_value p (compact_text (object_of (redirected_fields base.now finish.now)))) }
 {
-    let out = out.begin(b"{\"finish\":");
-    let out = out.value(b"\"redirect\"");
-    print_redirected_uri(alloc, out, base, finish).end(b'}')
+    out.begin(b"{\"finish\":");
+    out.value(b"\"redirect\"");
+    print_redirected_uri(alloc, out, base, finish);
+    out.end(b'}');
 }
 
-fn print_none(out: Printer) -> Printer
-    ensures { (p : Printed) → HasPrinted out p → HasPrinted result (then_value p (compact_text (object_of (decided_fields [] None)))) }
+fn print_none(out: &mut Printer)
+    ensures { (p : Printed) → HasPrinted out.old p → HasPrinted out.new (then_value p (compact_text (object_of (decided_fields [] None)))) }
 {
-    let out = out.begin(b"{\"finish\":");
-    out.value(b"\"none\"").end(b'}')
+    out.begin(b"{\"finish\":");
+    out.value(b"\"none\"");
+    out.end(b'}');
 }
 
 /// How the front tells the client that the decision was taken.
-pub fn print_decided(
-    alloc: Global,
-    out: Printer,
-    base: &[u8],
-    finish: &Option<FinishOut>,
-) -> Printer
+pub fn print_decided(alloc: Global, out: &mut Printer, base: &[u8], finish: &Option<FinishOut>)
     requires base { IsUtf8 base.now }
     requires finish { EndingFits finish.now }
-    ensures { (p : Printed) → HasPrinted out p → HasPrinted result (then_value p (compact_text (object_of (decided_fields base.now finish.now)))) }
+    ensures { (p : Printed) → HasPrinted out.old p → HasPrinted out.new (then_value p (compact_text (object_of (decided_fields base.now finish.now)))) }
 {
     match finish {
         None => print_none(out),

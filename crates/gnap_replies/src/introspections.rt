@@ -16,45 +16,51 @@ use std::alloc::Global;
 
 // The member `key`, where the token isn't a bearer token.
 #[tactic(auto, unfolding(json::specs::Print::escape_byte))]
-fn print_key(out: Printer, bearer: bool, instance: &[u8]) -> Printer
+fn print_key(out: &mut Printer, bearer: bool, instance: &[u8])
     requires { IsUtf8 instance.now }
-    ensures { (p : Printed) → HasPrinted out p → HasPrinted result (then_field p (codes "key") (key_data bearer instance.now)) }
+    ensures { (p : Printed) → HasPrinted out.old p → HasPrinted out.new (then_field p (codes "key") (key_data bearer instance.now)) }
 {
-    if bearer {
-        return out;
+    if !bearer {
+        out.begin(b"\"key\":");
+        out.string(instance);
     }
-    out.begin(b"\"key\":").string(instance)
 }
 
 /// What a resource server is told of an active token.
 pub fn print_active(
     alloc: Global,
-    out: Printer,
+    out: &mut Printer,
     base: &[u8],
     access: &Rights,
     iat: u64,
     exp: u64,
     instance: &[u8],
     bearer: bool,
-) -> Printer
+)
     requires base { IsUtf8 base.now }
     requires access { AllByRecursion Fits access.now }
     requires instance { IsUtf8 instance.now }
-    ensures { (p : Printed) → HasPrinted out p
-        → HasPrinted result (then_value p (compact_text (object_of (active_fields base.now access.now iat exp instance.now bearer)))) }
+    ensures { (p : Printed) → HasPrinted out.old p
+        → HasPrinted out.new (then_value p (compact_text (object_of (active_fields base.now access.now iat exp instance.now bearer)))) }
 {
-    let out = print_rights(alloc, out.begin(b"{\"access\":"), access);
-    let out = out.begin(b"\"active\":true,\"exp\":").number(exp);
-    let out = print_flags(out, bearer);
-    let out = out.begin(b"\"iat\":").number(iat);
-    let out = out.begin(b"\"instance_id\":").string(instance);
-    let out = print_place(alloc, out.begin(b"\"iss\":"), base, "/gnap");
-    print_key(out, bearer, instance).end(b'}')
+    out.begin(b"{\"access\":");
+    print_rights(alloc, out, access);
+    out.begin(b"\"active\":true,\"exp\":");
+    out.number(exp);
+    print_flags(out, bearer);
+    out.begin(b"\"iat\":");
+    out.number(iat);
+    out.begin(b"\"instance_id\":");
+    out.string(instance);
+    out.begin(b"\"iss\":");
+    print_place(alloc, out, base, "/gnap");
+    print_key(out, bearer, instance);
+    out.end(b'}');
 }
 
 /// What it is told of any other.
-pub fn print_inactive(out: Printer) -> Printer
-    ensures { (p : Printed) → HasPrinted out p → HasPrinted result (then_value p (compact_text (object_of inactive_fields))) }
+pub fn print_inactive(out: &mut Printer)
+    ensures { (p : Printed) → HasPrinted out.old p → HasPrinted out.new (then_value p (compact_text (object_of inactive_fields))) }
 {
-    out.value(b"{\"active\":false}")
+    out.value(b"{\"active\":false}");
 }

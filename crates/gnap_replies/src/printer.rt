@@ -12,6 +12,7 @@ use itoa::Buffer;
 use json::{Token, Writer};
 use plain_text::is_plain_text;
 use std::alloc::Global;
+use std::mem::replace;
 
 // Most replies have fewer bytes.
 const ROOM: usize = 512;
@@ -23,24 +24,15 @@ pub struct Printer {
     after_value: bool,
 }
 
-// A comma behind it, where a value has just ended.
-fn with_comma(text: Result<Vec<u8>, Mem>, after_value: bool) -> Result<Vec<u8>, Mem>
-    ensures { (p : Printed) → IfOk text (λ t. ◌≡◌ {A = Printed} (t.items, after_value) p) → IfOk result (λ t. t.items ≡ p.0 ++ comma_if p.1) }
+// Appends a comma, where a value has just ended, and the piece.
+fn put_piece(text: &mut Vec<u8>, after_value: bool, piece: &[u8]) -> Result<(), Mem>
+    ensures { IfOk result (λ done. text.new.items ≡ text.old.items ++ (comma_if after_value ++ piece.now)) }
 {
-    let mut text = text?;
     if after_value {
         text.push(b',')?;
     }
-    Ok(text)
-}
-
-fn with_piece(text: Result<Vec<u8>, Mem>, after_value: bool, piece: &[u8]) -> Result<Vec<u8>, Mem>
-    ensures { (p : Printed) → IfOk text (λ t. ◌≡◌ {A = Printed} (t.items, after_value) p)
-        → IfOk result (λ t. t.items ≡ p.0 ++ (comma_if p.1 ++ piece.now)) }
-{
-    let mut text = with_comma(text, after_value)?;
     text.extend_from_slice(piece)?;
-    Ok(text)
+    Ok(())
 }
 
 // Whether the text stands in a string as it is. Its code stands once, for names, strings and places.
@@ -51,56 +43,28 @@ pub fn is_plain(text: &[u8]) -> bool
     is_plain_text(text)
 }
 
-// A text as it is behind a quote.
-fn with_plain(text: Result<Vec<u8>, Mem>, after_value: bool, value: &[u8]) -> Result<Vec<u8>, Mem>
-    ensures { (p : Printed) → IfOk text (λ t. ◌≡◌ {A = Printed} (t.items, after_value) p)
-        → IfOk result (λ t. t.items ≡ p.0 ++ (comma_if p.1 ++ 34 ∷ value.now)) }
+// Appends a comma, where a value has just ended, and texts that stand in a string as they are, between quotes.
+fn put_plain(text: &mut Vec<u8>, after_value: bool, front: &[u8], end: &[u8]) -> Result<(), Mem>
+    ensures { IfOk result (λ done. text.new.items ≡ text.old.items ++ (comma_if after_value ++ 34 ∷ (front.now ++ (end.now ++ 34 ∷ [])))) }
 {
-    let mut text = with_comma(text, after_value)?;
+    if after_value {
+        text.push(b',')?;
+    }
     text.push(b'"')?;
-    text.extend_from_slice(value)?;
-    Ok(text)
-}
-
-fn with_plain_string(
-    text: Result<Vec<u8>, Mem>,
-    after_value: bool,
-    value: &[u8],
-) -> Result<Vec<u8>, Mem>
-    ensures { (p : Printed) → IfOk text (λ t. ◌≡◌ {A = Printed} (t.items, after_value) p)
-        → IfOk result (λ t. t.items ≡ p.0 ++ (comma_if p.1 ++ 34 ∷ (value.now ++ 34 ∷ []))) }
-{
-    let mut text = with_plain(text, after_value, value)?;
-    text.push(b'"')?;
-    Ok(text)
-}
-
-// A string of two parts.
-fn with_plain_pair(
-    text: Result<Vec<u8>, Mem>,
-    after_value: bool,
-    front: &[u8],
-    end: &[u8],
-) -> Result<Vec<u8>, Mem>
-    ensures { (p : Printed) → IfOk text (λ t. ◌≡◌ {A = Printed} (t.items, after_value) p)
-        → IfOk result (λ t. t.items ≡ p.0 ++ (comma_if p.1 ++ 34 ∷ (front.now ++ (end.now ++ 34 ∷ [])))) }
-{
-    let mut text = with_plain(text, after_value, front)?;
+    text.extend_from_slice(front)?;
     text.extend_from_slice(end)?;
     text.push(b'"')?;
-    Ok(text)
+    Ok(())
 }
 
-fn with_plain_name(
-    text: Result<Vec<u8>, Mem>,
-    after_value: bool,
-    name: &[u8],
-) -> Result<Vec<u8>, Mem>
-    ensures { (p : Printed) → IfOk text (λ t. ◌≡◌ {A = Printed} (t.items, after_value) p)
-        → IfOk result (λ t. t.items ≡ p.0 ++ (comma_if p.1 ++ 34 ∷ (name.now ++ 34 ∷ 58 ∷ []))) }
+// A comma behind it, where a value has just ended.
+fn with_comma(text: Result<Vec<u8>, Mem>, after_value: bool) -> Result<Vec<u8>, Mem>
+    ensures { (p : Printed) → IfOk text (λ t. ◌≡◌ {A = Printed} (t.items, after_value) p) → IfOk result (λ t. t.items ≡ p.0 ++ comma_if p.1) }
 {
-    let mut text = with_plain(text, after_value, name)?;
-    text.extend_from_slice(b"\":")?;
+    let mut text = text?;
+    if after_value {
+        text.push(b',')?;
+    }
     Ok(text)
 }
 
@@ -117,26 +81,6 @@ fn with_token(
     let mut out = Writer::new(with_comma(text, after_value)?);
     out.token(token)?;
     Ok(out.into_inner())
-}
-
-fn with_string(text: Result<Vec<u8>, Mem>, after_value: bool, value: &str) -> Result<Vec<u8>, Mem>
-    ensures { (p : Printed) → IfOk text (λ t. ◌≡◌ {A = Printed} (t.items, after_value) p)
-        → IfOk result (λ t. t.items ≡ p.0 ++ (comma_if p.1 ++ quoted value.now)) }
-{
-    if is_plain(value.as_bytes()) {
-        return with_plain_string(text, after_value, value.as_bytes());
-    }
-    with_token(text, after_value, Token::String(value))
-}
-
-fn with_name(text: Result<Vec<u8>, Mem>, after_value: bool, name: &str) -> Result<Vec<u8>, Mem>
-    ensures { (p : Printed) → IfOk text (λ t. ◌≡◌ {A = Printed} (t.items, after_value) p)
-        → IfOk result (λ t. t.items ≡ p.0 ++ (comma_if p.1 ++ (quoted name.now ++ 58 ∷ []))) }
-{
-    if is_plain(name.as_bytes()) {
-        return with_plain_name(text, after_value, name.as_bytes());
-    }
-    with_token(text, after_value, Token::Key(name))
 }
 
 fn with_room(alloc: Global) -> Result<Vec<u8>, Mem>
@@ -157,110 +101,131 @@ impl Printer {
     }
 
     /// Memory ran out.
-    pub fn starved(self) -> Printer
-        ensures { (p : Printed) → HasPrinted result p }
+    pub fn starve(&mut self)
+        ensures { (p : Printed) → HasPrinted self.new p }
     {
-        drop(self);
-        Printer {
-            text: Err(Mem),
-            after_value: false,
+        self.text = Err(Mem);
+    }
+
+    fn put(&mut self, piece: &[u8])
+        ensures { (p : Printed) → HasPrinted self.old p → IfOk self.new.text (λ t. t.items ≡ p.0 ++ (comma_if p.1 ++ piece.now)) }
+    {
+        let done = match &mut self.text {
+            Ok(text) => put_piece(text, self.after_value, piece),
+            Err(Mem) => return,
+        };
+        if done.is_err() {
+            self.text = Err(Mem);
         }
+    }
+
+    fn put_token(&mut self, token: Token<'_>)
+        requires { IsPrintable (token_of token) }
+        ensures { (p : Printed) → HasPrinted self.old p → IfOk self.new.text (λ t. t.items ≡ p.0 ++ (comma_if p.1 ++ token_text (token_of token.entry))) }
+    {
+        let text = replace(&mut self.text, Err(Mem));
+        self.text = with_token(text, self.after_value, token);
     }
 
     /// A value, by its compact text.
-    pub fn value(self, text: &[u8]) -> Printer
-        ensures { (p : Printed) → HasPrinted self p → HasPrinted result (then_value p text.now) }
+    pub fn value(&mut self, text: &[u8])
+        ensures { (p : Printed) → HasPrinted self.old p → HasPrinted self.new (then_value p text.now) }
     {
-        Printer {
-            text: with_piece(self.text, self.after_value, text),
-            after_value: true,
-        }
+        self.put(text);
+        self.after_value = true;
     }
 
     /// A value, by its compact text, if there was memory for that.
-    pub fn made_value(self, text: Result<Bytes, Mem>) -> Printer
-        ensures { (p : Printed) (s : List ℕ) → IfOk text (λ t. t ≡ s) → HasPrinted self p → HasPrinted result (then_value p s) }
+    pub fn made_value(&mut self, text: Result<Bytes, Mem>)
+        ensures { (p : Printed) (s : List ℕ) → IfOk text (λ t. t ≡ s) → HasPrinted self.old p → HasPrinted self.new (then_value p s) }
     {
         match text {
             Ok(text) => self.value(text.as_slice()),
-            Err(Mem) => self.starved(),
+            Err(Mem) => self.starve(),
         }
     }
 
     /// A string.
-    pub fn word(self, value: &str) -> Printer
-        ensures { (p : Printed) → HasPrinted self p → HasPrinted result (then_value p (quoted value.now)) }
+    pub fn word(&mut self, value: &str)
+        ensures { (p : Printed) → HasPrinted self.old p → HasPrinted self.new (then_value p (quoted value.now)) }
     {
-        Printer {
-            text: with_string(self.text, self.after_value, value),
-            after_value: true,
+        if is_plain(value.as_bytes()) {
+            self.plain_pair(value.as_bytes(), b"");
+            return;
         }
+        self.put_token(Token::String(value));
+        self.after_value = true;
     }
 
     /// A string, by its bytes.
-    pub fn string(self, value: &[u8]) -> Printer
+    pub fn string(&mut self, value: &[u8])
         requires { IsUtf8 value.now }
-        ensures { (p : Printed) → HasPrinted self p → HasPrinted result (then_value p (quoted value.now)) }
+        ensures { (p : Printed) → HasPrinted self.old p → HasPrinted self.new (then_value p (quoted value.now)) }
     {
-        self.word(unsafe { str::from_utf8_unchecked(value) })
+        self.word(unsafe { str::from_utf8_unchecked(value) });
     }
 
     /// A string, by two parts that stand in it as they are.
-    pub fn plain_pair(self, front: &[u8], end: &[u8]) -> Printer
+    pub fn plain_pair(&mut self, front: &[u8], end: &[u8])
         requires front { IsPlain front.now }
         requires end { IsPlain end.now }
-        ensures { (p : Printed) → HasPrinted self p → HasPrinted result (then_value p (quoted (front.now ++ end.now))) }
+        ensures { (p : Printed) → HasPrinted self.old p → HasPrinted self.new (then_value p (quoted (front.now ++ end.now))) }
     {
-        Printer {
-            text: with_plain_pair(self.text, self.after_value, front, end),
-            after_value: true,
+        let done = match &mut self.text {
+            Ok(text) => put_plain(text, self.after_value, front, end),
+            Err(Mem) => return,
+        };
+        if done.is_err() {
+            self.text = Err(Mem);
         }
+        self.after_value = true;
     }
 
     /// A string, by its bytes.
-    pub fn text(self, value: &Bytes) -> Printer
+    pub fn text(&mut self, value: &Bytes)
         requires { IsUtf8 value.now }
-        ensures { (p : Printed) → HasPrinted self p → HasPrinted result (then_value p (quoted value.now)) }
+        ensures { (p : Printed) → HasPrinted self.old p → HasPrinted self.new (then_value p (quoted value.now)) }
     {
-        self.string(value.as_slice())
+        self.string(value.as_slice());
     }
 
     /// A whole number.
-    pub fn number(self, value: u64) -> Printer
-        ensures { (p : Printed) → HasPrinted self p → HasPrinted result (then_value p (decimal value)) }
+    pub fn number(&mut self, value: u64)
+        ensures { (p : Printed) → HasPrinted self.old p → HasPrinted self.new (then_value p (decimal value)) }
     {
         let mut buffer = Buffer::new();
-        self.value(buffer.format(value).as_bytes())
+        self.value(buffer.format(value).as_bytes());
     }
 
     /// What stands before a value, by its compact text: brackets that open, values before it and names of members.
-    pub fn begin(self, text: &[u8]) -> Printer
-        ensures { (p : Printed) → HasPrinted self p → HasPrinted result (then_begin p text.now) }
+    pub fn begin(&mut self, text: &[u8])
+        ensures { (p : Printed) → HasPrinted self.old p → HasPrinted self.new (then_begin p text.now) }
     {
-        Printer {
-            text: with_piece(self.text, self.after_value, text),
-            after_value: false,
-        }
+        self.put(text);
+        self.after_value = false;
     }
 
     /// The bracket that closes it.
-    pub fn end(self, bracket: u8) -> Printer
-        ensures { (p : Printed) → HasPrinted self p → HasPrinted result (then_end p (bracket ∷ [])) }
+    pub fn end(&mut self, bracket: u8)
+        ensures { (p : Printed) → HasPrinted self.old p → HasPrinted self.new (then_end p (bracket ∷ [])) }
     {
-        Printer {
-            text: with_piece(self.text, false, &[bracket]),
-            after_value: true,
-        }
+        self.after_value = false;
+        self.put(&[bracket]);
+        self.after_value = true;
     }
 
     /// The name of a member, whose value comes next.
-    pub fn name(self, name: &str) -> Printer
-        ensures { (p : Printed) → HasPrinted self p → HasPrinted result (then_name p name.now) }
+    pub fn name(&mut self, name: &str)
+        ensures { (p : Printed) → HasPrinted self.old p → HasPrinted self.new (then_name p name.now) }
     {
-        Printer {
-            text: with_name(self.text, self.after_value, name),
-            after_value: false,
+        if is_plain(name.as_bytes()) {
+            self.plain_pair(name.as_bytes(), b"");
+            self.after_value = false;
+            self.begin(b":");
+            return;
         }
+        self.put_token(Token::Key(name));
+        self.after_value = false;
     }
 
     /// All that was printed.

@@ -38,12 +38,12 @@ fn status(reply: &Reply) -> u16
 }
 
 #[tactic(auto, unfolding(crate::specs::Responses::response_of))]
-fn print_body(alloc: Global, out: Printer, setup: &Setup, reply: &Reply) -> Printer
+fn print_body(alloc: Global, out: &mut Printer, setup: &Setup, reply: &Reply)
     requires base { IsUtf8 setup.now.base }
     requires front { IsUtf8 setup.now.front }
     requires reply { ReplyFits reply.now }
     ensures { IfSome (response_of setup.now reply.now).body
-        (λ d. (p : Printed) → HasPrinted out p → HasPrinted result (then_value p (compact_text d))) }
+        (λ d. (p : Printed) → HasPrinted out.old p → HasPrinted out.new (then_value p (compact_text d))) }
 {
     let base = setup.base.as_slice();
     match reply {
@@ -129,7 +129,7 @@ fn print_body(alloc: Global, out: Printer, setup: &Setup, reply: &Reply) -> Prin
         Reply::Handle { handle } => print_handle(out, handle.as_slice()),
         Reply::Decided { finish } => print_decided(alloc, out, base, finish),
         Reply::Error { code } => print_error_body(out, *code),
-        Reply::Done | Reply::Lapsed => out,
+        Reply::Done | Reply::Lapsed => {}
     }
 }
 
@@ -146,7 +146,8 @@ pub fn print_reply(alloc: Global, setup: &Setup, reply: &Reply) -> Result<(u16, 
     if let Reply::Done | Reply::Lapsed = reply {
         return Ok((status, None));
     }
-    let out = print_body(alloc, Printer::new(alloc), setup, reply);
+    let mut out = Printer::new(alloc);
+    print_body(alloc, &mut out, setup, reply);
     Ok((status, Some(out.into_bytes()?)))
 }
 
@@ -154,6 +155,7 @@ pub fn print_reply(alloc: Global, setup: &Setup, reply: &Reply) -> Result<(u16, 
 pub fn print_error(alloc: Global, code: ErrorCode) -> Result<(u16, Option<Bytes>), Mem>
     ensures { IfOk result (λ printed. printed ≡ text_of (error_response code)) }
 {
-    let out = print_error_body(Printer::new(alloc), code);
+    let mut out = Printer::new(alloc);
+    print_error_body(&mut out, code);
     Ok((code.status(), Some(out.into_bytes()?)))
 }

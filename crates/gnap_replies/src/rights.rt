@@ -23,19 +23,17 @@ fn are_references(rights: &[Right]) -> bool
 }
 
 // The items of the array.
-fn print_references(out: Printer, rights: &[Right]) -> Printer
+fn print_references(out: &mut Printer, rights: &[Right])
     requires references { list_all is_reference rights.now ≡ true }
     requires fit { AllByRecursion Fits rights.now }
-    ensures { (p : Printed) → HasPrinted out p → HasPrinted result (then_items p (map right_data rights.now)) }
+    ensures { (p : Printed) → HasPrinted out.old p → HasPrinted out.new (then_items p (map right_data rights.now)) }
 {
-    let mut out = out;
     for right in rights {
         let Right::Reference(name) = right else {
             unreachable!()
         };
-        out = out.text(name);
+        out.text(name);
     }
-    out
 }
 
 #[tactic(auto, using(access_rights::proofs::Whole::rights_whole))]
@@ -47,12 +45,15 @@ fn rights_text(alloc: Global, rights: &Rights) -> Result<Bytes, Mem>
 }
 
 /// The array of the rights. Most rights are references, which need no tree either.
-pub fn print_rights(alloc: Global, out: Printer, rights: &Rights) -> Printer
+pub fn print_rights(alloc: Global, out: &mut Printer, rights: &Rights)
     requires { AllByRecursion Fits rights.now }
-    ensures { (p : Printed) → HasPrinted out p → HasPrinted result (then_value p (compact_text (rights_data rights.now))) }
+    ensures { (p : Printed) → HasPrinted out.old p → HasPrinted out.new (then_value p (compact_text (rights_data rights.now))) }
 {
     if are_references(rights.as_slice()) {
-        return print_references(out.begin(b"["), rights.as_slice()).end(b']');
+        out.begin(b"[");
+        print_references(out, rights.as_slice());
+        out.end(b']');
+        return;
     }
-    out.made_value(rights_text(alloc, rights))
+    out.made_value(rights_text(alloc, rights));
 }

@@ -18,99 +18,102 @@ use gnap_model::calls::TokenOut;
 use std::alloc::Global;
 
 /// The member `flags` of a bearer token.
-pub fn print_flags(out: Printer, bearer: bool) -> Printer
-    ensures { (p : Printed) → HasPrinted out p → HasPrinted result (then_field p (codes "flags") (flags_data bearer)) }
+pub fn print_flags(out: &mut Printer, bearer: bool)
+    ensures { (p : Printed) → HasPrinted out.old p → HasPrinted out.new (then_field p (codes "flags") (flags_data bearer)) }
 {
-    if !bearer {
-        return out;
+    if bearer {
+        out.value(b"\"flags\":[\"bearer\"]");
     }
-    out.value(b"\"flags\":[\"bearer\"]")
 }
 
 /// A member that is a text, where there is one.
-pub fn print_optional(out: Printer, name: &str, text: &Option<Bytes>) -> Printer
+pub fn print_optional(out: &mut Printer, name: &str, text: &Option<Bytes>)
     requires { IsUtf8Or text.now }
-    ensures { (p : Printed) → HasPrinted out p → HasPrinted result (then_field p name.now (option_map string text.now)) }
+    ensures { (p : Printed) → HasPrinted out.old p → HasPrinted out.new (then_field p name.now (option_map string text.now)) }
 {
-    match text {
-        None => out,
-        Some(text) => out.name(name).text(text),
+    if let Some(text) = text {
+        out.name(name);
+        out.text(text);
     }
 }
 
 /// A token of which the value alone is told.
-pub fn print_bare_token(out: Printer, value: &[u8]) -> Printer
+pub fn print_bare_token(out: &mut Printer, value: &[u8])
     requires { IsUtf8 value.now }
-    ensures { (p : Printed) → HasPrinted out p → HasPrinted result (then_value p (compact_text (object_of (bare_token_fields value.now)))) }
+    ensures { (p : Printed) → HasPrinted out.old p → HasPrinted out.new (then_value p (compact_text (object_of (bare_token_fields value.now)))) }
 {
-    out.begin(b"{\"value\":").string(value).end(b'}')
+    out.begin(b"{\"value\":");
+    out.string(value);
+    out.end(b'}');
 }
 
-fn print_manage(alloc: Global, out: Printer, base: &[u8], manage: &[u8]) -> Printer
+fn print_manage(alloc: Global, out: &mut Printer, base: &[u8], manage: &[u8])
     requires base { IsUtf8 base.now }
     requires manage { IsUtf8 manage.now }
-    ensures { (p : Printed) → HasPrinted out p → HasPrinted result (then_value p (compact_text (object_of (manage_fields base.now manage.now)))) }
+    ensures { (p : Printed) → HasPrinted out.old p → HasPrinted out.new (then_value p (compact_text (object_of (manage_fields base.now manage.now)))) }
 {
-    let out = print_bare_token(out.begin(b"{\"access_token\":"), manage);
-    print_place(alloc, out.begin(b"\"uri\":"), base, "/token").end(b'}')
+    out.begin(b"{\"access_token\":");
+    print_bare_token(out, manage);
+    out.begin(b"\"uri\":");
+    print_place(alloc, out, base, "/token");
+    out.end(b'}');
 }
 
 /// A token with all that is told of it.
 #[tactic(auto, unfolding(crate::specs::Tokens::token_data))]
-pub fn print_token(alloc: Global, out: Printer, base: &[u8], token: &TokenOut) -> Printer
+pub fn print_token(alloc: Global, out: &mut Printer, base: &[u8], token: &TokenOut)
     requires base { IsUtf8 base.now }
     requires token { TokenFits token.now }
-    ensures { (p : Printed) → HasPrinted out p → HasPrinted result (then_value p (compact_text (token_data base.now token.now))) }
+    ensures { (p : Printed) → HasPrinted out.old p → HasPrinted out.new (then_value p (compact_text (token_data base.now token.now))) }
 {
-    let out = print_rights(alloc, out.begin(b"{\"access\":"), &token.rights);
-    let out = print_flags(
-        out.begin(b"\"expires_in\":").number(token.expires_in),
-        token.bearer,
-    );
-    let out = print_optional(out, "label", &token.label);
-    let out = print_manage(
-        alloc,
-        out.begin(b"\"manage\":"),
-        base,
-        token.manage.as_slice(),
-    );
-    out.begin(b"\"value\":")
-        .string(token.value.as_slice())
-        .end(b'}')
+    out.begin(b"{\"access\":");
+    print_rights(alloc, out, &token.rights);
+    out.begin(b"\"expires_in\":");
+    out.number(token.expires_in);
+    print_flags(out, token.bearer);
+    print_optional(out, "label", &token.label);
+    out.begin(b"\"manage\":");
+    print_manage(alloc, out, base, token.manage.as_slice());
+    out.begin(b"\"value\":");
+    out.string(token.value.as_slice());
+    out.end(b'}');
 }
 
 // The items of the array.
-fn print_each_token(alloc: Global, out: Printer, base: &[u8], tokens: &[TokenOut]) -> Printer
+fn print_each_token(alloc: Global, out: &mut Printer, base: &[u8], tokens: &[TokenOut])
     requires base { IsUtf8 base.now }
     requires tokens { AllByRecursion TokenFits tokens.now }
-    ensures { (p : Printed) → HasPrinted out p → HasPrinted result (then_items p (map (token_data base.now) tokens.now)) }
+    ensures { (p : Printed) → HasPrinted out.old p → HasPrinted out.new (then_items p (map (token_data base.now) tokens.now)) }
 {
-    let mut out = out;
     for token in tokens {
-        out = print_token(alloc, out, base, token);
+        print_token(alloc, out, base, token);
     }
-    out
 }
 
 /// The member `access_token`, where there is a token: the one that was asked for outside an array, or an array.
 #[tactic(auto, unfolding(json::specs::Print::escape_byte))]
 pub fn print_tokens(
     alloc: Global,
-    out: Printer,
+    out: &mut Printer,
     base: &[u8],
     single: bool,
     tokens: &[TokenOut],
-) -> Printer
+)
     requires base { IsUtf8 base.now }
     requires tokens { AllByRecursion TokenFits tokens.now }
-    ensures { (p : Printed) → HasPrinted out p → HasPrinted result (then_field p (codes "access_token") (tokens_data base.now single tokens.now)) }
+    ensures { (p : Printed) → HasPrinted out.old p → HasPrinted out.new (then_field p (codes "access_token") (tokens_data base.now single tokens.now)) }
 {
     match tokens {
-        [] => out,
-        [token, ..] if single => print_token(alloc, out.begin(b"\"access_token\":"), base, token),
+        [] => {}
+        [token, ..] if single => {
+            out.begin(b"\"access_token\":");
+            print_token(alloc, out, base, token);
+        }
         tokens => {
-            let out = out.begin(b"\"access_token\":").begin(b"[");
-            print_each_token(alloc, out, base, tokens).end(b']')
+            out.begin(b"\"access_token\":");
+            out.begin(b"[");
+            print_each_token(alloc, out, base, tokens);
+            out.end(b']');
         }
     }
 }

@@ -1,4 +1,4 @@
 use Rattle.gnap_replies.proofs.discovery.print_server_discovery.Goals as goal
 
 pub returns : goal.returns
-returns c = c.into_bytes.ensures _ (c.print_for_server.ensures _ c.new.ensures)
+returns c = c.into_bytes.ensures _ (c.print_for_server.ensures _ c.new-out.ensures)

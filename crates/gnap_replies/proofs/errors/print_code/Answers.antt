@@ -6,6 +6,6 @@ use Rattle.gnap_replies.proofs.errors.print_code.Goals as goal
 
 pub returns : goal.returns
 unfolding escape_byte
-returns c p printed = has_object c.end.result p (code_fields c.args.code) refl
+returns c p printed = has_object c.end.new.self p (code_fields c.args.code) refl
     (c.end.ensures _ (rw (c.as_bytes.ensures.value, c.text.ensures) at c.string.ensures _
-    (first_name c.begin-out.result p (codes "code") (c.begin-out.ensures p printed))))
+    (first_name c.begin.new.self p (codes "code") (c.begin.ensures p printed))))

@@ -6,5 +6,5 @@ use Rattle.gnap_replies.proofs.errors.print_error_body.Goals as goal
 
 pub returns : goal.returns
 unfolding escape_byte
-returns c p printed = has_object c.end.result p (error_fields c.args.code) refl
-    (c.end.ensures _ (c.print_code.ensures _ (first_name c.begin.result p (codes "error") (c.begin.ensures p printed))))
+returns c p printed = has_object c.end.new.self p (error_fields c.args.code) refl
+    (c.end.ensures _ (c.print_code.ensures _ (first_name c.begin.new.self p (codes "error") (c.begin.ensures p printed))))

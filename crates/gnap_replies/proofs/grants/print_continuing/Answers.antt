@@ -6,5 +6,5 @@ use Rattle.gnap_replies.proofs.grants.print_continuing.Goals as goal
 
 pub returns : goal.returns
 unfolding escape_byte
-returns c p printed = has_object c.end.result p (continuing_fields c.args.base.now c.args.door.now) refl
-    (c.end.ensures _ (c.print_continue.ensures _ (first_name c.begin.result p (codes "continue") (c.begin.ensures p printed))))
+returns c p printed = has_object c.end.new.self p (continuing_fields c.args.base.now c.args.door.now) refl
+    (c.end.ensures _ (c.print_continue.ensures _ (first_name c.begin.new.self p (codes "continue") (c.begin.ensures p printed))))

@@ -6,5 +6,5 @@ use Rattle.gnap_replies.proofs.grants.print_identified.Goals as goal
 
 pub returns : goal.returns
 unfolding escape_byte
-returns c p printed = has_object c.end.result p (subject_fields c.args.id.now) refl
-    (c.end.ensures _ (c.print_sub_ids.ensures _ (first_name c.begin.result p (codes "sub_ids") (c.begin.ensures p printed))))
+returns c p printed = has_object c.end.new.self p (subject_fields c.args.id.now) refl
+    (c.end.ensures _ (c.print_sub_ids.ensures _ (first_name c.begin.new.self p (codes "sub_ids") (c.begin.ensures p printed))))

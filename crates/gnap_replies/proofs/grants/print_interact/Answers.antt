@@ -7,7 +7,7 @@ use Rattle.gnap_replies.proofs.grants.print_interact.Goals as goal
 pub returns : goal.returns
 unfolding interact_data escape_byte
 returns c p printed =
-    has_object c.end.result p (interact_fields c.args.front.now c.args.modes.now c.args.handle.now c.args.code.now c.args.nonce.now c.args.expires_in) refl
-    (c.end.ensures _ (c.print_user_code_uri.ensures _ (c.print_offered-out-2.ensures _ (c.print_redirect-out.ensures _
-    (rw c.is_some.ensures at c.print_offered-out.ensures _ (c.number-out.ensures _
-    (first_name c.begin.result p (codes "expires_in") (c.begin.ensures p printed))))))))
+    has_object c.end.new.self p (interact_fields c.args.front.now c.args.modes.now c.args.handle.now c.args.code.now c.args.nonce.now c.args.expires_in) refl
+    (c.end.ensures _ (c.print_user_code_uri.ensures _ (c.print_offered-2.ensures _ (c.print_redirect.ensures _
+    (rw c.is_some.ensures at c.print_offered.ensures _ (c.number.ensures _
+    (first_name c.begin.new.self p (codes "expires_in") (c.begin.ensures p printed))))))))

@@ -8,6 +8,6 @@ pub returns : goal.returns
 unfolding escape_byte
 returns c p printed =
     let interact = interact_data c.args.front.now c.args.modes.now c.args.handle.now c.args.code.now c.args.nonce.now c.args.expires_in in
-    has_object c.end.result p (pending_fields c.args.base.now c.args.door.now interact c.args.instance.now) refl
-    (c.end.ensures _ (c.print_interact.ensures _ (c.begin-out.ensures _ (c.print_optional.ensures _
-    (c.print_continue-out.ensures _ (first_name c.begin.result p (codes "continue") (c.begin.ensures p printed)))))))
+    has_object c.end.new.self p (pending_fields c.args.base.now c.args.door.now interact c.args.instance.now) refl
+    (c.end.ensures _ (c.print_interact.ensures _ (c.begin-2.ensures _ (c.print_optional.ensures _
+    (c.print_continue.ensures _ (first_name c.begin.new.self p (codes "continue") (c.begin.ensures p printed)))))))

@@ -6,5 +6,5 @@ use Rattle.gnap_replies.proofs.grants.print_rotated.Goals as goal
 
 pub returns : goal.returns
 unfolding escape_byte
-returns c p printed = has_object c.end.result p (rotated_fields c.args.base.now c.args.token.now) refl
-    (c.end.ensures _ (c.print_token.ensures _ (first_name c.begin.result p (codes "access_token") (c.begin.ensures p printed))))
+returns c p printed = has_object c.end.new.self p (rotated_fields c.args.base.now c.args.token.now) refl
+    (c.end.ensures _ (c.print_token.ensures _ (first_name c.begin.new.self p (codes "access_token") (c.begin.ensures p printed))))

@@ -6,6 +6,6 @@ use Rattle.gnap_replies.proofs.grants.print_sub_id.Goals as goal
 
 pub returns : goal.returns
 unfolding escape_byte
-returns c p printed = has_object c.end.result p (sub_id_fields c.args.id.now) refl
-    (c.end.ensures _ (c.string.ensures _ (c.begin-2.ensures _ (c.value-out.ensures _
-    (first_name c.begin.result p (codes "format") (c.begin.ensures p printed))))))
+returns c p printed = has_object c.end.new.self p (sub_id_fields c.args.id.now) refl
+    (c.end.ensures _ (c.string.ensures _ (c.begin-2.ensures _ (c.value.ensures _
+    (first_name c.begin.new.self p (codes "format") (c.begin.ensures p printed))))))

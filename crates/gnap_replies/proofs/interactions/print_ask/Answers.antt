@@ -6,6 +6,6 @@ use Rattle.gnap_replies.proofs.interactions.print_ask.Goals as goal
 
 pub returns : goal.returns
 unfolding ask_data escape_byte
-returns c p printed = has_object c.end.result p (ask_fields c.args.ask.now) refl
-    (c.end.ensures _ (c.print_optional.ensures _ (c.print_flags-out.ensures _
-    (c.print_rights-out.ensures _ (first_name c.begin.result p (codes "access") (c.begin.ensures p printed))))))
+returns c p printed = has_object c.end.new.self p (ask_fields c.args.ask.now) refl
+    (c.end.ensures _ (c.print_optional.ensures _ (c.print_flags.ensures _
+    (c.print_rights.ensures _ (first_name c.begin.new.self p (codes "access") (c.begin.ensures p printed))))))

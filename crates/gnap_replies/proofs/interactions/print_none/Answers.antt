@@ -6,5 +6,5 @@ use Rattle.gnap_replies.proofs.interactions.print_none.Goals as goal
 
 pub returns : goal.returns
 unfolding escape_byte
-returns c p printed = has_object c.end.result p (decided_fields [] None) refl
-    (c.end.ensures _ (c.value.ensures _ (first_name c.begin-out.result p (codes "finish") (c.begin-out.ensures p printed))))
+returns c p printed = has_object c.end.new.self p (decided_fields [] None) refl
+    (c.end.ensures _ (c.value.ensures _ (first_name c.begin.new.self p (codes "finish") (c.begin.ensures p printed))))

@@ -10,7 +10,7 @@ string-requires c = subst IsUtf8 (sym c.as_slice.ensures.value) (search (uri_is_
 
 pub returns : goal.returns
 unfolding escape_byte
-returns c p printed = has_object c.end.result p (pushed_fields c.args.base.now c.args.finish.now) refl
+returns c p printed = has_object c.end.new.self p (pushed_fields c.args.base.now c.args.finish.now) refl
     (c.end.ensures _ (rw c.as_slice.ensures.value at c.string.ensures _ (c.begin-3.ensures _
-    (c.value-out.ensures _ (c.begin-2.ensures _
-    (c.print_made-out.ensures _ _ c.pushed_body-body.ensures.body (first_name c.begin.result p (codes "body") (c.begin.ensures p printed))))))))
+    (c.value.ensures _ (c.begin-2.ensures _
+    (c.print_made.ensures _ _ c.pushed_body-body.ensures.body (first_name c.begin.new.self p (codes "body") (c.begin.ensures p printed))))))))

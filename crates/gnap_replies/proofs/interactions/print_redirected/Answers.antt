@@ -6,6 +6,6 @@ use Rattle.gnap_replies.proofs.interactions.print_redirected.Goals as goal
 
 pub returns : goal.returns
 unfolding escape_byte
-returns c p printed = has_object c.end.result p (redirected_fields c.args.base.now c.args.finish.now) refl
-    (c.end.ensures _ (c.print_redirected_uri.ensures _ (c.value-out.ensures _
-    (first_name c.begin-out.result p (codes "finish") (c.begin-out.ensures p printed)))))
+returns c p printed = has_object c.end.new.self p (redirected_fields c.args.base.now c.args.finish.now) refl
+    (c.end.ensures _ (c.print_redirected_uri.ensures _ (c.value.ensures _
+    (first_name c.begin.new.self p (codes "finish") (c.begin.ensures p printed)))))

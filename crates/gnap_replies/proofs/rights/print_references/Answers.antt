@@ -13,10 +13,10 @@ loop-right-preserved c =
     let x = c.right-item.result in
     let below = c.loop-right-test.true in record {
       printed = λ p printed.
-          let text = c.text-out.ensures _ (c.loop-right.invariant.printed p printed) in
+          let text = c.text.ensures _ (c.loop-right.invariant.printed p printed) in
           let shown = then_items p (map right_data (take i xs)) in
-          let same = subst (λ r. HasPrinted c.text-out.result (then_value shown (compact_text (right_data r)))) (sym c.in-Reference.is) text in
-          has_next c.text-out.result p right_data xs i x below c.right-item.is same;
+          let same = subst (λ r. HasPrinted c.text.new.self (then_value shown (compact_text (right_data r)))) (sym c.in-Reference.is) text in
+          has_next c.text.new.self p right_data xs i x below c.right-item.is same;
       references = all_behind is_reference xs i x below c.loop-right.invariant.references;
       fit = each_behind Fits xs i x below c.loop-right.invariant.fit;
     }

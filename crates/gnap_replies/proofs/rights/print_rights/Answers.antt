@@ -7,4 +7,4 @@ pub returns-then-are_references : goal.returns-then-are_references
 returns-then-are_references c p printed =
     let begun = c.begin.ensures p printed in
     let each = rw c.as_slice-then-are_references.ensures at c.print_references.ensures _ begun in
-    has_array c.end.result p (map right_data c.args.rights.now) (c.end.ensures _ each)
+    has_array c.end.new.self p (map right_data c.args.rights.now) (c.end.ensures _ each)

@@ -6,5 +6,5 @@ use Rattle.gnap_replies.proofs.tokens.print_bare_token.Goals as goal
 
 pub returns : goal.returns
 unfolding escape_byte
-returns c p printed = has_object c.end.result p (bare_token_fields c.args.value.now) refl
-    (c.end.ensures _ (c.string.ensures _ (first_name c.begin.result p (codes "value") (c.begin.ensures p printed))))
+returns c p printed = has_object c.end.new.self p (bare_token_fields c.args.value.now) refl
+    (c.end.ensures _ (c.string.ensures _ (first_name c.begin.new.self p (codes "value") (c.begin.ensures p printed))))

@@ -6,6 +6,6 @@ use Rattle.gnap_replies.proofs.tokens.print_manage.Goals as goal
 
 pub returns : goal.returns
 unfolding escape_byte
-returns c p printed = has_object c.end.result p (manage_fields c.args.base.now c.args.manage.now) refl
-    (c.end.ensures _ (c.print_place.ensures _ (c.begin-2.ensures _ (c.print_bare_token-out.ensures _
-    (first_name c.begin.result p (codes "access_token") (c.begin.ensures p printed))))))
+returns c p printed = has_object c.end.new.self p (manage_fields c.args.base.now c.args.manage.now) refl
+    (c.end.ensures _ (c.print_place.ensures _ (c.begin-2.ensures _ (c.print_bare_token.ensures _
+    (first_name c.begin.new.self p (codes "access_token") (c.begin.ensures p printed))))))

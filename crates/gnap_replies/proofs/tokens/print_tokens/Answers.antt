@@ -10,8 +10,8 @@ pub returns-in_default : goal.returns-in_default
 unfolding escape_byte
 returns-in_default c p printed =
     let named = c.begin-in_default.ensures p printed in
-    let begun = c.begin-out.ensures _ named in
+    let begun = c.begin-in_default-2.ensures _ named in
     let each = c.print_each_token.ensures _ begun in
-    let array = has_array c.end.result (then_name p (codes "access_token")) (map (token_data c.args.base.now) c.args.tokens.now) (c.end.ensures _ each) in
+    let array = has_array c.end.new.self (then_name p (codes "access_token")) (map (token_data c.args.base.now) c.args.tokens.now) (c.end.ensures _ each) in
     let several = several_tokens c.args.base.now c.args.single c.args.tokens.now c.if-single.false c.in-len1-up.len_at_least in
-    subst (λ d. HasPrinted c.end.result (then_field p (codes "access_token") d)) (sym several) array
+    subst (λ d. HasPrinted c.end.new.self (then_field p (codes "access_token") d)) (sym several) array

@@ -6,5 +6,5 @@ use Rattle.gnap_replies.proofs.printer.Printer.end.Goals as goal
 
 pub returns : goal.returns
 returns c p printed =
-    let bare = IfOk-weaker c.args.self.text _ _ (λ t e. ap (λ (q : Printed). (q.0, false)) e) printed in
-    paired c.with_piece.result (λ t. t.items) true _ (c.with_piece.ensures (p.0, false) bare)
+    let bare = IfOk-weaker c.args.self.now.text _ _ (λ t e. ap (λ (q : Printed). (q.0, false)) e) printed in
+    paired c.put.new.self.text (λ t. t.items) true _ (c.put.ensures (p.0, false) bare)

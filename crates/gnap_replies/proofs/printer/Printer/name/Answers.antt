@@ -1,6 +1,10 @@
-use Rattle.std.proofs.Common.{false}
-use Rattle.gnap_replies.proofs.Printing.{paired}
+use Rattle.std.proofs.Common.{false, ap, subst}
+use Rattle.std.proofs.lemmas.Result.{IfOk-weaker}
+use Rattle.gnap_replies.specs.Printing.{Printed, HasPrinted}
+use Rattle.gnap_replies.proofs.Printing.{colon_behind}
 use Rattle.gnap_replies.proofs.printer.Printer.name.Goals as goal
 
-pub returns : goal.returns
-returns c p printed = paired c.with_name.result (λ t. t.items) false _ (c.with_name.ensures p printed)
+pub returns-then-is_plain : goal.returns-then-is_plain
+returns-then-is_plain c p printed =
+    let bare = IfOk-weaker c.plain_pair.new.self.text _ _ (λ t e. ap (λ (q : Printed). (q.0, false)) e) (c.plain_pair.ensures p printed) in
+    subst (HasPrinted c.begin.new.self) (colon_behind p c.args.name.now _ c.as_bytes-then-is_plain.ensures.value) (c.begin.ensures _ bare)

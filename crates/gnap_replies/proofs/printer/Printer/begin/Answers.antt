@@ -1,6 +1,0 @@
-use Rattle.std.proofs.Common.{false}
-use Rattle.gnap_replies.proofs.Printing.{paired}
-use Rattle.gnap_replies.proofs.printer.Printer.begin.Goals as goal
-
-pub returns : goal.returns
-returns c p printed = paired c.with_piece.result (λ t. t.items) false _ (c.with_piece.ensures p printed)
