@@ -18,3 +18,4 @@ pub mod Ranges
 pub mod Read
 pub mod Written
 pub mod SoleMember
+pub mod PlainLists

@@ -36,7 +36,7 @@ params_more (p ∷ ps) (suc i) name v e =
 
 -- ---- numbers
 
-own : IsNumeralModel (λ ds. list_all is_digit ds ≡ true) number
+pub own : IsNumeralModel (λ ds. list_all is_digit ds ≡ true) number
 own = numerals_by_fold _ (search rules) number_after (search rules)
 
 number_digits : (most n : ℕ) → 0 < most → n < 10 ^ most → n < 2 ^ 64 → AreDigits 1 most (decimal n)

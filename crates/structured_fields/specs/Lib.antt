@@ -7,3 +7,4 @@ pub mod Classes
 pub mod NameNotes
 pub mod Strings
 pub mod SoleMember
+pub mod PlainLists

@@ -19,7 +19,7 @@ use bytes_and_lists::bytes::Bytes;
 use std::alloc::Global;
 
 // So many digits an Integer has at most (RFC 9651, section 3.3.1).
-const INTEGER_DIGITS: usize = 15;
+pub(crate) const INTEGER_DIGITS: usize = 15;
 
 // So many stand at most before the point of a Decimal (section 3.3.2).
 const WHOLE_DIGITS: usize = 12;
@@ -43,7 +43,7 @@ pub(crate) fn key_of(alloc: Global, bytes: &[u8]) -> Result<(Bytes, &[u8]), Fiel
     }
 }
 
-fn number_of(digits: &[u8]) -> u64
+pub(crate) fn number_of(digits: &[u8]) -> u64
     requires len { length digits.now ≤ integer_digits }
     requires all { list_all is_digit digits.now ≡ true }
     ensures value { result ≡ number digits.now }
@@ -57,7 +57,7 @@ fn number_of(digits: &[u8]) -> u64
     n
 }
 
-fn with_sign(negative: bool, n: u64) -> i64
+pub(crate) fn with_sign(negative: bool, n: u64) -> i64
     requires { n ≤ number_limit }
     ensures { result ≡ signed negative n }
 {

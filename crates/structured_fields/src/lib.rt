@@ -7,6 +7,7 @@
 //! `item_of`, `list_of` and `dictionary_of` (`specs/Reading.antt`) say the same as functions, for contracts that compute with what a text holds.
 //!
 //! `sole_bytes` reads a dictionary of one byte sequence directly, where it has the form that most have; of any other form it says nothing.
+//! `plain_front` and `plain_params` do the same together for a dictionary of one inner list of Strings (`plain_list_is_read`).
 //!
 //! Two rules are this project's own: a byte sequence may stand without its padding, and one whose unused last bits aren't zero is refused. Want of memory is
 //! `OutOfMemory` or `Mem`, and changes nothing.
@@ -24,6 +25,7 @@ mod item_reading;
 mod letters;
 mod name_notes;
 mod named;
+mod plain_lists;
 mod reading;
 mod sole_member;
 mod writing;
@@ -33,6 +35,7 @@ pub use fault::FieldFault;
 pub use item::{Dictionary, InnerList, Item, Items, List, Member, Params};
 pub use letters::trimmed;
 pub use named::Named;
+pub use plain_lists::{PlainFront, plain_front, plain_params};
 pub use reading::{read_dictionary, read_item, read_list};
 pub use sole_member::sole_bytes;
 pub use writing::{
