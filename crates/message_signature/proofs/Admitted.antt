@@ -7,7 +7,7 @@ use Rattle.structured_fields.specs.declared.bare.Bare.TheVariants.{Integer, Deci
 use Rattle.structured_fields.specs.declared.item.InnerList.{InnerList}
 use Rattle.structured_fields.specs.Named.{value_at}
 use Rattle.message_signature.specs.Verified.{integer_in, is_in_window, is_not_expired, covers_enough, admitted}
-use Rattle.message_signature.specs.Demands.{demands_of, are_covering, is_near, is_not_past, admitted_by}
+use Rattle.message_signature.specs.Demands.{covering_of, demands_of, are_covering, is_near, is_not_past, admitted_by}
 
 near_same : (now : ℕ) (o : Option Bare) → is_in_window now o ≡ is_near now (option_and_then integer_in o)
 near_same now None = refl
@@ -34,7 +34,7 @@ not_past_same now (Some (Date n)) = refl
 not_past_same now (Some (Display s)) = refl
 
 module _ (m : Message) (now : ℕ) (list : InnerList) where
-  covers_same : covers_enough m list ≡ are_covering m (demands_of list)
+  covers_same : covers_enough m list ≡ are_covering m (covering_of list.items)
   covers_same = refl
 
   pub admitted_by_demands : admitted m now list ≡ admitted_by m now (demands_of list)

@@ -1,13 +1,13 @@
 -- The template of a list, filled, is the signature base.
 use Rattle.std.proofs.Common.{◌≡◌, ℕ, ◌+◌, Bool, true, false, cond, List, [], ◌∷◌, ◌++◌, drop, slice_get, Option, Some, None, refl, sym, ap, ◌∙◌, append_assoc}
 use Rattle.std.proofs.lemmas.List.{append-nil}
-use Rattle.std.specs.Prelude.{option_and_then}
+use Rattle.std.specs.Prelude.{codes}
 use Rattle.std.specs.Option.{option_map}
 use Rattle.bytes_and_lists.specs.declared.message.Message.{Message}
 use Rattle.structured_fields.specs.declared.item.Item.{Item}
 use Rattle.structured_fields.specs.declared.item.InnerList.{InnerList}
 use Rattle.structured_fields.specs.declared.bare.Bare.TheVariants.{Str}
-use Rattle.structured_fields.specs.Canonical.{bare_text}
+use Rattle.structured_fields.specs.Canonical.{bare_text, inner_text}
 use Rattle.structured_fields.specs.Reading.{◌>>=◌}
 use Rattle.structured_fields.proofs.Fronts.{some_is}
 use Rattle.content_digest.proofs.Steps.{opened}
@@ -15,6 +15,7 @@ use Rattle.message_signature.specs.declared.fault.BaseFault.{BaseFault}
 use Rattle.message_signature.specs.declared.fault.BaseFault.TheVariants.{Unsupported, OutOfMemory}
 use Rattle.message_signature.specs.declared.components.CoveredComponent.{CoveredComponent}
 use Rattle.message_signature.specs.declared.base_template.LineTemplate.{LineTemplate}
+use Rattle.message_signature.specs.declared.base_template.BaseTemplate.{BaseTemplate}
 use Rattle.message_signature.specs.Base.{is_named, name_of, base_line, base_lines, params_line, signature_base}
 use Rattle.message_signature.specs.BaseTemplates.{component_named, covered_value, line_template, line_templates, line_end, template_of, filled_line, filled_lines, filled}
 use Rattle.message_signature.specs.Components.{component}
@@ -139,11 +140,29 @@ module _ (m : Message) (base last : List ℕ) where
   whole [] = refl
   whole (item ∷ items) = line_step m base last [] item items (further_lines items) ∙ lines_start _
 
-pub template_gives_base : (m : Message) (base : List ℕ) (list : InnerList) → option_and_then (filled m base) (template_of list) ≡ signature_base m base list
+last_line : (end name text : List ℕ) → (end ++ (name ++ 58 ∷ 32 ∷ [])) ++ text ≡ end ++ (name ++ (58 ∷ 32 ∷ text))
+last_line end name text = simp (append_assoc) refl
+
+-- with the canonical text of a list that has these covered components
+pub template_gives_base : (m : Message) (base : List ℕ) (list : InnerList) (template : BaseTemplate) (shown : List ℕ) → template_of list.items ≡ Some template
+    → shown ≡ inner_text list → filled m base template shown ≡ signature_base m base list
 unfolding template_of filled signature_base
-template_gives_base m base list = by (line_templates [] list.items) ∙ whole m base (params_line list) list.items
+template_gives_base m base list template shown is text = by (line_templates [] list.items) is (whole m base (params_line list) list.items)
   where
-    by : (o : Option (List LineTemplate)) → ((o >>= λ ls. Some (record { lines = ls; last = line_end list.items ++ params_line list })) >>= filled m base)
-        ≡ closed (params_line list) (line_end list.items) (o >>= filled_lines m base)
-    by (Some ls) = refl
-    by None = refl
+    end : List ℕ
+    end = line_end list.items
+
+    first : List ℕ
+    first = end ++ base_line (codes "@signature-params") []
+
+    by : (o : Option (List LineTemplate)) → (o >>= λ ls. Some (record { lines = ls; last = first })) ≡ Some template
+        → closed (params_line list) end (o >>= filled_lines m base) ≡ closed (params_line list) [] (base_lines m base list.items)
+        → (filled_lines m base template.lines >>= λ ls. Some (ls ++ (template.last ++ shown))) ≡ closed (params_line list) [] (base_lines m base list.items)
+    by None h same = absurd cc
+    by (Some ls) h same =
+        let made : BaseTemplate = record { lines = ls; last = first } in
+        let e : made ≡ template = some_is made template h in
+        let line : first ++ shown ≡ end ++ params_line list = ap (λ (t : List ℕ). first ++ t) text
+        ∙ last_line end (bare_text (Str (codes "@signature-params"))) (inner_text list) in
+        ap (λ (t : BaseTemplate). filled_lines m base t.lines >>= λ ls. Some (ls ++ (t.last ++ shown))) (sym e)
+        ∙ ap (λ (l : List ℕ). filled_lines m base ls >>= λ t. Some (t ++ l)) line ∙ same

@@ -13,3 +13,4 @@ pub mod SigningSteps
 pub mod CheckSteps
 pub mod VerifiedParts
 pub mod Admitted
+pub mod ListShapes

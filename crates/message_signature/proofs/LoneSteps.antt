@@ -1,6 +1,6 @@
 -- The signature with a tag, by what was found of the members of the two fields.
 use Rattle.std.proofs.Common.{◌≡◌, ℕ, Bool, true, false, cond, List, [], ◌∷◌, Option, Some, None, Result, Ok, Err, refl, sym, ap, subst, ◌∙◌}
-use Rattle.std.specs.Prelude.{codes, map}
+use Rattle.std.specs.Prelude.{codes}
 use Rattle.std.specs.Option.{option_map}
 use Rattle.bytes_and_lists.specs.declared.message.Message.{Message}
 use Rattle.structured_fields.specs.declared.bare.Bare.{Bare}
@@ -21,7 +21,6 @@ use Rattle.message_signature.specs.declared.reading.ReadSignature.TheVariants.{A
 use Rattle.message_signature.specs.declared.tags.SignatureFields.{SignatureFields}
 use Rattle.message_signature.specs.Components.{field_value}
 use Rattle.message_signature.specs.Faults.{◌>>=◌, need, must, Fails}
-use Rattle.message_signature.specs.TaggedLists.{IsTagged}
 use Rattle.message_signature.specs.Lone.{read_tagged, bytes_in, formed, lone_seen, IsLone, IsRead, tagged_read}
 use Rattle.message_signature.specs.Verified.{Signature, is_well_formed, with_tag, signature_under, signature_fields, tagged_in, tagged, judged, verified}
 use Rattle.message_signature.specs.Marked.{judged_with_mark, id_and_mark, verified_marked}
@@ -101,44 +100,6 @@ cut_of (Inner whole) list h = by (are_strings whole.items) refl h
 pub once_is : (tag label : List ℕ) (d : List Entry) (list : InnerList) (m : Member) → m ≡ Inner list → matches_among (codes "tag") tag d ≡ (label, m) ∷ []
     → matches_among (codes "tag") tag d ≡ (label, Inner list) ∷ []
 once_is tag label d list m is one = one ∙ ap (λ (x : Member). (label, x) ∷ []) is
-
--- ---- a list that is held
-
-module _ (input tag label : List ℕ) (list : InnerList) where
-  -- the dictionary in which it is found
-  pub record Found : Type 0 where
-    pub d : List Entry
-    pub reads : dictionary_of input ≡ Some d
-    pub m : Member
-    pub once : matches_among (codes "tag") tag d ≡ (label, m) ∷ []
-    pub is : Some list ≡ strings_in m
-
-  pub tagged_found : IsTagged input tag label list → Found
-  tagged_found h = by (dictionary_of input) refl h
-    where
-      held : List Entry → List (List ℕ × Option InnerList)
-      held d = map (λ (e : Entry). (e.0, strings_in e.1)) d
-
-      among : (d : List Entry) → dictionary_of input ≡ Some d → (found : List Entry) → matches_among (codes "tag") tag d ≡ found
-          → held found ≡ (label, Some list) ∷ [] → Found
-      among d reads [] e h = absurd cc
-      among d reads ((name, m) ∷ []) e h =
-          let first : List ℕ × Option InnerList = (name, strings_in m) in
-          let wanted : List ℕ × Option InnerList = (label, Some list) in
-          let same : first ≡ wanted = cc in
-          record {
-            d = d;
-            reads = reads;
-            m = m;
-            once = e ∙ ap (λ (n : List ℕ). (n, m) ∷ []) (ap (λ (p : List ℕ × Option InnerList). p.0) same);
-            is = sym (ap (λ (p : List ℕ × Option InnerList). p.1) same);
-          }
-      among d reads (one ∷ other ∷ others) e h = absurd cc
-
-      by : (r : Option (List Entry)) → dictionary_of input ≡ r
-          → option_map (λ (d : List Entry). held (matches_among (codes "tag") tag d)) r ≡ Some ((label, Some list) ∷ []) → Found
-      by None e h = absurd cc
-      by (Some d) e h = among d e (matches_among (codes "tag") tag d) refl (some_is _ _ h)
 
 -- a list of other items hasn't its form
 pub no_strings : (list : InnerList) → None ≡ strings_in (Inner list) → is_well_formed list ≡ false

@@ -1,11 +1,10 @@
--- The signature base as far as the list tells it, with places for the values of a message's components (RFC 9421, section 2.5).
+-- The signature base as far as the covered components tell it, with places for the values of a message's components (RFC 9421, section 2.5).
 -- Bytes stand by their numbers: 10 LF.
 use Rattle.std.specs.Prelude.{ℕ, ◌||◌, if◌then◌else◌, List, [], ◌∷◌, ◌++◌, Option, Some, None, codes}
 use Rattle.std.specs.List.{list_any}
 use Rattle.std.specs.Str.{bytes_eq}
 use Rattle.bytes_and_lists.specs.declared.message.Message.{Message}
 use Rattle.structured_fields.specs.declared.item.Item.{Item}
-use Rattle.structured_fields.specs.declared.item.InnerList.{InnerList}
 use Rattle.structured_fields.specs.Reading.{◌>>=◌}
 use Rattle.message_signature.specs.declared.components.DerivedComponent.{DerivedComponent}
 use Rattle.message_signature.specs.declared.components.DerivedComponent.TheVariants.{Method, TargetUri, Authority, Scheme, Path, Query}
@@ -13,7 +12,7 @@ use Rattle.message_signature.specs.declared.components.CoveredComponent.{Covered
 use Rattle.message_signature.specs.declared.components.CoveredComponent.TheVariants.{Derived, Field}
 use Rattle.message_signature.specs.declared.base_template.LineTemplate.{LineTemplate}
 use Rattle.message_signature.specs.declared.base_template.BaseTemplate.{BaseTemplate}
-use Rattle.message_signature.specs.Base.{is_named, name_of, base_line, params_line}
+use Rattle.message_signature.specs.Base.{is_named, name_of, base_line}
 use Rattle.message_signature.specs.Components.{field_value, scheme_of, authority_of, path_of, query_of, begins_with_at, is_upper}
 
 -- ---- components
@@ -51,7 +50,7 @@ abbrev pub covered_value : Message → List ℕ → CoveredComponent → Option 
 covered_value m base (Derived component) = Some (derived_value m base component)
 covered_value m base (Field name) = field_value name m.fields
 
--- ---- what the list tells
+-- ---- what the covered components tell
 
 -- The line of a covered component up to its value, behind the end of the line before. None where it has parameters, is named again by the ones behind it, or
 -- no message has it.
@@ -74,12 +73,13 @@ abbrev pub line_end : List Item → List ℕ
 line_end [] = []
 line_end (item ∷ items) = 10 ∷ []
 
-unfoldable pub template_of : InnerList → Option BaseTemplate
-template_of list = do
-  lines ← line_templates [] list.items
-  Some (record { lines = lines; last = line_end list.items ++ params_line list })
+-- The template of these covered components. The line of the parameters is up to their text.
+unfoldable pub template_of : List Item → Option BaseTemplate
+template_of items = do
+  lines ← line_templates [] items
+  Some (record { lines = lines; last = line_end items ++ base_line (codes "@signature-params") [] })
 
--- ---- what the message adds
+-- ---- what the message and the parameters add
 
 -- the line with its value; None where the message has none
 abbrev pub filled_line : Message → List ℕ → LineTemplate → Option (List ℕ)
@@ -94,8 +94,8 @@ filled_lines m base (line ∷ lines) = do
   texts ← filled_lines m base lines
   Some (text ++ texts)
 
--- the base
-unfoldable pub filled : Message → List ℕ → BaseTemplate → Option (List ℕ)
-filled m base template = do
+-- the base, where this is the canonical text of the list
+unfoldable pub filled : Message → List ℕ → BaseTemplate → List ℕ → Option (List ℕ)
+filled m base template shown = do
   lines ← filled_lines m base template.lines
-  Some (lines ++ template.last)
+  Some (lines ++ (template.last ++ shown))

@@ -7,7 +7,6 @@ pub mod Marked
 pub mod Marks
 pub mod Seen
 pub mod Signed
-pub mod TaggedLists
 pub mod Verified
 pub mod Demands
-pub mod KnownParts
+pub mod ListShapes

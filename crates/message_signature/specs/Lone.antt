@@ -8,7 +8,7 @@ use Rattle.content_digest.specs.Digest.{binary_of}
 use Rattle.message_signature.specs.declared.fault.SigFault.{SigFault}
 use Rattle.message_signature.specs.declared.fault.SigFault.TheVariants.{NotAField, Malformed}
 use Rattle.message_signature.specs.declared.lone.LoneList.{LoneList}
-use Rattle.message_signature.specs.declared.lone.LoneList.TheVariants.{Known, New}
+use Rattle.message_signature.specs.declared.lone.LoneList.TheVariants.{Shaped, Cut}
 use Rattle.message_signature.specs.declared.lone.LoneSignature.{LoneSignature}
 use Rattle.message_signature.specs.declared.reading.ReadSignature.{ReadSignature}
 use Rattle.message_signature.specs.declared.reading.ReadSignature.TheVariants.{Alone, Among}
@@ -36,8 +36,8 @@ formed label list o = do
 
 -- what is held of a list
 abbrev pub list_in : LoneList → InnerList
-list_in (Known tagged) = tagged.value.list
-list_in (New list) = list
+list_in (Shaped one) = one.list
+list_in (Cut list) = list
 
 -- a signature as the code holds it, which stands under a label
 abbrev pub lone_seen : List ℕ → LoneSignature → Signature

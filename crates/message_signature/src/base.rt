@@ -104,11 +104,14 @@ fn lines_of(
     Ok(text)
 }
 
+/// What the last line of a signature base begins with, before the text of the list (section 2.5).
+pub(crate) const PARAMS_LINE: &[u8] = b"\"@signature-params\": ";
+
 /// The text with the last line of a signature base behind it, that of the parameters.
 pub fn append_params_line(alloc: Global, text: Bytes, list: &InnerList) -> Result<Bytes, BaseFault>
     ensures { GivesBase (λ b. b) result (Some (text ++ params_line list.now)) }
 {
-    let text = append_bytes(text, b"\"@signature-params\": ")?;
+    let text = append_bytes(text, PARAMS_LINE)?;
     Ok(append_inner(alloc, text, list)?)
 }
 

@@ -1,17 +1,19 @@
-//! The signature base as far as the list tells it (RFC 9421, section 2.5), with places for the values of a message's components.
-ghost use Rattle.std.specs.Prelude.{◌≡◌, [], ◌++◌, option_and_then};
+//! The signature base as far as the covered components tell it (RFC 9421, section 2.5), with places for their values and for the parameters.
+ghost use Rattle.std.specs.Prelude.{◌≡◌, [], ◌++◌};
 ghost use Rattle.std.specs.Option.{option_map};
 ghost use Rattle.message_signature.specs.BaseTemplates.{line_template, line_templates, line_end, template_of, filled_line, filled_lines, filled};
 ghost use Rattle.message_signature.specs.Faults.{GivesBase};
 
-use crate::base::{append_params_line, is_named, name_of, others_behind, room_for, text_with_room};
-use crate::components::{CoveredComponent, append_bytes, append_covered, component_named};
+use crate::base::{PARAMS_LINE, is_named, name_of, others_behind, room_for, text_with_room};
+use crate::components::{
+    CoveredComponent, append_bytes, append_covered, component_named, with_both,
+};
 use crate::fault::BaseFault;
 use bytes_and_lists::bytes::Bytes;
 use bytes_and_lists::message::Message;
 use bytes_and_lists::seq::Seq;
 use std::alloc::Global;
-use structured_fields::{InnerList, Item, Items, append_item};
+use structured_fields::{Item, Items, append_item};
 
 /// A line of a covered component up to its value.
 #[derive(Drop)]
@@ -21,11 +23,11 @@ struct LineTemplate {
     component: CoveredComponent,
 }
 
-/// A signature base without the values of its components.
+/// A signature base without the values of its components and the text of the list.
 #[derive(Drop)]
 pub(crate) struct BaseTemplate {
     lines: Seq<LineTemplate>,
-    /// The end of the line before, and the line of the parameters.
+    /// The end of the line before, and the line of the parameters up to their text.
     last: Bytes,
 }
 
@@ -72,17 +74,17 @@ fn line_end(items: &Items) -> &'static [u8]
     }
 }
 
-/// That of a list.
+/// That of covered components.
 ///
-/// Errors: Unsupported exactly where no message has a signature base under the list: a covered component is no String, has parameters, is named again, isn't
-/// lower case or is no derived one though its name begins with `@`. OutOfMemory may come in place of any answer.
+/// Errors: Unsupported exactly where no message has a signature base under them: one is no String, has parameters, is named again, isn't lower case or is no
+/// derived one though its name begins with `@`. OutOfMemory may come in place of any answer.
 #[tactic(auto, unfolding(crate::specs::BaseTemplates::template_of))]
-pub(crate) fn template_of(alloc: Global, list: &InnerList) -> Result<BaseTemplate, BaseFault>
-    ensures { GivesBase (λ template. template) result (template_of list.now) }
+pub(crate) fn template_of(alloc: Global, items: &Items) -> Result<BaseTemplate, BaseFault>
+    ensures { GivesBase (λ template. template) result (template_of items.now) }
 {
-    let lines = line_templates(alloc, &list.items)?;
-    let before = Bytes::from_slice(alloc, line_end(&list.items))?;
-    let last = append_params_line(alloc, before, list)?;
+    let lines = line_templates(alloc, items)?;
+    let before = Bytes::from_slice(alloc, line_end(items))?;
+    let last = append_bytes(before, PARAMS_LINE)?;
     Ok(BaseTemplate { lines, last })
 }
 
@@ -115,7 +117,8 @@ fn filled_lines(
     Ok(text)
 }
 
-/// The signature base of a message to the server with this base. Unsupported exactly where a covered component isn't there.
+/// The signature base of a message to the server with this base, under the list of which `shown` is the canonical text. Unsupported exactly where a covered
+/// component isn't there.
 ///
 /// Errors: OutOfMemory may come in place of any answer.
 #[tactic(auto, unfolding(crate::specs::BaseTemplates::filled))]
@@ -124,26 +127,10 @@ pub(crate) fn filled(
     message: &Message,
     base: &Bytes,
     template: &BaseTemplate,
+    shown: &[u8],
 ) -> Result<Bytes, BaseFault>
-    ensures { GivesBase (λ b. b) result (filled message.now base.now template.now) }
+    ensures { GivesBase (λ b. b) result (filled message.now base.now template.now shown.now) }
 {
     let lines = filled_lines(alloc, message, base, &template.lines)?;
-    append_bytes(lines, template.last.as_slice())
-}
-
-/// The signature base of `base_of` under the list of which this is the template, where it has one.
-///
-/// Errors: those of `base_of`.
-pub(crate) fn base_by_template(
-    alloc: Global,
-    message: &Message,
-    base: &Bytes,
-    template: &Option<BaseTemplate>,
-) -> Result<Bytes, BaseFault>
-    ensures { GivesBase (λ b. b) result (option_and_then (filled message.now base.now) template.now) }
-{
-    match template {
-        Some(template) => filled(alloc, message, base, template),
-        None => Err(BaseFault::Unsupported),
-    }
+    Ok(with_both(lines, template.last.as_slice(), shown)?)
 }

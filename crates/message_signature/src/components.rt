@@ -53,7 +53,7 @@ impl FieldValue<'_> {
 
 // The text with both behind it.
 #[tactic(auto, using(std::proofs::Common::append_assoc))]
-fn with_both(text: Bytes, front: &[u8], back: &[u8]) -> Result<Bytes, Mem>
+pub(crate) fn with_both(text: Bytes, front: &[u8], back: &[u8]) -> Result<Bytes, Mem>
     ensures { IfOk result (λ b. b ≡ text ++ (front.now ++ back.now)) }
 {
     let mut out = text;

@@ -3,7 +3,7 @@ ghost use Rattle.std.specs.Prelude.{◌≡◌, ◌&&◌, Some, codes, option_and
 ghost use Rattle.std.specs.Option.{option_copied};
 ghost use Rattle.structured_fields.specs.Strings.{is_string};
 ghost use Rattle.message_signature.specs.Base.{is_named};
-ghost use Rattle.message_signature.specs.Demands.{demands_of, are_covering, is_near, is_not_past, admitted_by};
+ghost use Rattle.message_signature.specs.Demands.{covering_of, demands_with, demands_of, are_covering, is_near, is_not_past, admitted_by};
 ghost use Rattle.message_signature.specs.Verified.{integer_in, absent_or};
 
 use crate::base::is_named;
@@ -11,19 +11,25 @@ use crate::components::{has_body, has_field};
 use crate::fault::SigFault;
 use crate::tags::must;
 use bytes_and_lists::message::Message;
-use structured_fields::{Bare, InnerList, Item, is_string};
+use structured_fields::{Bare, InnerList, Item, Items, Params, is_string};
 
 // How many seconds `created` may be before or after now.
 const WINDOW: u64 = 300;
 
+/// Which of the components that a message may need are covered.
+#[derive(Clone, Copy, Drop)]
+pub(crate) struct Covering {
+    /// The method and the target URI.
+    target: bool,
+    /// The digest of a body.
+    digest: bool,
+    /// An access token that is presented.
+    authorization: bool,
+}
+
 #[derive(Clone, Copy, Drop)]
 pub(crate) struct Demands {
-    /// It covers the method and the target URI.
-    target: bool,
-    /// It covers the digest of a body.
-    digest: bool,
-    /// It covers an access token that is presented.
-    authorization: bool,
+    covering: Covering,
     created: Option<i64>,
     expires: Option<i64>,
     /// It names no algorithm but `hmac-sha256`.
@@ -54,27 +60,42 @@ fn covers_target(items: &[Item]) -> bool
     is_named(b"@method", items) && is_named(b"@target-uri", items)
 }
 
+pub(crate) fn covering_of(items: &Items) -> Covering
+    ensures { result ≡ covering_of items.now }
+{
+    let items = items.as_slice();
+    Covering {
+        target: covers_target(items),
+        digest: is_named(b"content-digest", items),
+        authorization: is_named(b"authorization", items),
+    }
+}
+
+/// Those of a list that covers so much, by its parameters.
+pub(crate) fn demands_with(covering: Covering, params: &Params) -> Demands
+    ensures { result ≡ demands_with covering params.now }
+{
+    Demands {
+        covering,
+        created: integer_in(params.get(b"created")),
+        expires: integer_in(params.get(b"expires")),
+        right_alg: is_right_alg(params.get(b"alg")),
+    }
+}
+
 /// Those of a list.
 pub(crate) fn demands_of(list: &InnerList) -> Demands
     ensures { result ≡ demands_of list.now }
 {
-    let items = list.items.as_slice();
-    Demands {
-        target: covers_target(items),
-        digest: is_named(b"content-digest", items),
-        authorization: is_named(b"authorization", items),
-        created: integer_in(list.params.get(b"created")),
-        expires: integer_in(list.params.get(b"expires")),
-        right_alg: is_right_alg(list.params.get(b"alg")),
-    }
+    demands_with(covering_of(&list.items), &list.params)
 }
 
-fn are_covering(message: &Message, demands: &Demands) -> bool
-    ensures { result ≡ are_covering message.now demands.now }
+fn are_covering(message: &Message, covering: &Covering) -> bool
+    ensures { result ≡ are_covering message.now covering.now }
 {
-    demands.target
-        && (!has_body(message) || demands.digest)
-        && (!has_field(message, b"authorization") || demands.authorization)
+    covering.target
+        && (!has_body(message) || covering.digest)
+        && (!has_field(message, b"authorization") || covering.authorization)
 }
 
 fn is_at_most_from(now: u64, created: i64) -> bool
@@ -111,7 +132,10 @@ fn is_not_past(now: u64, expires: Option<i64>) -> bool
 pub(crate) fn admit(message: &Message, now: u64, demands: &Demands) -> Result<(), SigFault>
     ensures { result ≡ admitted_by message.now now demands.now }
 {
-    must(SigFault::Uncovered, are_covering(message, demands))?;
+    must(
+        SigFault::Uncovered,
+        are_covering(message, &demands.covering),
+    )?;
     must(SigFault::Created, is_near(now, demands.created))?;
     must(SigFault::Expired, is_not_past(now, demands.expires))?;
     must(SigFault::Alg, demands.right_alg)

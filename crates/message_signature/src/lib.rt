@@ -15,11 +15,11 @@ mod base_template;
 mod components;
 mod demands;
 mod fault;
+mod list_shape;
 mod lone;
 mod marks;
 mod reading;
 mod signing;
-mod tagged_list;
 mod tags;
 mod verifying;
 

@@ -1,39 +1,35 @@
 //! The signature with a tag that one list alone has, read by itself: the other members of the two fields are skipped, and the covered components behind the
-//! first one that has parameters are read and not kept. The list of a text that was read before isn't read again.
-ghost use Rattle.std.specs.Prelude.{◌≡◌, ℕ, List, Some, codes, IfOk, IfErr, IfSome};
+//! first one that has parameters are read and not kept. The list of the message before is kept: of one that has
+//! its shape the parameters alone are read, and of the same text nothing.
+ghost use Rattle.std.specs.Prelude.{◌≡◌, ℕ, List, Some, true, codes, IfOk, IfErr, IfSome};
 ghost use Rattle.std.specs.Option.{ForSome, option_map};
 ghost use Rattle.structured_fields.specs.declared.item.Member.{Member as MemberValue};
+ghost use Rattle.structured_fields.specs.Named.{value_at};
 ghost use Rattle.structured_fields.specs.Reading.{dictionary_of};
+ghost use Rattle.structured_fields.specs.Strings.{holds_string};
 ghost use Rattle.dictionary_lookup.specs.Skipping.{Tells};
-ghost use Rattle.message_signature.specs.declared.fault.SigFault.TheVariants.{NotAField, OutOfMemory};
+ghost use Rattle.message_signature.specs.declared.fault.SigFault.TheVariants.{NotAField};
 ghost use Rattle.message_signature.specs.Faults.{Fails, Gives, need};
 ghost use Rattle.message_signature.specs.Lone.{IsLone, list_in, bytes_in, formed, lone_seen, read_tagged};
-ghost use Rattle.message_signature.specs.KnownParts.{IsKnownOf};
-ghost use Rattle.message_signature.specs.TaggedLists.{IsTagged};
+ghost use Rattle.message_signature.specs.ListShapes.{IsKnownOf};
 ghost use Rattle.message_signature.specs.Verified.{signature_under, tagged};
 
 use crate::fault::SigFault;
-use crate::tagged_list::{KnownParts, TaggedList};
+use crate::list_shape::{KnownParts, ShapedList, shaped_list};
 use crate::tags::{is_well_formed, must, value_of};
 use bytes_and_lists::bytes::Bytes;
 use bytes_and_lists::message::Message;
-use dictionary_lookup::{Matched, MatchedList, matching_list, single_under};
+use dictionary_lookup::{Matched, MatchedList, holds_string, matching_list, single_under};
 use std::alloc::Global;
 use structured_fields::{Bare, FieldFault, InnerList};
-
-// A list of more components isn't kept: its names are compared with one another.
-const MOST_COMPONENTS: usize = 16;
-
-// Nor is one of a longer text, in bytes: a connection holds what is kept.
-const LONGEST_INPUT: usize = 1_024;
 
 /// A list that was read by itself.
 #[derive(Drop)]
 pub(crate) enum LoneList {
-    /// One that may come again.
-    Known(Box<TaggedList>),
-    /// One that isn't kept.
-    New(InnerList),
+    /// One in canonical text, which is kept for the next message.
+    Shaped(ShapedList),
+    /// One in another text, up to the first covered component that has parameters.
+    Cut(InnerList),
 }
 
 impl LoneList {
@@ -41,18 +37,18 @@ impl LoneList {
         ensures { result.now ≡ list_in self.now }
     {
         match self {
-            LoneList::Known(tagged) => &tagged.as_ref().list,
-            LoneList::New(list) => list,
+            LoneList::Shaped(one) => &one.list,
+            LoneList::Cut(list) => list,
         }
     }
 
     /// What is known of the list.
-    pub fn known(&self) -> Option<&KnownParts>
-        ensures { ForSome result (λ known. IsKnownOf (list_in self.now) known.now) }
+    pub fn known(&self) -> Option<KnownParts<'_>>
+        ensures { ForSome result (λ known. IsKnownOf (list_in self.now) known.template.now known.shown.now known.covering) }
     {
         match self {
-            LoneList::Known(tagged) => Some(&tagged.as_ref().known),
-            LoneList::New(_) => None,
+            LoneList::Shaped(one) => Some(one.known()),
+            LoneList::Cut(_) => None,
         }
     }
 }
@@ -104,48 +100,24 @@ fn formed(held: LoneList, bytes: Option<Bytes>) -> Result<LoneSignature, SigFaul
     }
 }
 
-// The signature of this list.
-fn signature_of(
+// The signature of a list with the tag that is in canonical text.
+fn shaped_signature(
     alloc: Global,
-    tagged: Box<TaggedList>,
+    one: ShapedList,
     signature: &[u8],
+    tag: &[u8],
 ) -> Result<LoneSignature, SigFault>
-    ensures ok { IfOk result (IsLone (read_tagged tagged.value.input signature.now tagged.value.tag)) }
-    ensures err { IfErr result (λ e. Fails e (read_tagged tagged.value.input signature.now tagged.value.tag)) }
+    requires { holds_string tag.now (value_at one.list.params (codes "tag")) ≡ true }
+    ensures ok { IfOk result (IsLone (read_tagged one.text signature.now tag.now)) }
+    ensures err { IfErr result (λ e. Fails e (read_tagged one.text signature.now tag.now)) }
 {
-    let bytes = bytes_under(alloc, signature, tagged.as_ref().label.as_slice())?;
-    let lone = formed(LoneList::Known(tagged), bytes)?;
+    let bytes = bytes_under(alloc, signature, one.label())?;
+    let lone = formed(LoneList::Shaped(one), bytes)?;
     Ok(lone)
 }
 
-// Whether a list that was read of this text is kept: one with a nonce comes once.
-fn is_to_keep(input: &[u8], list: &InnerList) -> bool {
-    input.len() <= LONGEST_INPUT
-        && list.items.len() <= MOST_COMPONENTS
-        && list.params.get(b"nonce").is_none()
-}
-
-// The list as it is held.
-fn held_list(
-    alloc: Global,
-    input: &[u8],
-    tag: &[u8],
-    label: &[u8],
-    list: InnerList,
-) -> Result<LoneList, SigFault>
-    requires { IsTagged input.now tag.now label.now list }
-    ensures ok { IfOk result (λ held. list_in held ≡ list) }
-    ensures err { IfErr result (λ e. e ≡ OutOfMemory) }
-{
-    if !is_to_keep(input, &list) {
-        return Ok(LoneList::New(list));
-    }
-    let tagged = TaggedList::of(alloc, input, tag, label, list)?;
-    Ok(LoneList::Known(tagged))
-}
-
-// The same of a text that is read.
-fn lone_found(
+// The same of a list in any text.
+fn found_by_members(
     alloc: Global,
     input: &[u8],
     signature: &[u8],
@@ -168,8 +140,7 @@ fn lone_found(
             }
             Some(list) => {
                 let bytes = bytes_under(alloc, signature, key)?;
-                let held = held_list(alloc, input, tag, key, list)?;
-                let lone = formed(held, bytes)?;
+                let lone = formed(LoneList::Cut(list), bytes)?;
                 Ok(Some(lone))
             }
         },
@@ -178,7 +149,7 @@ fn lone_found(
 
 fn lone_in(
     alloc: Global,
-    known: Option<Box<TaggedList>>,
+    known: Option<ShapedList>,
     input: &[u8],
     signature: &[u8],
     tag: &[u8],
@@ -186,22 +157,22 @@ fn lone_in(
     ensures ok { IfOk result (λ o. IfSome o (IsLone (read_tagged input.now signature.now tag.now))) }
     ensures err { IfErr result (λ e. Fails e (read_tagged input.now signature.now tag.now)) }
 {
-    if let Some(tagged) = known {
-        if tagged.as_ref().is_of(input, tag) {
-            let lone = signature_of(alloc, tagged, signature)?;
+    if let Some(one) = shaped_list(alloc, known, input) {
+        if holds_string(tag, one.list.params.get(b"tag")) {
+            let lone = shaped_signature(alloc, one, signature, tag)?;
             return Ok(Some(lone));
         }
     }
-    lone_found(alloc, input, signature, tag)
+    found_by_members(alloc, input, signature, tag)
 }
 
-/// What is held of the one signature with the tag, where the members of the two fields settle it without a dictionary; else None. Where `known` is the list of
-/// the same text it isn't read again.
+/// What is held of the one signature with the tag, where the members of the two fields settle it without a dictionary; else None. Of a list that has the shape
+/// of the known one the parameters alone are read, and of the same text nothing.
 ///
 /// Errors: those of `signature_fields` and `tagged`. OutOfMemory may come in place of any answer.
 pub(crate) fn lone_signature(
     alloc: Global,
-    known: Option<Box<TaggedList>>,
+    known: Option<ShapedList>,
     message: &Message,
     tag: &[u8],
 ) -> Result<Option<LoneSignature>, SigFault>

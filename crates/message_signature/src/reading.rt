@@ -2,13 +2,13 @@
 ghost use Rattle.std.specs.Prelude.{◌≡◌, ℕ, List, Ok, IfOk, IfErr};
 ghost use Rattle.std.specs.Option.{ForSome};
 ghost use Rattle.message_signature.specs.Faults.{Fails};
-ghost use Rattle.message_signature.specs.KnownParts.{IsKnownOf};
+ghost use Rattle.message_signature.specs.ListShapes.{IsKnownOf};
 ghost use Rattle.message_signature.specs.Lone.{IsRead, tagged_read};
 ghost use Rattle.message_signature.specs.Verified.{tagged};
 
 use crate::fault::SigFault;
+use crate::list_shape::{KnownParts, ShapedList};
 use crate::lone::{LoneList, LoneSignature, lone_signature};
-use crate::tagged_list::{KnownParts, TaggedList};
 use crate::tags::{SignatureFields, signature_fields, tagged};
 use bytes_and_lists::bytes::Bytes;
 use bytes_and_lists::message::Message;
@@ -24,23 +24,23 @@ pub(crate) enum ReadSignature {
     Among(SignatureFields),
 }
 
-/// The list that is known for the next message.
-pub(crate) fn known_list(read: ReadSignature) -> Option<Box<TaggedList>> {
+/// The list that is kept for the next message.
+pub(crate) fn kept_list(read: ReadSignature) -> Option<ShapedList> {
     let ReadSignature::Alone(LoneSignature { held, bytes: _ }) = read else {
         return None;
     };
     match held {
-        LoneList::Known(tagged) => Some(tagged),
-        LoneList::New(_) => None,
+        LoneList::Shaped(one) => Some(one),
+        LoneList::Cut(_) => None,
     }
 }
 
-/// What is read of the two fields of a message to find the signature with the tag. The list that is known is that of an earlier message.
+/// What is read of the two fields of a message to find the signature with the tag. The list that is known is that of an earlier one.
 ///
 /// Errors: those of `signature_fields`, and those of `tagged` where that signature is read by itself. OutOfMemory may come in place of any answer.
 pub(crate) fn read_signature(
     alloc: Global,
-    known: Option<Box<TaggedList>>,
+    known: Option<ShapedList>,
     message: &Message,
     tag: &[u8],
 ) -> Result<ReadSignature, SigFault>
@@ -60,9 +60,9 @@ pub(crate) struct FoundSignature<'a> {
     /// The covered components, with the parameters.
     pub list: &'a InnerList,
     /// What is known of the list.
-    pub known: Option<&'a KnownParts>,
+    pub known: Option<KnownParts<'a>>,
     pub bytes: &'a Bytes,
-    ghost known_of: { ForSome known (λ known. IsKnownOf list.now known.now) },
+    ghost known_of: { ForSome known (λ known. IsKnownOf list.now known.template.now known.shown.now known.covering) },
 }
 
 /// The signature with the tag.

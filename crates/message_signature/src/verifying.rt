@@ -13,13 +13,13 @@ ghost use Rattle.message_signature.specs.Marked.{judged_with_mark, verified_mark
 ghost use Rattle.message_signature.specs.Verified.{key_in, has_right_digest, made_under, judged_over, judged, verified};
 
 use crate::base::base_of;
-use crate::base_template::base_by_template;
+use crate::base_template::filled;
 use crate::components::{field_value, has_body};
-use crate::demands::{admit, demands_of};
+use crate::demands::{admit, demands_of, demands_with};
 use crate::fault::{BaseFault, SigFault};
+use crate::list_shape::ShapedList;
 use crate::marks::{SignatureMark, mark_in};
-use crate::reading::{FoundSignature, ReadSignature, found_signature, known_list, read_signature};
-use crate::tagged_list::TaggedList;
+use crate::reading::{FoundSignature, ReadSignature, found_signature, kept_list, read_signature};
 use bytes_and_lists::bytes::Bytes;
 use bytes_and_lists::memory::{Duplicate, Mem};
 use bytes_and_lists::message::Message;
@@ -39,7 +39,7 @@ fn signature_base(
     ensures { GivesBase (λ b. b) result (signature_base message.now base.now one.now.list.now) }
 {
     match one.known {
-        Some(known) => base_by_template(alloc, message, base, &known.template),
+        Some(known) => filled(alloc, message, base, known.template, known.shown),
         None => base_of(alloc, message, base, one.list),
     }
 }
@@ -158,7 +158,7 @@ fn judged_found(
 {
     let text = base_under(alloc, message, base, one)?;
     let demands = match one.known {
-        Some(known) => known.demands,
+        Some(known) => demands_with(known.covering, &one.list.params),
         None => demands_of(one.list),
     };
     admit(message, now, &demands)?;
@@ -228,11 +228,12 @@ fn id_and_mark(
     Ok((id, mark_in(one.list)?))
 }
 
-/// Verifies the signatures of messages, one after another (RFC 9421, section 1.1). It holds the list of the signature that it read last: where the next message
-/// has the same `Signature-Input`, as those of one signer in one second without nonces have, the field isn't read again. No answer depends on it.
+/// Verifies the signatures of messages, one after another (RFC 9421, section 1.1). It holds the list of the signature that it read last, where its text is
+/// canonical, with a template of signature bases: of the next list with the same label and the same covered components, as those of one signer mostly are, the
+/// parameters alone are read, and of the same text nothing. No answer depends on it.
 #[derive(Drop)]
 pub struct Verifier {
-    known: Option<Box<TaggedList>>,
+    known: Option<ShapedList>,
 }
 
 impl Verifier {
@@ -260,7 +261,7 @@ impl Verifier {
     {
         let read = read_signature(alloc, self.known.take(), message, tag.as_slice())?;
         let id = judged_read(alloc, message, base, ring, now, &read, tag);
-        self.known = known_list(read);
+        self.known = kept_list(read);
         id
     }
 
@@ -280,7 +281,7 @@ impl Verifier {
     {
         let read = read_signature(alloc, self.known.take(), message, tag.as_slice())?;
         let both = id_and_mark(alloc, message, base, ring, now, &read, tag);
-        self.known = known_list(read);
+        self.known = kept_list(read);
         both
     }
 }

@@ -1,7 +1,7 @@
 use Rattle.std.specs.Prelude.{[]}
 use Rattle.std.proofs.lemmas.Result.{err_from_is_err_and}
 use Rattle.message_signature.proofs.LoneSteps.{input_fails, signature_fails, untagged, malformed_once, once_lone, once_refused}
-use Rattle.message_signature.proofs.lone.lone_found.Goals as goal
+use Rattle.message_signature.proofs.lone.found_by_members.Goals as goal
 
 pub returns-in_err-found-clause-err : goal.returns-in_err-found-clause-err
 returns-in_err-found-clause-err c = let p = err_from_is_err_and c.from_residual.result c.from_residual.ensures.1 in rw (p.1, p.2)
@@ -40,7 +40,7 @@ returns-in_err-lone-in-Some-clause-err c =
     let p = err_from_is_err_and c.from_residual-in_err-lone-in-Some.result c.from_residual-in_err-lone-in-Some.ensures.1 in rw (p.1, p.2)
     (once_refused c.args.input.now c.args.signature.now c.args.tag.now read.0 read.1 key read.2.0 c.in-Some.list c.in_ok-bytes-in-Some.bytes
     c.in_ok-bytes-in-Some.ensures read.2.1 (rw c.in-Some.is at read.2.2) c.in_err-lone-in-Some.field-0.0
-    (rw c.in_ok-held-in-Some.ensures.ok at (c.in_err-lone-in-Some.ensures key)))
+    (c.in_err-lone-in-Some.ensures key))
 
 pub returns-in_ok-lone-in-Some-clause-ok : goal.returns-in_ok-lone-in-Some-clause-ok
 returns-in_ok-lone-in-Some-clause-ok c =
@@ -48,4 +48,4 @@ returns-in_ok-lone-in-Some-clause-ok c =
     let key = c.in-Once.field-0.key.now in
     once_lone c.args.input.now c.args.signature.now c.args.tag.now read.0 read.1 key read.2.0 c.in-Some.list c.in_ok-bytes-in-Some.bytes
     c.in_ok-bytes-in-Some.ensures read.2.1 (rw c.in-Some.is at read.2.2) c.in_ok-lone-in-Some.lone
-    (rw c.in_ok-held-in-Some.ensures.ok at (c.in_ok-lone-in-Some.ensures key))
+    (c.in_ok-lone-in-Some.ensures key)
