@@ -2,3 +2,4 @@ pub mod Steps
 pub mod Judging
 pub mod DigestBytes
 pub mod Ends
+pub mod DigestLine

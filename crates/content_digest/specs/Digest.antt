@@ -11,9 +11,13 @@ use Rattle.structured_fields.specs.declared.bare.Bare.TheVariants.{Integer, Deci
 use Rattle.structured_fields.specs.declared.item.Member.{Member}
 use Rattle.structured_fields.specs.declared.item.Member.TheVariants.{Item as Single, Inner}
 
+-- the field of a SHA-256 digest
+abbrev pub text_of_digest : List ℕ → List ℕ
+text_of_digest digest = codes "sha-256=:" ++ encode_of standard digest ++ codes ":"
+
 -- the field of a body, with its SHA-256 digest
 abbrev pub digest_text : List ℕ → List ℕ
-digest_text body = codes "sha-256=:" ++ encode_of standard (sha256 body) ++ codes ":"
+digest_text body = text_of_digest (sha256 body)
 
 -- the algorithms that are known, of those that RFC 9530, section 5, names
 abbrev pub is_known : List ℕ → Bool

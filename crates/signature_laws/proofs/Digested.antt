@@ -8,7 +8,7 @@ use Rattle.structured_fields.specs.declared.bare.Bare.{Bare}
 use Rattle.structured_fields.proofs.Fronts.{some_is}
 use Rattle.content_digest.specs.Digest.{digest_text}
 use Rattle.content_digest.specs.Judged.{Fits}
-use Rattle.field_laws.proofs.DigestLine.{line_fits}
+use Rattle.content_digest.proofs.DigestLine.{line_fits}
 use Rattle.hmac_key.specs.Hmac.{hmac_sha256}
 use Rattle.message_signature.specs.Components.{component, field_value}
 use Rattle.message_signature.specs.Base.{base_lines, signature_base}

@@ -1,5 +1,5 @@
 use Rattle.content_digest.proofs.Judging.{checked_says, says_checked}
-use Rattle.field_laws.proofs.DigestLine.{line_fits}
+use Rattle.content_digest.proofs.DigestLine.{line_fits}
 use Rattle.field_laws.proofs.digests.digest_laws.Goals as goal
 
 pub returns-clause-answered : goal.returns-clause-answered

@@ -1,5 +1,5 @@
 -- The field that is written fits its body.
-use Rattle.std.proofs.Common.{◌≡◌, ℕ, List, [], ◌∷◌, ◌++◌, refl, sym, ap, ◌∙◌, subst}
+use Rattle.std.proofs.Common.{◌≡◌, ℕ, List, [], ◌∷◌, ◌++◌, Ok, refl, sym, ap, ◌∙◌, subst}
 use Rattle.std.specs.Prelude.{codes}
 use Rattle.std.proofs.lemmas.List.{append-nil}
 use Rattle.base64.specs.GeneralPurpose.{encode_of}
@@ -12,8 +12,9 @@ use Rattle.structured_fields.specs.Grammar.{IsDictionaryText}
 use Rattle.structured_fields.specs.Canonical.{dictionary_text}
 use Rattle.structured_fields.proofs.Written.{dictionary_text_is}
 use Rattle.content_digest.specs.Digest.{digest_text}
-use Rattle.content_digest.specs.Judged.{Fits}
+use Rattle.content_digest.specs.Judged.{Fits, checked}
 use Rattle.content_digest.proofs.DigestBytes.{sha_bytes}
+use Rattle.content_digest.proofs.Judging.{fits_checked}
 
 abbrev entry : List ℕ → List ℕ × Member
 entry body = (codes "sha-256", Single (record { bare = Binary (sha256 body); params = [] }))
@@ -33,3 +34,7 @@ line_fits body = record {
   all = (refl, tt);
   some = refl;
 }
+
+-- so it passes
+pub line_checked : (field body : List ℕ) → field ≡ digest_text body → checked field body ≡ Ok tt
+line_checked field body e = ap (λ (t : List ℕ). checked t body) e ∙ fits_checked (digest_text body) body (line_fits body)
